@@ -1,0 +1,47 @@
+-- A list gone through from the left, and that it may be cut anywhere.
+use mathlib.Core.Path.{_≡_, refl, ap, _∙_}
+use mathlib.Core.List.{List, [], _∷_, _++_}
+use Prim.Native.Nat.{ℕ, zero, suc, _≤_, _<_}
+use native.Mathlib.Omega.{arith}
+use lib.ListN.{length, take, getD}
+use lib.Seq.{take-suc, take-length}
+
+module _ {S A : Type 0} (step : S → A → S) where
+  unfoldable pub fold : S → List A → S
+  fold s [] = s
+  fold s (x ∷ xs) = fold (step s x) xs
+
+  -- stepping through a list cut in two is stepping through the whole
+  pub fold-cut : (s : S) (l m : List A) → fold s (l ++ m) ≡ fold (fold s l) m
+  unfolding fold
+  fold-cut s [] m = refl
+  fold-cut s (x ∷ l) m = fold-cut (step s x) l m
+
+  -- and so is stepping through it cut into any pieces, one after the other
+  unfoldable pub joined : List (List A) → List A
+  joined [] = []
+  joined (c ∷ cs) = c ++ joined cs
+
+  unfoldable pub fold-pieces : S → List (List A) → S
+  unfolding fold
+  fold-pieces s [] = s
+  fold-pieces s (c ∷ cs) = fold-pieces (fold s c) cs
+
+  pub fold-joined : (s : S) (cs : List (List A)) → fold-pieces s cs ≡ fold s (joined cs)
+  unfolding joined fold-pieces
+  fold-joined s [] = refl
+  fold-joined s (c ∷ cs) = fold-joined (fold s c) cs ∙ rw (fold-cut s c (joined cs))
+
+  -- one more of a list's first elements
+  fold-take : (s : S) (l : List A) (d : A) (i : ℕ) → i < length l → fold s (take (suc i) l) ≡ step (fold s (take i l)) (getD l i d)
+  unfolding fold
+  fold-take s l d i h = rw (take-suc l i d) (fold-cut s (take i l) (getD l i d ∷ []))
+
+  -- Z i is the state after i elements of l, if it is so at 0 and each step goes from one to the next: so at the end
+  pub fold-states : (l : List A) (d : A) (Z : ℕ → S) → ((i : ℕ) → i < length l → step (Z i) (getD l i d) ≡ Z (suc i)) → fold (Z 0) l ≡ Z (length l)
+  unfolding fold
+  fold-states l d Z up = rw (take-length l) at (go (length l) (omega arith))
+    where
+      go : (i : ℕ) → i ≤ length l → fold (Z 0) (take i l) ≡ Z i
+      go zero h = refl
+      go (suc i) h = fold-take (Z 0) l d i h ∙ rw (go i (omega arith)) (up i h)

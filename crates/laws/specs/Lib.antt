@@ -1,0 +1,6 @@
+pub mod Choose
+pub mod Most
+pub mod Count
+pub mod Seek
+pub mod Fold
+pub mod Differ
