@@ -1,0 +1,53 @@
+-- Reads before a time, counted one by one, are the closed form: read j is before x exactly when j·num is below the reach (x − base)·den.
+use Prim.Native.Nat.{ℕ, suc, _+_, _*_, _-_, _/_, _≤_, _<_, min}
+use mathlib.Core.Path.{_≡_, sym, ap, _∙_}
+use native.Mathlib.Omega.{arith}
+use native.Mathlib.Nat.{le-div-iff-mul-le, mul-le-mul-right, add-sub-of-le, add-mul, suc-mul, zero-mul, sub-eq-zero-of-le, div-mul-le-self, le-trans}
+use native.Mathlib.Decide.{decLe}
+use borrow.Author.Tests.{ltb-true, lt-ltb}
+use Rattle.laws.specs.Count.{count, UpTo, count-up-to}
+use Rattle.grain.specs.Paper.{readBefore, readsBefore}
+
+module _ (n base num den : ℕ) (p : 0 < num) (x : ℕ) where
+  reach : ℕ
+  reach = (x - base) * den
+
+  from-base : base ≤ x → x * den ≡ base * den + (x - base) * den
+  from-base l = ap (λ (z : ℕ). z * den) (sym (add-sub-of-le l)) ∙ add-mul base (x - base) den
+
+  no-reach : x ≤ base → (x - base) * den ≡ 0
+  no-reach l = ap (λ (z : ℕ). z * den) (sub-eq-zero-of-le {n = x} {m = base} l) ∙ zero-mul den
+
+  -- the closed form: the whole spacings in the reach, a begun one counted
+  abbrev pub closed : ℕ
+  closed = ((x - base) * den + (num - 1)) / num
+
+  before-below : (j : ℕ) → base * den + j * num < x * den → j < closed
+  before-below j h = le-div-iff-mul-le p .1 (go (decLe base x))
+    where
+      go : Dec (base ≤ x) → suc j * num ≤ (x - base) * den + (num - 1)
+      go (yes l) = omega (arith, from-base l, suc-mul j num)
+      go (no g) = let l : x ≤ base = omega arith in absurd (omega (arith, mul-le-mul-right den l))
+
+  below-before : (j : ℕ) → j < closed → base * den + j * num < x * den
+  below-before j h = go (decLe base x) (le-div-iff-mul-le p .0 h)
+    where
+      go : Dec (base ≤ x) → suc j * num ≤ (x - base) * den + (num - 1) → base * den + j * num < x * den
+      go (yes l) q = omega (arith, from-base l, suc-mul j num)
+      go (no g) q = absurd (omega (arith, no-reach (omega arith), suc-mul j num))
+
+  pub reads-closed : readsBefore n base num den x ≡ min n closed
+  reads-closed = count-up-to (readBefore base num den x) n closed (record {
+    inside = λ j h q. before-below j (ltb-true (base * den + j * num) (x * den) q);
+    passes = λ j h q. lt-ltb (base * den + j * num) (x * den) (below-before j q);
+  })
+
+  -- none where the time is not after the first read
+  pub reads-none : x ≤ base → readsBefore n base num den x ≡ 0
+  reads-none l =
+      let z : ¬ (0 < closed) = λ q. omega (arith, below-before 0 q, mul-le-mul-right den l) in
+      omega (arith, reads-closed)
+
+  -- what is known to be before leaves no less than its own spacings in the reach
+  pub known-reach : (known : ℕ) → known ≤ readsBefore n base num den x → known * num ≤ (x - base) * den + (num - 1)
+  known-reach known h = le-div-iff-mul-le p .0 (omega (arith, reads-closed))

@@ -1,0 +1,62 @@
+-- N = round(g/F), halves up, is the one N that is nearest; FPT lies in [−F/2, F/2); and N is told by the rest of g divided by F. For any F.
+use Prim.Native.Nat.{ℕ, _+_, _*_, _-_, _/_, _%_, _≤_, _<_}
+use mathlib.Core.Path.{_≡_, ap, _∙_}
+use native.Mathlib.Omega.{arith}
+use native.Mathlib.Nat.{div-add-mod', mod-lt, div-mul-le-self, lt-div-mul-add, mul-le-mul-right, suc-mul, add-mul}
+use lib.IntN.{ℤ, pos, negℤ, subℕ, _+ℤ_}
+use lib.Signed.{_≤ℤ_, _<ℤ_}
+use Rattle.laws.specs.Differ.{Differ, differ-sub, differ-le, differ-lt, differ-neg, sub-same}
+use Rattle.grain.specs.Paper.{Nearest, nearest, frameTime, firstPacketTime}
+
+pub nearest-is : (g F : ℕ) → 0 < F → Nearest g F (nearest g F)
+unfolding nearest
+nearest-is g F p = record {
+  low = omega (arith, div-mul-le-self (2 * g + F) (2 * F));
+  high = omega (arith, lt-div-mul-add {a = 2 * g + F} {b = 2 * F} (omega arith));
+}
+
+pub nearest-unique : (g F N M : ℕ) → Nearest g F N → Nearest g F M → N ≡ M
+nearest-unique g F N M p q =
+    let not-less : ¬ (N < M) = λ h. omega (arith, mul-le-mul-right F h, suc-mul N F) in
+    let not-more : ¬ (M < N) = λ h. omega (arith, mul-le-mul-right F h, suc-mul M F) in
+    omega arith
+
+-- "FPT is at least minus half a frame and below plus half": twice FPT is at least −F and below F
+module _ (g F : ℕ) (p : 0 < F) where
+  pub at-least : negℤ (pos F) ≤ℤ subℕ (2 * g) (2 * frameTime g F)
+  at-least =
+      differ-le (negℤ (pos F)) (subℕ (2 * g) (2 * frameTime g F)) 0 F (2 * g) (2 * frameTime g F) (differ-neg F)
+      (differ-sub (2 * g) (2 * frameTime g F)) (omega (arith, nearest-is g F p .low))
+
+  pub below : subℕ (2 * g) (2 * frameTime g F) <ℤ pos F
+  below =
+      differ-lt (subℕ (2 * g) (2 * frameTime g F)) (pos F) (2 * g) (2 * frameTime g F) F 0 (differ-sub (2 * g) (2 * frameTime g F))
+      (omega arith) (omega (arith, nearest-is g F p .high))
+
+-- what the code does: the rest of g by F against what is left of the frame
+module _ (g F : ℕ) (p : 0 < F) where
+  pub goes-down : g % F < F - g % F → nearest g F ≡ g / F
+  goes-down l =
+      nearest-unique g F (nearest g F) (g / F) (nearest-is g F p)
+      (record { low = omega (arith, div-add-mod' g F); high = omega (arith, div-add-mod' g F) })
+
+  pub goes-up : F - g % F ≤ g % F → nearest g F ≡ g / F + 1
+  goes-up l =
+      let next : (g / F + 1) * F ≡ g / F * F + F = add-mul (g / F) 1 F ∙ ap (λ (n : ℕ). g / F * F + n) (omega arith) in
+      nearest-unique g F (nearest g F) (g / F + 1) (nearest-is g F p)
+      (record { low = omega (arith, div-add-mod' g F); high = omega (arith, div-add-mod' g F, mod-lt g p) })
+
+  pub time-down : g % F < F - g % F → subℕ (g % F) 0 ≡ firstPacketTime g F
+  time-down l = sub-same (g % F) 0 g (frameTime g F) (omega (arith, ap (λ (n : ℕ). n * F) (goes-down l), div-add-mod' g F))
+
+  pub time-up : F - g % F ≤ g % F → subℕ (g % F) F ≡ firstPacketTime g F
+  time-up l =
+      let next : (g / F + 1) * F ≡ g / F * F + F = add-mul (g / F) 1 F ∙ ap (λ (n : ℕ). g / F * F + n) (omega arith) in
+      sub-same (g % F) F g (frameTime g F) (omega (arith, ap (λ (n : ℕ). n * F) (goes-up l), div-add-mod' g F))
+
+-- rounded up, N is still no more than t where F is at least 27
+pub up-small : (t F : ℕ) → 27 ≤ F → F - 27 * t % F ≤ 27 * t % F → 27 * t / F + 1 ≤ t
+up-small t F h l =
+    let more : ¬ (t ≤ 27 * t / F) = λ q.
+    omega (arith, mul-le-mul-right F q, mul-le-mul-right t h, div-add-mod' (27 * t) F, mod-lt (27 * t) {m = F} (omega arith)) in
+    omega arith

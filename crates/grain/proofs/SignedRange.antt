@@ -1,0 +1,31 @@
+-- Signed 64-bit numbers that hold a difference of naturals: that it fits, and that it is read back as it was.
+use Prim.Native.Nat.{ℕ, zero, suc, _+_, _-_, _^_, _≤_, _<_}
+use mathlib.Core.Path.{_≡_, refl, sym, ap, _∙_}
+use native.Mathlib.Omega.{arith}
+use native.Mathlib.Nat.{zero-add}
+use borrow.Author.Tests.{lt-ltb, le-ltb}
+use lib.IntN.{ℤ, pos, negsuc, subℕ, _-ℤ_}
+use mir.Syntax.{w64}
+use mir.Val.{SFits, toZ, ofZ}
+use mir.Facts.{toZ-pos, toZ-ofZ}
+
+pub below-zero : (a b : ℕ) → a < b → subℕ a b ≡ negsuc (b - suc a)
+below-zero a b h = simp (lt-ltb a b h)
+
+pub not-below : (a b : ℕ) → b ≤ a → subℕ a b ≡ pos (a - b)
+not-below a b h = simp (le-ltb a b h)
+
+-- −1 less d
+module _ (d : ℕ) (h : d < 2 ^ 63) where
+  minus-one-less : negsuc 0 -ℤ toZ w64 d ≡ negsuc d
+  minus-one-less = ap (λ (y : ℤ). negsuc 0 -ℤ y) (toZ-pos w64 h) ∙ go d
+    where
+      go : (d : ℕ) → negsuc 0 -ℤ pos d ≡ negsuc d
+      go zero = refl
+      go (suc d) = ap (λ (n : ℕ). negsuc (suc n)) (zero-add d)
+
+  pub negative-fits : SFits w64 (negsuc 0 -ℤ toZ w64 d)
+  negative-fits = rw minus-one-less (record { sfits = h })
+
+  pub negative-is : toZ w64 (ofZ w64 (negsuc 0 -ℤ toZ w64 d)) ≡ negsuc d
+  negative-is = ap (λ (z : ℤ). toZ w64 (ofZ w64 z)) minus-one-less ∙ toZ-ofZ {w = w64} {z = negsuc d} (record { sfits = h })

@@ -1,0 +1,61 @@
+-- Document 01's sentences about times, each definition under the sentence that it renders. Times are naturals, differences are integers.
+use mathlib.Core.Bool.{Bool}
+use Prim.Native.Nat.{ℕ, _+_, _*_, _/_, _≤_, _<_}
+use lib.Dec.{ltb}
+use lib.IntN.{ℤ, subℕ}
+use Rattle.laws.specs.Count.{count}
+
+-- "27 grains are one nanosecond."
+abbrev pub grains : ℕ → ℕ
+grains t = 27 * t
+
+-- "N = round(27t/F), halves up": N·F is at most half of F after g, and g is less than half of F after N·F. One N is so: proofs/Nearest.antt.
+pub record Nearest (g F N : ℕ) : Type 0 where
+  pub low : 2 * (N * F) ≤ 2 * g + F
+  pub high : 2 * g < 2 * (N * F) + F
+
+unfoldable pub nearest : ℕ → ℕ → ℕ
+nearest g F = (2 * g + F) / (2 * F)
+
+-- "T_CF = N·F."
+abbrev pub frameTime : ℕ → ℕ → ℕ
+frameTime g F = nearest g F * F
+
+-- "FPT = 27t − T_CF"
+abbrev pub firstPacketTime : ℕ → ℕ → ℤ
+firstPacketTime g F = subℕ g (frameTime g F)
+
+-- "An RTP tick at 90 kHz is 300,000 grains." "P = 1,288,490,188,800,000 grains (2^32 ticks)"
+abbrev pub tick : ℕ
+tick = 300000
+
+abbrev pub wrap : ℕ
+wrap = 1288490188800000
+
+-- "Encoded time, formulas (1) and (2): the arrival's wrap count times P plus 300,000 times the timestamp, with [..] wrap count INT(27t/P)."
+unfoldable pub encoded : ℕ → ℕ → ℕ
+encoded g stamp = g / wrap * wrap + tick * stamp
+
+-- "RTP_OFFSET = encoded − T_CF."
+abbrev pub rtpOffset : ℕ → ℕ → ℕ → ℤ
+rtpOffset g stamp F = subℕ (encoded g stamp) (frameTime g F)
+
+-- "Latency VL = 27t − encoded."
+abbrev pub latency : ℕ → ℕ → ℤ
+latency g stamp = subℕ g (encoded g stamp)
+
+-- Instants lie k·num/den after a start, k = 1, 2, and so on: instant k is at most e. No fraction is made: both sides times den.
+abbrev pub InstantBy : ℕ → ℕ → ℕ → ℕ → Type 0
+InstantBy num den k e = k * num ≤ e * den
+
+-- how many are: k is at most this exactly when instant k is at most e (proofs/Instants.antt)
+abbrev pub instants : ℕ → ℕ → ℕ → ℕ
+instants e num den = e * den / num
+
+-- Read j lies at base + j·num/den: it is strictly before x.
+abbrev pub readBefore : ℕ → ℕ → ℕ → ℕ → ℕ → Bool
+readBefore base num den x j = ltb (base * den + j * num) (x * den)
+
+-- the reads 0 .. n − 1 strictly before x, counted one by one
+abbrev pub readsBefore : ℕ → ℕ → ℕ → ℕ → ℕ → ℕ
+readsBefore n base num den x = count (readBefore base num den x) n

@@ -1,0 +1,121 @@
+// Exact arithmetic on times, in 64 bits: a time is a whole number of grains, 27 to the nanosecond, and
+// 27·t does not fit; an instant is a fraction and is never rounded.
+// It knows `laws`. It must never know a rate code, a class or a frame's packets: the frame length, the
+// spacing and its denominator are parameters, so that each law is proved once for all of them.
+ghost use mathlib.Core.Path.{_≡_};
+ghost use Prim.Native.Nat.{_+_, _*_, _-_, _/_, _%_, _≤_, _<_};
+ghost use lib.IntN.{subℕ};
+ghost use Rattle.grain.specs.Paper.{grains, nearest, firstPacketTime, latency, instants as instantsOf, readsBefore};
+
+// The grains of 2^32 ticks: RTP timestamps go round once in this time.
+const WRAP: u64 = 1288490188800000;
+// The grains of one tick of the 90 kHz RTP clock.
+const TICK: u64 = 300000;
+
+pub struct Split {
+    pub quotient: u64,
+    pub remainder: u64,
+}
+
+// 27·t divided by m. t is divided first: 27 times the rest is below 27·m and fits.
+pub fn split27(t: u64, m: u64) -> Split
+    requires { ⌜ (27 ≤ m) × (m ≤ 576460752303423488) ⌝ }
+    ensures { λ r. ⌜ r ≡ record { quotient = grains t / m; remainder = grains t % m } ⌝ }
+{
+    let whole = t / m;
+    let part = 27 * (t % m);
+    Split {
+        quotient: 27 * whole + part / m,
+        remainder: part % m,
+    }
+}
+
+// N, the number of the frame start that lies nearest to t; of two that lie as near, the later.
+pub fn nearest_frame(t: u64, frame: u64) -> u64
+    requires { ⌜ (27 ≤ frame) × (frame ≤ 576460752303423488) ⌝ }
+    ensures { λ r. ⌜ r ≡ nearest (grains t) frame ⌝ }
+{
+    let x = split27(t, frame);
+    let past = x.remainder;
+    if past < frame - past {
+        x.quotient
+    } else {
+        x.quotient + 1
+    }
+}
+
+// FPT: 27·t less the frame start that lies nearest.
+pub fn first_packet_time(t: u64, frame: u64) -> i64
+    requires { ⌜ (27 ≤ frame) × (frame ≤ 576460752303423488) ⌝ }
+    ensures { λ r. ⌜ r ≡ firstPacketTime (grains t) frame ⌝ }
+{
+    let x = split27(t, frame);
+    let past = x.remainder;
+    let left = frame - past;
+    if past < left {
+        difference(past, 0)
+    } else {
+        difference(past, frame)
+    }
+}
+
+// VL: 27·t less the time that its timestamp encodes. Both count the same wraps, which drop out.
+pub fn video_latency(t: u64, stamp: u32) -> i64
+    ensures { λ r. ⌜ r ≡ latency (grains t) stamp ⌝ }
+{
+    let x = split27(t, WRAP);
+    let ticks = stamp as u64;
+    let past = x.remainder;
+    difference(past, TICK * ticks)
+}
+
+// a less b, with its sign.
+pub fn difference(a: u64, b: u64) -> i64
+    requires { ⌜ (a < b + 9223372036854775808) × (b ≤ a + 9223372036854775808) ⌝ }
+    ensures { λ r. ⌜ r ≡ subℕ a b ⌝ }
+{
+    if b <= a {
+        (a - b) as i64
+    } else {
+        let below = b - a - 1;
+        -1 - (below as i64)
+    }
+}
+
+// x / num, of which `known` is known to be a part. A division is the dear part, and from one packet to
+// the next the quotient mostly stays or grows by one: those are tried first.
+pub fn divide_from(known: u64, x: u64, num: u64) -> u64
+    requires { ⌜ (0 < num) × (known * num ≤ x) × (x + 2 * num < 18446744073709551616) ⌝ }
+    ensures { λ r. ⌜ r ≡ x / num ⌝ }
+{
+    let next = known * num + num;
+    if x < next {
+        return known;
+    }
+    if x < next + num {
+        return known + 1;
+    }
+    x / num
+}
+
+// How many of the instants k·num/den, k = 1, 2, .., are at most e, of which `known` are known to be.
+pub fn instants(known: u64, e: u64, num: u64, den: u64) -> u64
+    requires { ⌜ (0 < num) × (known * num ≤ e * den) × (e * den + 2 * num < 18446744073709551616) ⌝ }
+    ensures { λ r. ⌜ r ≡ instantsOf e num den ⌝ }
+{
+    divide_from(known, e * den, num)
+}
+
+// How many of the reads base + j·num/den, j = 0 .. n - 1, are strictly before x, of which `known` are
+// known to be.
+pub fn reads_before(known: u64, n: u64, base: u64, num: u64, den: u64, x: u64) -> u64
+    requires { ⌜ (0 < num) × (known ≤ readsBefore n base num den x) × ((x - base) * den + 3 * num < 18446744073709551616) ⌝ }
+    ensures { λ r. ⌜ r ≡ readsBefore n base num den x ⌝ }
+{
+    if x <= base {
+        return 0;
+    }
+    let reach = (x - base) * den;
+    let begun = divide_from(known, reach + (num - 1), num);
+    if begun < n { begun } else { n }
+}
