@@ -72,3 +72,9 @@ falls-up-to p (suc m) f = go (p m) refl (falls-up-to p m (record { down = λ i j
       inside = λ i h q. up-to (λ k. p k ≡ true → k < count p m + 0) m (λ k l r. omega (arith, ih .inside k l r)) (λ r. absurd (false-true (sym e ∙ r))) i h q;
       passes = λ i h q. ih .passes i (omega (arith, count-le p m)) (omega arith);
     }
+
+-- two tests that agree below m pass as often there
+pub count-same : (p q : ℕ → Bool) (m : ℕ) → ((i : ℕ) → i < m → p i ≡ q i) → count p m ≡ count q m
+unfolding count
+count-same p q zero h = refl
+count-same p q (suc m) h = rw (count-same p q m (λ i l. h i (omega arith)), h m (omega arith))

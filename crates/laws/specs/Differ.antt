@@ -3,7 +3,7 @@ use mathlib.Core.Path.{_≡_, refl, ap}
 use mathlib.Core.Bool.{Bool, true, false, cond}
 use Prim.Native.Nat.{ℕ, zero, suc, _+_, _-_, _≤_, _<_}
 use native.Mathlib.Omega.{arith}
-use lib.Dec.{ltb, le→leb}
+use lib.Dec.{ltb, le→leb, leb→le}
 use lib.IntN.{ℤ, pos, negsuc, negℤ, subℕ, _-ℤ_}
 use lib.Signed.{_≤ℤ_, _<ℤ_}
 use borrow.Author.Tests.{ltb-true, ltb-false}
@@ -40,6 +40,13 @@ differ-lt (pos n) (pos m) a b c d p q e = record { lt = le→leb (suc n) m (omeg
 differ-lt (pos n) (negsuc m) a b c d p q e = absurd (omega arith)
 differ-lt (negsuc n) (pos m) a b c d p q e = record { lt = tt }
 differ-lt (negsuc n) (negsuc m) a b c d p q e = record { lt = le→leb (suc m) n (omega arith) }
+
+-- and back: an order of differences is an order of cross sums
+pub lt-differ : (z w : ℤ) (a b c d : ℕ) → Differ z a b → Differ w c d → z <ℤ w → a + d < c + b
+lt-differ (pos n) (pos m) a b c d p q e = omega (arith, leb→le (suc n) m (e .lt))
+lt-differ (pos n) (negsuc m) a b c d p q e = absurd (e .lt)
+lt-differ (negsuc n) (pos m) a b c d p q e = omega arith
+lt-differ (negsuc n) (negsuc m) a b c d p q e = omega (arith, leb→le (suc m) n (e .lt))
 
 pub differ-neg : (n : ℕ) → Differ (negℤ (pos n)) 0 n
 differ-neg zero = omega arith

@@ -1,0 +1,5 @@
+pub mod Levels
+pub mod Runs
+pub mod Draining
+pub mod ByPlace
+pub mod Owner
