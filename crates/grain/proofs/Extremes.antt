@@ -7,9 +7,9 @@ use native.Mathlib.Nat.{mul-le-mul}
 abbrev pub longest : ℕ
 longest = 16200000000000
 
-pub drains-fit : (e n F : ℕ) → e ≤ longest → n ≤ 20000 → F ≤ 2147483648 → e * (11 * n) + 2 * (10 * F) < 18446744073709551616
-drains-fit e n F h k l = let m : 11 * n ≤ 220000 = omega arith in omega (arith, mul-le-mul h m)
+pub drains-fit : (e n : ℕ) → e ≤ longest → n ≤ 20000 → e * (11 * n) < 18446744073709551616
+drains-fit e n h k = let m : 11 * n ≤ 220000 = omega arith in omega (arith, mul-le-mul h m)
 
 -- x lies at most one history and two frames after the first read
-pub reads-fit : (x den num : ℕ) → x ≤ 16204294967296 → den ≤ 500000 → num ≤ 51539607552 → x * den + 3 * num < 18446744073709551616
+pub reads-fit : (x den num : ℕ) → x ≤ 16204294967296 → den ≤ 500000 → num ≤ 51539607552 → x * den + num < 18446744073709551616
 reads-fit x den num h k l = omega (arith, mul-le-mul h k)

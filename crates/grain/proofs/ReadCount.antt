@@ -2,7 +2,7 @@
 use Prim.Native.Nat.{ℕ, suc, _+_, _*_, _-_, _/_, _≤_, _<_, min}
 use mathlib.Core.Path.{_≡_, sym, ap, _∙_}
 use native.Mathlib.Omega.{arith}
-use native.Mathlib.Nat.{le-div-iff-mul-le, mul-le-mul-right, add-sub-of-le, add-mul, suc-mul, zero-mul, sub-eq-zero-of-le, div-mul-le-self, le-trans}
+use native.Mathlib.Nat.{le-div-iff-mul-le, mul-le-mul-right, add-sub-of-le, add-mul, suc-mul, zero-mul, sub-eq-zero-of-le}
 use native.Mathlib.Decide.{decLe}
 use borrow.Author.Tests.{ltb-true, lt-ltb}
 use Rattle.laws.specs.Count.{count, UpTo, count-up-to}
@@ -47,7 +47,3 @@ module _ (n base num den : ℕ) (p : 0 < num) (x : ℕ) where
   reads-none l =
       let z : ¬ (0 < closed) = λ q. omega (arith, below-before 0 q, mul-le-mul-right den l) in
       omega (arith, reads-closed)
-
-  -- what is known to be before leaves no less than its own spacings in the reach
-  pub known-reach : (known : ℕ) → known ≤ readsBefore n base num den x → known * num ≤ (x - base) * den + (num - 1)
-  known-reach known h = le-div-iff-mul-le p .0 (omega (arith, reads-closed))

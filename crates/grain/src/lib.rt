@@ -82,40 +82,43 @@ pub fn difference(a: u64, b: u64) -> i64
     }
 }
 
-// x / num, of which `known` is known to be a part. A division is the dear part, and from one packet to
-// the next the quotient mostly stays or grows by one: those are tried first.
-pub fn divide_from(known: u64, x: u64, num: u64) -> u64
-    requires { ⌜ (0 < num) × (known * num ≤ x) × (x + 2 * num < 18446744073709551616) ⌝ }
+// x / num, where `known` may be it already or one less. A division is the dear part, and from one packet
+// to the next the quotient mostly stays or grows by one: those are tried first. Any `known` gives the
+// same answer.
+pub fn divide_near(known: u64, x: u64, num: u64) -> u64
+    requires { ⌜ (0 < num) × (known * num < 18446744073709551616) ⌝ }
     ensures { λ r. ⌜ r ≡ x / num ⌝ }
 {
-    let next = known * num + num;
-    if x < next {
-        return known;
-    }
-    if x < next + num {
-        return known + 1;
+    let low = known * num;
+    if low <= x {
+        let past = x - low;
+        if past < num {
+            return known;
+        }
+        if past - num < num {
+            return known + 1;
+        }
     }
     x / num
 }
 
-// How many of the instants k·num/den, k = 1, 2, .., are at most e, of which `known` are known to be.
+// How many of the instants k·num/den, k = 1, 2, .., are at most e; `known` is a guess.
 pub fn instants(known: u64, e: u64, num: u64, den: u64) -> u64
-    requires { ⌜ (0 < num) × (known * num ≤ e * den) × (e * den + 2 * num < 18446744073709551616) ⌝ }
+    requires { ⌜ (0 < num) × (known * num < 18446744073709551616) × (e * den < 18446744073709551616) ⌝ }
     ensures { λ r. ⌜ r ≡ instantsOf e num den ⌝ }
 {
-    divide_from(known, e * den, num)
+    divide_near(known, e * den, num)
 }
 
-// How many of the reads base + j·num/den, j = 0 .. n - 1, are strictly before x, of which `known` are
-// known to be.
+// How many of the reads base + j·num/den, j = 0 .. n - 1, are strictly before x; `known` is a guess.
 pub fn reads_before(known: u64, n: u64, base: u64, num: u64, den: u64, x: u64) -> u64
-    requires { ⌜ (0 < num) × (known ≤ readsBefore n base num den x) × ((x - base) * den + 3 * num < 18446744073709551616) ⌝ }
+    requires { ⌜ (0 < num) × (known * num < 18446744073709551616) × ((x - base) * den + num < 18446744073709551616) ⌝ }
     ensures { λ r. ⌜ r ≡ readsBefore n base num den x ⌝ }
 {
     if x <= base {
         return 0;
     }
     let reach = (x - base) * den;
-    let begun = divide_from(known, reach + (num - 1), num);
+    let begun = divide_near(known, reach + (num - 1), num);
     if begun < n { begun } else { n }
 }

@@ -1,8 +1,7 @@
 -- The reads before x are the spacings begun within the reach, at most n: the closed form of ReadCount.
-use Prim.Native.Nat.{_+_, _*_, _-_}
 use mathlib.Core.Path.{sym}
 use native.Mathlib.Omega.{arith}
-use Rattle.grain.proofs.ReadCount.{reads-closed, reads-none, known-reach}
+use Rattle.grain.proofs.ReadCount.{reads-closed, reads-none}
 use borrow.Author.Needs.{needs}
 use Rattle.grain.proofs.reads_before.Statement.{statement}
 use Rattle.grain.proofs.reads_before.Tie as tie
@@ -16,25 +15,23 @@ sub-reach c = search needs
 mul-reach : tie.Need-mul-reach
 mul-reach c = search needs
 
-sub-divide-from : tie.Need-sub-divide-from
-sub-divide-from c = search needs
+sub-divide-near : tie.Need-sub-divide-near
+sub-divide-near c = search needs
 
-add-divide-from : tie.Need-add-divide-from
-add-divide-from c = search needs
+add-divide-near : tie.Need-add-divide-near
+add-divide-near c = search needs
 
-divide-from-requires : tie.Need-divide-from-requires
-divide-from-requires c κs = let a = c .before .args in
-    let p = c .before .pre in
-    omega (arith, known-reach (a .n) (a .base) (a .num) (a .den) (p .0) (a .x) (a .known) (p .1))
+divide-near-requires : tie.Need-divide-near-requires
+divide-near-requires c κs = search needs
 
 returns-2 : tie.Need-returns-2
 returns-2 c = let a = c .before .before .before .args in
-    let e = c .before .divide-from .ensures in
+    let e = c .before .divide-near .ensures in
     omega (arith, reads-closed (a .n) (a .base) (a .num) (a .den) (c .before .before .before .pre .0) (a .x))
 
 returns-3 : tie.Need-returns-3
 returns-3 c = let a = c .before .before .before .args in
-    let e = c .before .divide-from .ensures in
+    let e = c .before .divide-near .ensures in
     omega (arith, reads-closed (a .n) (a .base) (a .num) (a .den) (c .before .before .before .pre .0) (a .x))
 
 pub reads-before-spec : {M : Type 1} → statement M
@@ -44,8 +41,8 @@ reads-before-spec =
     returns
     sub-reach
     mul-reach
-    sub-divide-from
-    add-divide-from
-    divide-from-requires
+    sub-divide-near
+    add-divide-near
+    divide-near-requires
     returns-2
     returns-3)
