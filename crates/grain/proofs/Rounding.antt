@@ -6,7 +6,7 @@ use native.Mathlib.Nat.{div-add-mod', mod-lt, div-mul-le-self, lt-div-mul-add, m
 use lib.IntN.{ℤ, pos, negℤ, subℕ, _+ℤ_}
 use lib.Signed.{_≤ℤ_, _<ℤ_}
 use Rattle.laws.specs.Differ.{Differ, differ-sub, differ-le, differ-lt, differ-neg, sub-same}
-use Rattle.grain.specs.Paper.{Nearest, nearest, frameTime, firstPacketTime}
+use Rattle.grain.specs.Paper.{Nearest, nearest, frameTime, phase, firstPacketTime}
 
 pub nearest-is : (g F : ℕ) → 0 < F → Nearest g F (nearest g F)
 unfolding nearest
@@ -40,19 +40,33 @@ module _ (g F : ℕ) (p : 0 < F) where
       nearest-unique g F (nearest g F) (g / F) (nearest-is g F p)
       (record { low = omega (arith, div-add-mod' g F); high = omega (arith, div-add-mod' g F) })
 
+  next : (g / F + 1) * F ≡ g / F * F + F
+  next = add-mul (g / F) 1 F ∙ ap (λ (n : ℕ). g / F * F + n) (omega arith)
+
   pub goes-up : F - g % F ≤ g % F → nearest g F ≡ g / F + 1
   goes-up l =
-      let next : (g / F + 1) * F ≡ g / F * F + F = add-mul (g / F) 1 F ∙ ap (λ (n : ℕ). g / F * F + n) (omega arith) in
       nearest-unique g F (nearest g F) (g / F + 1) (nearest-is g F p)
-      (record { low = omega (arith, div-add-mod' g F); high = omega (arith, div-add-mod' g F, mod-lt g p) })
+      (record { low = omega (arith, next, div-add-mod' g F); high = omega (arith, next, div-add-mod' g F, mod-lt g p) })
 
-  pub time-down : g % F < F - g % F → subℕ (g % F) 0 ≡ firstPacketTime g F
-  time-down l = sub-same (g % F) 0 g (frameTime g F) (omega (arith, ap (λ (n : ℕ). n * F) (goes-down l), div-add-mod' g F))
+  pub phase-down : g % F < F - g % F → g % F + F ≡ phase g F
+  unfolding phase
+  phase-down l = omega (arith, ap (λ (n : ℕ). n * F) (goes-down l), div-add-mod' g F)
 
-  pub time-up : F - g % F ≤ g % F → subℕ (g % F) F ≡ firstPacketTime g F
-  time-up l =
-      let next : (g / F + 1) * F ≡ g / F * F + F = add-mul (g / F) 1 F ∙ ap (λ (n : ℕ). g / F * F + n) (omega arith) in
-      sub-same (g % F) F g (frameTime g F) (omega (arith, ap (λ (n : ℕ). n * F) (goes-up l), div-add-mod' g F))
+  pub phase-up : F - g % F ≤ g % F → g % F ≡ phase g F
+  unfolding phase
+  phase-up l = omega (arith, ap (λ (n : ℕ). n * F) (goes-up l), next, div-add-mod' g F)
+
+-- the phase with its frame start is the time with a frame, so FPT is the phase less a frame; and it is below two frames
+module _ (g F : ℕ) (p : 0 < F) where
+  pub phase-from : phase g F + frameTime g F ≡ g + F
+  unfolding phase
+  phase-from = omega (arith, nearest-is g F p .low)
+
+  pub phase-less : subℕ (phase g F) F ≡ firstPacketTime g F
+  phase-less = sub-same (phase g F) F g (frameTime g F) (omega (arith, phase-from))
+
+  pub phase-small : phase g F < 2 * F
+  phase-small = omega (arith, phase-from, nearest-is g F p .high)
 
 -- rounded up, N is still no more than t where F is at least 27
 pub up-small : (t F : ℕ) → 27 ≤ F → F - 27 * t % F ≤ 27 * t % F → 27 * t / F + 1 ≤ t

@@ -1,6 +1,6 @@
 -- Document 01's sentences about times, each definition under the sentence that it renders. Times are naturals, differences are integers.
 use mathlib.Core.Bool.{Bool}
-use Prim.Native.Nat.{ℕ, _+_, _*_, _/_, _≤_, _<_}
+use Prim.Native.Nat.{ℕ, _+_, _*_, _-_, _/_, _≤_, _<_}
 use lib.Dec.{ltb}
 use lib.IntN.{ℤ, subℕ}
 use Rattle.laws.specs.Count.{count}
@@ -24,6 +24,10 @@ frameTime g F = nearest g F * F
 -- "FPT = 27t − T_CF"
 abbrev pub firstPacketTime : ℕ → ℕ → ℤ
 firstPacketTime g F = subℕ g (frameTime g F)
+
+-- FPT and one frame more, which is never below 0: the form in which the code keeps it (proofs/Rounding.antt, phase-less)
+unfoldable pub phase : ℕ → ℕ → ℕ
+phase g F = g + F - frameTime g F
 
 -- "An RTP tick at 90 kHz is 300,000 grains." "P = 1,288,490,188,800,000 grains (2^32 ticks)"
 abbrev pub tick : ℕ

@@ -5,7 +5,7 @@
 ghost use mathlib.Core.Path.{_≡_};
 ghost use Prim.Native.Nat.{_+_, _*_, _-_, _/_, _%_, _≤_, _<_};
 ghost use lib.IntN.{subℕ};
-ghost use Rattle.grain.specs.Paper.{grains, nearest, firstPacketTime, latency, instants as instantsOf, readsBefore};
+ghost use Rattle.grain.specs.Paper.{grains, nearest, phase, firstPacketTime, latency, instants as instantsOf, readsBefore};
 
 // The grains of 2^32 ticks: RTP timestamps go round once in this time.
 const WRAP: u64 = 1288490188800000;
@@ -44,19 +44,25 @@ pub fn nearest_frame(t: u64, frame: u64) -> u64
     }
 }
 
+// 27·t less the frame start that lies nearest, and one frame more, so that it is never below 0: where in
+// the two frames around that start the time lies.
+pub fn frame_phase(t: u64, frame: u64) -> u64
+    requires { ⌜ (27 ≤ frame) × (frame ≤ 576460752303423488) ⌝ }
+    ensures { λ r. ⌜ r ≡ phase (grains t) frame ⌝ }
+{
+    let x = split27(t, frame);
+    let past = x.remainder;
+    let left = frame - past;
+    if past < left { past + frame } else { past }
+}
+
 // FPT: 27·t less the frame start that lies nearest.
 pub fn first_packet_time(t: u64, frame: u64) -> i64
     requires { ⌜ (27 ≤ frame) × (frame ≤ 576460752303423488) ⌝ }
     ensures { λ r. ⌜ r ≡ firstPacketTime (grains t) frame ⌝ }
 {
-    let x = split27(t, frame);
-    let past = x.remainder;
-    let left = frame - past;
-    if past < left {
-        difference(past, 0)
-    } else {
-        difference(past, frame)
-    }
+    let at = frame_phase(t, frame);
+    difference(at, frame)
 }
 
 // VL: 27·t less the time that its timestamp encodes. Both count the same wraps, which drop out.

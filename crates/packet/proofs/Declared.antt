@@ -1,0 +1,100 @@
+-- The scan from the start is what the paper declares of the whole history. By place: what the scan carries at place i is a function
+-- of the history, one equation for each part, and it moves on by one packet until the lowest refused place or the end.
+use mathlib.Core.Path.{_≡_, refl, sym, _∙_}
+use mathlib.Core.Bool.{Bool, true, false, _||_, or-false, or-true}
+use mathlib.Core.List.{List}
+use Prim.Native.Nat.{ℕ, zero, suc, _+_, _≤_, _<_}
+use native.Mathlib.Omega.{arith}
+use native.Mathlib.Nat.{add-zero}
+use native.Mathlib.Numerals.{add-one}
+use lib.Dec.{ltb, eqb·suc-zero}
+use lib.ListN.{length, drop}
+use lib.Seq.{drop-cons, drop-length}
+use borrow.Author.Tests.{ltb-true, ltb-false, lt-ltb, le-ltb, eqb-true, not-false, not-true, eqb-false}
+use Rattle.laws.specs.Choose.{pick, pick-either}
+use Rattle.laws.specs.Count.{count}
+use Rattle.laws.specs.Seek.{seek-is, Lowest}
+use Rattle.laws.specs.Fold.{fold-states}
+use Rattle.packet.specs.declared.Scanned.the-variants.{Fine, Refused}
+use Rattle.packet.specs.Paper.{Packet, nought, marked, at, refusalAt, refusedAt, markedAt, begunAt, closesAt}
+use Rattle.packet.specs.Paper.{firstRefused, declared, pastAt}
+use Rattle.packet.specs.Step.{nothing, refusalOf, nextOf, scanOf}
+use Rattle.packet.specs.Calls.{pastAfter, begunAfter}
+use Rattle.packet.proofs.Turn.{fine-refused, scan-ends, scan-goes, scan-stops}
+
+-- one more place, whether or not it is marked
+begun-more : (n : ℕ) (t : Bool) → ltb 0 n || t ≡ ltb 0 (n + pick t 1 0)
+begun-more n true = or-true (ltb 0 n) ∙ sym (lt-ltb 0 (n + 1) (omega arith))
+begun-more n false = or-false (ltb 0 n) ∙ rw (add-zero n)
+
+module _ (l : List Packet) where
+  -- packet i against what came before it
+  pub refusal-at : (i : ℕ) → refusalOf (pastAt l i) (at l i .time) (at l i .marker) ≡ refusalAt l i
+  unfolding refusalOf refusalAt
+  refusal-at zero = simp (le-ltb (at l 0 .time) 0 (omega arith))
+  refusal-at (suc i) = simp (eqb·suc-zero i)
+
+  pub next-at : (i : ℕ) → nextOf (pastAt l i) (at l i .time) ≡ pastAt l (suc i)
+  next-at zero = refl
+  next-at (suc i) = simp (eqb·suc-zero i, add-one)
+
+  pub begun-at : (i : ℕ) → begunAt l i || marked (at l i) ≡ begunAt l (suc i)
+  unfolding count
+  begun-at i = begun-more (count (markedAt l) i) (marked (at l i))
+
+  -- what comes after the whole history is what came before the place at its end
+  pub past-after : pastAfter nothing l ≡ pastAt l (length l)
+  past-after = fold-states (λ past p. nextOf past (p .time)) l nought (pastAt l) (λ i h. next-at i)
+
+  pub begun-after : begunAfter false l ≡ begunAt l (length l)
+  unfolding count
+  begun-after = fold-states (λ begun p. begun || marked p) l nought (begunAt l) (λ i h. begun-at i)
+
+  -- where no packet before i is refused, the scan comes to i
+  scan-reaches : (i : ℕ) → i ≤ length l → ((k : ℕ) → k < i → refusalAt l k ≡ 0)
+      → scanOf nothing false 0 l ≡ scanOf (pastAt l i) (begunAt l i) (count (closesAt l) i) (drop i l)
+  unfolding count
+  scan-reaches zero h ok = refl
+  scan-reaches (suc i) h ok =
+      scan-reaches i (omega arith) (λ k b. ok k (omega arith))
+      ∙ scan-goes (pastAt l i) (begunAt l i) (count (closesAt l) i) (drop-cons l i nought h) (refusal-at i ∙ ok i (omega arith))
+      ∙ rw (next-at i, begun-at i)
+
+  -- the scan from the start names the first refused packet of the whole history, or counts the frames that close
+  pub scan-declared : scanOf nothing false 0 l ≡ declared l
+  unfolding declared
+  scan-declared = go (ltb k (length l)) refl
+    where
+      k : ℕ
+      k = firstRefused l
+
+      low : Lowest (refusedAt l) (length l) k
+      low = seek-is (refusedAt l) (length l)
+
+      fine : (i : ℕ) → i < k → refusalAt l i ≡ 0
+      fine i b = eqb-true (refusalAt l i) 0 (not-false _ (low .before i b))
+
+      comes : scanOf nothing false 0 l ≡ scanOf (pastAt l k) (begunAt l k) (count (closesAt l) k) (drop k l)
+      comes = scan-reaches k (low .within) fine
+
+      go : (t : Bool) → ltb k (length l) ≡ t
+          → scanOf nothing false 0 l
+          ≡ pick t (Refused (record { number = refusalAt l k; place = k })) (Fine (count (closesAt l) (length l)))
+      go true e =
+          let h = ltb-true k (length l) e in
+          let bad = eqb-false (refusalAt l k) 0 (not-true _ (low .here h)) in
+          comes
+          ∙ scan-stops (pastAt l k) (begunAt l k) (count (closesAt l) k) (drop-cons l k nought h) (λ z. bad (sym (refusal-at k) ∙ z))
+          ∙ rw (refusal-at k)
+      go false e =
+          let end : k ≡ length l = omega (arith, ltb-false k (length l) e, low .within) in
+          comes ∙ rw end (scan-ends _ _ _ (drop-length l))
+
+  -- and it is fine only where no packet of the history is refused
+  pub fine-everywhere : (n i : ℕ) → declared l ≡ Fine n → i < length l → refusalAt l i ≡ 0
+  unfolding declared
+  fine-everywhere n i e h =
+      let low = seek-is (refusedAt l) (length l) in
+      pick-either (λ s. s ≡ Fine n → refusalAt l i ≡ 0) (ltb (firstRefused l) (length l))
+      (λ t f. absurd (fine-refused n _ (sym f)))
+      (λ t f. eqb-true _ 0 (not-false _ (low .before i (omega (arith, ltb-false (firstRefused l) (length l) t))))) e

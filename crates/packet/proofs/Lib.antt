@@ -1,0 +1,6 @@
+pub mod Refusals
+pub mod Lent
+pub mod Turn
+pub mod Declared
+pub mod Cutting
+pub mod Limits

@@ -1,0 +1,104 @@
+-- One packet of a scan: where the scan goes after it, what an answer of the scan says of it, and what there is room for.
+-- By the test on its refusal.
+use mathlib.Core.Path.{_≡_, refl, sym, subst, _∙_}
+use mathlib.Core.Bool.{Bool, true, false, _&&_, _||_, and-false, or-false}
+use mathlib.Core.List.{List, [], _∷_}
+use Prim.Native.Nat.{ℕ, _+_, _≤_}
+use native.Mathlib.Omega.{arith}
+use native.Mathlib.Nat.{add-zero}
+use lib.Dec.{eqb}
+use lib.ListN.{length}
+use borrow.Author.Tests.{eq-eqb, ne-eqb, eqb-true, eqb-false}
+use Rattle.laws.specs.Choose.{pick, pick-either}
+use Rattle.packet.specs.declared.Past.{Past}
+use Rattle.packet.specs.declared.Refusal.{Refusal}
+use Rattle.packet.specs.declared.Scanned.{Scanned}
+use Rattle.packet.specs.declared.Scanned.the-variants.{Fine, Refused}
+use Rattle.packet.specs.Paper.{Packet, marked, packets, OneLength}
+use Rattle.packet.specs.Step.{numberOf, nextOf, closes, scanOf, unequal, scannedOf, Ready}
+
+pub fine-refused : (n : ℕ) (r : Refusal) → Fine n ≡ Refused r → ⊥
+fine-refused n r e = let z : _≡_ {A = ℕ} 0 1 = cc in omega arith
+
+pub scan-ends : (past : Past) (begun : Bool) (closed : ℕ) {l : List Packet} → l ≡ [] → scanOf past begun closed l ≡ Fine closed
+unfolding scanOf
+scan-ends past begun closed e = rw e
+
+module _ (past : Past) (begun : Bool) (closed : ℕ) {p : Packet} {l ps : List Packet} (c : l ≡ p ∷ ps) where
+  -- an accepted packet: the scan goes on
+  pub scan-goes : numberOf past p ≡ 0
+      → scanOf past begun closed l ≡ scanOf (nextOf past (p .time)) (begun || marked p) (closed + closes begun p) ps
+  unfolding scanOf
+  scan-goes e = rw (c, eq-eqb (numberOf past p) 0 e)
+
+  -- a refused packet: the scan stops there
+  pub scan-stops : (numberOf past p ≡ 0 → ⊥)
+      → scanOf past begun closed l ≡ Refused (record { number = numberOf past p; place = past .packets })
+  unfolding scanOf
+  scan-stops n = rw (c, ne-eqb (numberOf past p) 0 n)
+
+  -- an accepted packet closes a frame, or is the first marker, or is no marker
+  pub scan-closes : numberOf past p ≡ 0 → p .marker ≡ 1 → begun ≡ true
+      → scanOf past begun closed l ≡ scanOf (nextOf past (p .time)) true (closed + 1) ps
+  scan-closes e m b = scan-goes e ∙ rw (eq-eqb (p .marker) 1 m, b)
+
+  pub scan-begins : numberOf past p ≡ 0 → p .marker ≡ 1 → begun ≡ false
+      → scanOf past begun closed l ≡ scanOf (nextOf past (p .time)) true closed ps
+  scan-begins e m b = scan-goes e ∙ rw (eq-eqb (p .marker) 1 m, b, add-zero)
+
+  pub scan-passes : numberOf past p ≡ 0 → (p .marker ≡ 1 → ⊥)
+      → scanOf past begun closed l ≡ scanOf (nextOf past (p .time)) begun closed ps
+  scan-passes e n = scan-goes e ∙ simp (ne-eqb (p .marker) 1 n, or-false, and-false, add-zero)
+
+  -- where a scan is ready, this packet is accepted, and the scan after it is ready
+  pub ready-accepted : (room : ℕ) → Ready (scanOf past begun closed l) room → numberOf past p ≡ 0
+  unfolding scanOf
+  ready-accepted room r =
+      pick-either (λ (s : Scanned). Ready s room → numberOf past p ≡ 0) (eqb (numberOf past p) 0)
+      (λ e x. eqb-true _ 0 e) (λ e x. absurd x)
+      (subst (λ (l : List Packet). Ready (scanOf past begun closed l) room) c r)
+
+  pub ready-next : (room : ℕ) → Ready (scanOf past begun closed l) room
+      → Ready (scanOf (nextOf past (p .time)) (begun || marked p) (closed + closes begun p) ps) room
+  ready-next room r = subst (λ (s : Scanned). Ready s room) (scan-goes (ready-accepted room r)) r
+
+-- there is room for the frames that closed before
+pub ready-room : (l : List Packet) (past : Past) (begun : Bool) (closed room : ℕ)
+    → Ready (scanOf past begun closed l) room → closed ≤ room
+unfolding scanOf
+ready-room [] past begun closed room r = r
+ready-room (p ∷ ps) past begun closed room r =
+    omega (arith, ready-room ps _ _ _ room (ready-next past begun closed {p = p} {l = p ∷ ps} {ps = ps} refl room r))
+
+pub fine-ready : (s : Scanned) (n room : ℕ) → s ≡ Fine n → n ≤ room → Ready s room
+fine-ready s n room e h = rw e h
+
+pub fine-least : (l : List Packet) (past : Past) (begun : Bool) (closed n : ℕ) → scanOf past begun closed l ≡ Fine n → closed ≤ n
+fine-least l past begun closed n e = ready-room l past begun closed n (fine-ready _ n n e (omega arith))
+
+-- three lent slices, of one length or not
+module _ (past : Past) (begun : Bool) (ts ss ms : List ℕ) where
+  pub lengths-same : OneLength ts ss ms → scannedOf past begun ts ss ms ≡ scanOf past begun 0 (packets ts ss ms)
+  unfolding scannedOf
+  lengths-same same = rw (eq-eqb (length ss) (length ts) (same .stamps), eq-eqb (length ms) (length ts) (same .markers))
+
+  by-length : (P : Scanned → Type 0) → (OneLength ts ss ms → P (scanOf past begun 0 (packets ts ss ms)))
+      → ((OneLength ts ss ms → ⊥) → P unequal) → P (scannedOf past begun ts ss ms)
+  unfolding scannedOf
+  by-length P same differ = go (eqb (length ss) (length ts)) refl (eqb (length ms) (length ts)) refl
+    where
+      go : (s : Bool) → eqb (length ss) (length ts) ≡ s → (m : Bool) → eqb (length ms) (length ts) ≡ m
+          → P (pick (s && m) (scanOf past begun 0 (packets ts ss ms)) unequal)
+      go true e true f = same (record { stamps = eqb-true _ _ e; markers = eqb-true _ _ f })
+      go true e false f = differ (λ same. eqb-false _ _ f (same .markers))
+      go false e m f = differ (λ same. eqb-false _ _ e (same .stamps))
+
+  pub lengths-differ : (OneLength ts ss ms → ⊥) → scannedOf past begun ts ss ms ≡ unequal
+  lengths-differ differ = by-length (λ s. s ≡ unequal) (λ same. absurd (differ same)) (λ d. refl)
+
+  -- an answer of fine says that the slices have one length, and answers for their packets
+  pub scanned-fine : (n : ℕ) → scannedOf past begun ts ss ms ≡ Fine n
+      → OneLength ts ss ms × (scanOf past begun 0 (packets ts ss ms) ≡ Fine n)
+  scanned-fine n =
+      by-length (λ s. s ≡ Fine n → OneLength ts ss ms × (scanOf past begun 0 (packets ts ss ms) ≡ Fine n))
+      (λ same e. (same, e)) (λ differ e. absurd (fine-refused n _ (sym e)))

@@ -1,0 +1,3 @@
+pub mod Paper
+pub mod Step
+pub mod Calls
