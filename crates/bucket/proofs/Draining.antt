@@ -8,11 +8,12 @@ use native.Mathlib.Omega.{arith}
 use native.Mathlib.Nat.{le-suc-iff, sub-self, zero-mul, zero-div, div-lt-iff-lt-mul, le-div-iff-mul-le}
 use lib.Dec.{ltb}
 use borrow.Author.Tests.{ltb-true, ltb-false, lt-ltb, le-ltb}
+use Rattle.laws.specs.Climb.{Climbs, climbs-le}
 use Rattle.laws.specs.Choose.{pick}
 use Rattle.laws.specs.Count.{count, count-up-to, count-same}
 use Rattle.bucket.specs.Paper.{History, elapsed, drains, comesBefore, arrivedBefore, found, level}
 use Rattle.bucket.specs.Step.{levelAt}
-use Rattle.bucket.proofs.Levels.{Mono, mono-le, level-positive}
+use Rattle.bucket.proofs.Levels.{level-positive}
 
 -- x/y is below k exactly when x is below k·y
 below-quotient : (x y k : ℕ) → 0 < y → ltb x (k * y) ≡ ltb (x / y) k
@@ -22,7 +23,7 @@ below-quotient x y k p = go (ltb (x / y) k) refl
     go true e = lt-ltb x (k * y) (div-lt-iff-lt-mul p .0 (ltb-true (x / y) k e))
     go false e = le-ltb x (k * y) (le-div-iff-mul-le p .0 (ltb-false (x / y) k e))
 
-module _ (h : History) (p : 0 < h .frame) (mono : Mono (drains h) (h .packets)) where
+module _ (h : History) (p : 0 < h .frame) (mono : Climbs (drains h) (h .packets)) where
   D : ℕ → ℕ
   D = drains h
 
@@ -33,8 +34,8 @@ module _ (h : History) (p : 0 < h .frame) (mono : Mono (drains h) (h .packets)) 
       let seen : count (λ j. ltb (drains h j) k) (h .packets) ≡ min (h .packets) (suc i) =
       count-up-to (λ j. ltb (drains h j) k) (h .packets) (suc i) (record {
         inside = λ j g t.
-            let early : ¬ (suc i ≤ j) = λ w. omega (arith, ltb-true (drains h j) k t, mono-le (drains h) (h .packets) mono (suc i) j w g) in omega arith;
-        passes = λ j g w. lt-ltb (drains h j) k (omega (arith, mono-le (drains h) (h .packets) mono j i (omega arith) (omega arith)));
+            let early : ¬ (suc i ≤ j) = λ w. omega (arith, ltb-true (drains h j) k t, climbs-le (drains h) (h .packets) mono (suc i) j w g) in omega arith;
+        passes = λ j g w. lt-ltb (drains h j) k (omega (arith, climbs-le (drains h) (h .packets) mono j i (omega arith) (omega arith)));
       }) in
       count-same (comesBefore h k) (λ j. ltb (drains h j) k) (h .packets) (λ j g. below-quotient (elapsed h j * (11 * h .perFrame)) (10 * h .frame) k q)
       ∙ seen ∙ omega arith

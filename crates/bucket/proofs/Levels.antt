@@ -7,18 +7,8 @@ use native.Mathlib.Omega.{arith}
 use native.Mathlib.Nat.{le-suc-iff}
 use lib.Dec.{leb, leb→le, nleb→lt}
 use Rattle.laws.specs.Choose.{pick}
+use Rattle.laws.specs.Climb.{Climbs}
 use Rattle.bucket.specs.Step.{levelAt, startAt}
-
-abbrev pub Mono : (ℕ → ℕ) → ℕ → Type 0
-Mono D m = (i : ℕ) → suc i < m → D i ≤ D (suc i)
-
-pub mono-le : (D : ℕ → ℕ) (m : ℕ) → Mono D m → (i j : ℕ) → i ≤ j → j < m → D i ≤ D j
-mono-le D m mono i zero h k = let z : i ≡ 0 = omega arith in omega (arith, ap D z)
-mono-le D m mono i (suc j) h k = go (mono-le D m mono i j) (le-suc-iff .0 h)
-  where
-    go : (i ≤ j → j < m → D i ≤ D j) → (i ≤ j) ⊎ (i ≡ suc j) → D i ≤ D (suc j)
-    go ih (inl l) = omega (arith, ih l (omega arith), mono j k)
-    go ih (inr e) = omega (arith, ap D e)
 
 -- "Unused instants are not saved up": however many drains came before it, a packet finds its own place in the bucket
 pub level-one : (D : ℕ → ℕ) (i : ℕ) → levelAt D i ≤ D (suc i) - D i → levelAt D (suc i) ≡ 1
@@ -31,7 +21,7 @@ level-positive D zero = omega arith
 level-positive D (suc i) = omega arith
 
 -- the packets of a run that ends at b are at most the level and the drains after its first arrival
-pub level-bound : (D : ℕ → ℕ) (m : ℕ) → Mono D m → (a b : ℕ) → a ≤ b → b < m → b + 1 + D a ≤ levelAt D b + D b + a
+pub level-bound : (D : ℕ → ℕ) (m : ℕ) → Climbs D m → (a b : ℕ) → a ≤ b → b < m → b + 1 + D a ≤ levelAt D b + D b + a
 unfolding levelAt
 level-bound D m mono a zero h k = let z : a ≡ 0 = omega arith in omega (arith, ap D z)
 level-bound D m mono a (suc b) h k = go (level-bound D m mono a b) (le-suc-iff .0 h)
@@ -46,7 +36,7 @@ pub record Named (D : ℕ → ℕ) (b s l : ℕ) : Type 0 where
   pub exact : b + 1 + D s ≡ l + D b + s
   pub later : (a : ℕ) → s < a → a ≤ b → b + 1 + D a < l + D b + a
 
-pub level-named : (D : ℕ → ℕ) (m : ℕ) → Mono D m → (b : ℕ) → b < m → Named D b (startAt D b) (levelAt D b)
+pub level-named : (D : ℕ → ℕ) (m : ℕ) → Climbs D m → (b : ℕ) → b < m → Named D b (startAt D b) (levelAt D b)
 unfolding startAt
 level-named D m mono zero k = record { within = omega arith; exact = omega arith; later = λ a h g. omega arith }
 level-named D m mono (suc b) k = go (leb (levelAt D b) (D (suc b) - D b)) refl (level-named D m mono b (omega arith))

@@ -10,6 +10,7 @@ use lib.Dec.{leb, leb→le}
 use lib.IntN.{ℤ, pos, subℕ}
 use lib.Signed.{_≤ℤ_, _<ℤ_}
 use borrow.Author.Tests.{leb-true, leb-false, le-leb, lt-leb}
+use Rattle.laws.specs.Climb.{Climbs, climbs-le}
 use Rattle.laws.specs.Choose.{false-true}
 use Rattle.laws.specs.Most.{most}
 use Rattle.laws.specs.Count.{count, count-between}
@@ -21,7 +22,7 @@ use Rattle.bucket.specs.declared.Network.{Network}
 use Rattle.bucket.specs.declared.Network.the-variants.{Pass, Burst}
 use Rattle.bucket.specs.Paper.{History, elapsed, drains, found, level, IsRun, drainsRun, excess, GreatestEnding, GreatestExcess, Fails, FirstFailing, NetworkIs}
 use Rattle.bucket.specs.Step.{levelAt, startAt, networkAt, bucketAt}
-use Rattle.bucket.proofs.Levels.{Mono, mono-le, level-one, level-bound, level-named}
+use Rattle.bucket.proofs.Levels.{level-one, level-bound, level-named}
 use Rattle.bucket.proofs.Runs.{Above, Peak, peak-is, First, OfRuns, of-runs}
 use Rattle.bucket.proofs.Draining.{conserved, level-is}
 
@@ -66,11 +67,11 @@ module _ (h : History) (p : 0 < h .frame) (ordered : Ordered h) where
   pub drain-instants : (k i : ℕ) → k ≤ drains h i ↔ InstantBy (10 * h .frame) (11 * h .perFrame) k (elapsed h i)
   drain-instants k i = instants-are (10 * h .frame) (11 * h .perFrame) (omega arith) k (elapsed h i)
 
-  pub drains-grow : Mono (drains h) (h .packets)
+  pub drains-grow : Climbs (drains h) (h .packets)
   drains-grow i l = instants-grow (10 * h .frame) (11 * h .perFrame) (omega arith) (elapsed h i) (elapsed h (suc i)) (omega (arith, ordered i l))
 
   up : (a b : ℕ) → a ≤ b → b < h .packets → drains h a ≤ drains h b
-  up = mono-le (drains h) (h .packets) drains-grow
+  up = climbs-le (drains h) (h .packets) drains-grow
 
   -- the drain instants of a run, counted one by one among any number of instants that reaches its end
   pub drains-of-run : (a b K : ℕ) → IsRun h a b → drains h b ≤ K → count (drainsRun h a b) K ≡ drains h b - drains h a

@@ -6,13 +6,14 @@ use native.Mathlib.Omega.{arith}
 use native.Mathlib.Nat.{not-suc-le-zero}
 use lib.Dec.{ltb}
 use borrow.Author.Tests.{ltb-true, ltb-false}
+use Rattle.laws.specs.Climb.{Climbs}
 use Rattle.laws.specs.Choose.{up-to}
 use Rattle.laws.specs.Most.{most, most-is}
 use Rattle.bucket.specs.declared.Run.{Run}
 use Rattle.bucket.specs.declared.Network.{Network}
 use Rattle.bucket.specs.declared.Network.the-variants.{Pass, Burst}
 use Rattle.bucket.specs.Step.{levelAt, startAt, judged, networkAt}
-use Rattle.bucket.proofs.Levels.{Mono, level-bound, level-named, level-rises}
+use Rattle.bucket.proofs.Levels.{level-bound, level-named, level-rises}
 
 -- the run a .. b has an excess above c: its packets are more than c and the drains between its ends
 abbrev pub Above : (ℕ → ℕ) → ℕ → ℕ → ℕ → Type 0
@@ -24,7 +25,7 @@ pub record Peak (D : ℕ → ℕ) (m p : ℕ) : Type 0 where
   pub met : 0 < m → (a : ℕ) × (b : ℕ) × (a ≤ b) × (b < m) × (b + 1 + D a ≡ p + D b + a)
   pub none : m ≡ 0 → p ≡ 0
 
-pub peak-is : (D : ℕ → ℕ) (m : ℕ) → Mono D m → Peak D m (most (levelAt D) m)
+pub peak-is : (D : ℕ → ℕ) (m : ℕ) → Climbs D m → Peak D m (most (levelAt D) m)
 peak-is D m mono =
     let g = most-is (levelAt D) m in
     record {
@@ -48,7 +49,7 @@ abbrev Low : (ℕ → ℕ) → ℕ → ℕ → Type 0
 Low D m c = (b : ℕ) → b < m → levelAt D b ≤ c
 
 -- the first level above c names the first failing run
-first-of : (D : ℕ → ℕ) (m c e : ℕ) → Mono D m → e < m → Low D e c → c < levelAt D e → First D m c (startAt D e) e
+first-of : (D : ℕ → ℕ) (m c e : ℕ) → Climbs D m → e < m → Low D e c → c < levelAt D e → First D m c (startAt D e) e
 first-of D m c e mono k low high =
     let n = level-named D m mono e k in
     record {
@@ -81,7 +82,7 @@ abbrev pub OfRuns : (ℕ → ℕ) → ℕ → ℕ → Network → Type 0
 OfRuns D c m Pass = (a b : ℕ) → a ≤ b → b < m → ¬ Above D c a b
 OfRuns D c m (Burst r) = First D m c (r .first) (r .last)
 
-pub of-runs : (D : ℕ → ℕ) (c m : ℕ) → Mono D m → OfRuns D c m (networkAt D c m)
+pub of-runs : (D : ℕ → ℕ) (c m : ℕ) → Climbs D m → OfRuns D c m (networkAt D c m)
 of-runs D c m mono = go (networkAt D c m) (of-levels D c m)
   where
     go : (v : Network) → OfLevels D c m v → OfRuns D c m v

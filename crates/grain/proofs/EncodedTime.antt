@@ -1,11 +1,15 @@
 -- 27t less the encoded time is the rest of 27t by the wrap less the ticks: the wraps drop out. And RTP_OFFSET is FPT less VL.
-use Prim.Native.Nat.{ℕ, _+_, _*_, _/_, _%_}
-use mathlib.Core.Path.{_≡_}
+use Prim.Native.Nat.{ℕ, _+_, _*_, _/_, _%_, _≤_, _<_}
+use mathlib.Core.Path.{_≡_, sym, ap, subst, _∙_}
 use native.Mathlib.Omega.{arith}
-use native.Mathlib.Nat.{div-add-mod'}
-use lib.IntN.{ℤ, subℕ, _-ℤ_}
+use native.Mathlib.Nat.{div-add-mod', mod-lt}
+use mir.Syntax.{w64}
+use mir.Val.{SFits, toZ, ofZ}
+use lib.IntN.{ℤ, pos, subℕ, _-ℤ_}
 use Rattle.laws.specs.Differ.{differ-sub, differ-same, differ-minus, sub-same}
-use Rattle.grain.specs.Paper.{frameTime, firstPacketTime, tick, wrap, encoded, rtpOffset, latency}
+use Rattle.grain.proofs.Rounding.{phase-from}
+use Rattle.grain.proofs.SignedRange.{differ-fits, less-fits, less-is}
+use Rattle.grain.specs.Paper.{frameTime, phase, firstPacketTime, tick, wrap, encoded, rtpOffset, latency}
 
 pub latency-is : (g stamp : ℕ) → subℕ (g % wrap) (tick * stamp) ≡ latency g stamp
 unfolding encoded
@@ -17,3 +21,32 @@ offset-is g stamp F =
     let t = frameTime g F in
     differ-same (subℕ e t) (subℕ g t -ℤ subℕ g e) e t (g + e) (g + t) (differ-sub e t)
     (differ-minus (subℕ g t) (subℕ g e) g t g e (differ-sub g t) (differ-sub g e)) (omega arith)
+
+-- TRO less FPT is what is left from the first packet to the first read
+pub margin-is : (g tro F : ℕ) → 0 < F → subℕ (tro + F) (phase g F) ≡ pos tro -ℤ firstPacketTime g F
+margin-is g tro F p =
+    let t = frameTime g F in
+    differ-same (subℕ (tro + F) (phase g F)) (pos tro -ℤ subℕ g t) (tro + F) (phase g F) (tro + t) (g + 0) (differ-sub (tro + F) (phase g F))
+    (differ-minus (pos tro) (subℕ g t) tro 0 g t (omega arith) (differ-sub g t)) (omega (arith, phase-from g F p))
+
+-- FPT less VL, of two numbers that fit, fits and is read back, whatever the timestamp: neither is longer than a wrap and two frames
+module _ (g stamp phase period : ℕ) (small : stamp < 4294967296) (within : phase ≤ 4294967296) (short : period ≤ 4294967296) where
+  offset-fits : SFits w64 (subℕ phase period -ℤ latency g stamp)
+  offset-fits =
+      let rest = mod-lt g {m = wrap} (omega arith) in
+      rw (sym (latency-is g stamp)) (differ-fits (subℕ phase period -ℤ subℕ (g % wrap) (tick * stamp)) (phase + tick * stamp) (g % wrap + period)
+      (differ-minus (subℕ phase period) (subℕ (g % wrap) (tick * stamp)) phase period (g % wrap) (tick * stamp) (differ-sub phase period) (differ-sub (g % wrap) (tick * stamp)))
+      (omega arith) (omega arith))
+
+  module _ {x y : ℤ} (ex : x ≡ subℕ phase period) (ey : y ≡ latency g stamp) (hx : SFits w64 x) (hy : SFits w64 y) where
+    differ-both : x -ℤ y ≡ subℕ phase period -ℤ latency g stamp
+    differ-both = ap (λ (z : ℤ). z -ℤ y) ex ∙ ap (λ (z : ℤ). subℕ phase period -ℤ z) ey
+
+    both-fit : SFits w64 (x -ℤ y)
+    both-fit = subst (SFits w64) (sym differ-both) offset-fits
+
+    pub offset-made : SFits w64 (toZ w64 (ofZ w64 x) -ℤ toZ w64 (ofZ w64 y))
+    offset-made = less-fits x y hx hy both-fit
+
+    pub offset-read : toZ w64 (ofZ w64 (toZ w64 (ofZ w64 x) -ℤ toZ w64 (ofZ w64 y))) ≡ subℕ phase period -ℤ latency g stamp
+    offset-read = less-is x y hx hy both-fit ∙ differ-both

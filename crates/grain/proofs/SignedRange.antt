@@ -8,6 +8,7 @@ use lib.IntN.{ℤ, pos, negsuc, subℕ, _-ℤ_}
 use mir.Syntax.{w64}
 use mir.Val.{SFits, toZ, ofZ}
 use mir.Facts.{toZ-pos, toZ-ofZ}
+use Rattle.laws.specs.Differ.{Differ}
 
 pub below-zero : (a b : ℕ) → a < b → subℕ a b ≡ negsuc (b - suc a)
 below-zero a b h = simp (lt-ltb a b h)
@@ -29,3 +30,19 @@ module _ (d : ℕ) (h : d < 2 ^ 63) where
 
   pub negative-is : toZ w64 (ofZ w64 (negsuc 0 -ℤ toZ w64 d)) ≡ negsuc d
   negative-is = ap (λ (z : ℤ). toZ w64 (ofZ w64 z)) minus-one-less ∙ toZ-ofZ {w = w64} {z = negsuc d} (record { sfits = h })
+
+-- a difference of two numbers below 2^63 fits
+pub differ-fits : (z : ℤ) (a b : ℕ) → Differ z a b → a < 2 ^ 63 → b < 2 ^ 63 → SFits w64 z
+differ-fits (pos n) a b d h k = record { sfits = omega arith }
+differ-fits (negsuc n) a b d h k = record { sfits = omega arith }
+
+-- what is read back of a difference of two numbers that were read back
+module _ (a b : ℤ) (ha : SFits w64 a) (hb : SFits w64 b) where
+  both-back : toZ w64 (ofZ w64 a) -ℤ toZ w64 (ofZ w64 b) ≡ a -ℤ b
+  both-back = ap (λ (x : ℤ). x -ℤ toZ w64 (ofZ w64 b)) (toZ-ofZ ha) ∙ ap (λ (y : ℤ). a -ℤ y) (toZ-ofZ hb)
+
+  pub less-fits : SFits w64 (a -ℤ b) → SFits w64 (toZ w64 (ofZ w64 a) -ℤ toZ w64 (ofZ w64 b))
+  less-fits h = rw both-back h
+
+  pub less-is : SFits w64 (a -ℤ b) → toZ w64 (ofZ w64 (toZ w64 (ofZ w64 a) -ℤ toZ w64 (ofZ w64 b))) ≡ a -ℤ b
+  less-is h = ap (λ (z : ℤ). toZ w64 (ofZ w64 z)) both-back ∙ toZ-ofZ h

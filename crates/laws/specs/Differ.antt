@@ -48,6 +48,12 @@ lt-differ (pos n) (negsuc m) a b c d p q e = absurd (e .lt)
 lt-differ (negsuc n) (pos m) a b c d p q e = omega arith
 lt-differ (negsuc n) (negsuc m) a b c d p q e = omega (arith, leb→le (suc m) n (e .lt))
 
+pub both-ways : (z w : ℤ) → z ≤ℤ w → w ≤ℤ z → z ≡ w
+both-ways (pos n) (pos m) h k = ap pos (omega (arith, leb→le n m (h .le), leb→le m n (k .le)))
+both-ways (pos n) (negsuc m) h k = absurd (h .le)
+both-ways (negsuc n) (pos m) h k = absurd (k .le)
+both-ways (negsuc n) (negsuc m) h k = ap negsuc (omega (arith, leb→le m n (h .le), leb→le n m (k .le)))
+
 pub differ-neg : (n : ℕ) → Differ (negℤ (pos n)) 0 n
 differ-neg zero = omega arith
 differ-neg (suc n) = omega arith

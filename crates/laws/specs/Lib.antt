@@ -1,4 +1,5 @@
 pub mod Choose
+pub mod Climb
 pub mod Most
 pub mod Count
 pub mod Seek

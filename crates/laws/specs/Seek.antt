@@ -36,3 +36,9 @@ seek-is p (suc m) = go (ltb (seek p m) m) refl (p m) refl (seek-is p m)
     go false e false f ih =
         let none-yet : seek p m ≡ m = omega (arith, ltb-false (seek p m) m e, ih .within) in
         record { within = omega arith; before = up-to (λ k. p k ≡ false) m (λ k l. ih .before k (omega arith)) f; here = λ h. absurd (omega arith) }
+
+-- two tests that agree below m have one lowest there
+pub seek-same : (p q : ℕ → Bool) (m : ℕ) → ((i : ℕ) → i < m → p i ≡ q i) → seek p m ≡ seek q m
+unfolding seek
+seek-same p q zero h = refl
+seek-same p q (suc m) h = rw (seek-same p q m (λ i l. h i (omega arith)), h m (omega arith))

@@ -1,0 +1,25 @@
+-- The answer by the kind and the two tests, in order.
+use mathlib.Core.Path.{sym, _∙_}
+use native.Mathlib.Omega.{arith}
+use Rattle.frame.proofs.FrameKinds.{answer-broken, answer-under, answer-over, answer-pass}
+use borrow.Author.Needs.{needs}
+use Rattle.frame.proofs.Frame.answer.Statement.{statement}
+use Rattle.frame.proofs.Frame.answer.Tie as tie
+
+kind-requires : tie.Need-kind-requires
+kind-requires c κs = search needs
+
+returns : tie.Need-returns
+returns c = answer-broken _ _ _ (λ z. c .if1 .taken (c .before .kind .ensures ∙ z))
+
+returns-2 : tie.Need-returns-2
+returns-2 c = answer-under _ _ _ (omega arith) (omega arith)
+
+returns-3 : tie.Need-returns-3
+returns-3 c = answer-over _ _ _ (omega arith) (omega arith) (omega arith)
+
+returns-4 : tie.Need-returns-4
+returns-4 c = answer-pass _ _ _ (omega arith) (omega arith) (omega arith)
+
+pub answer-spec : {M : Type 1} → statement M
+answer-spec = tie.close (tie.spec kind-requires returns returns-2 returns-3 returns-4)

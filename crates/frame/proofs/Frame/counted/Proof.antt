@@ -1,0 +1,47 @@
+-- Each number of the frame by the function that makes it.
+use Rattle.frame.specs.Step.{countedOf}
+use borrow.Author.Needs.{needs}
+use Rattle.frame.proofs.Frame.counted.Statement.{statement}
+use Rattle.frame.proofs.Frame.counted.Tie as tie
+
+lowest-requires : tie.Need-lowest-requires
+lowest-requires c κs = search needs
+
+lowest-requires-2 : tie.Need-lowest-requires-2
+lowest-requires-2 c κs = search needs
+
+add-less : tie.Need-add-less
+add-less c = search needs
+
+less-requires : tie.Need-less-requires
+less-requires c κs = search needs
+
+greater-requires : tie.Need-greater-requires
+greater-requires c κs = search needs
+
+less-requires-2 : tie.Need-less-requires-2
+less-requires-2 c κs = search needs
+
+greater-requires-2 : tie.Need-greater-requires-2
+greater-requires-2 c κs = search needs
+
+add-self : tie.Need-add-self
+add-self c = search needs
+
+returns : tie.Need-returns
+unfolding countedOf
+returns c = cc
+
+pub counted-spec : {M : Type 1} → statement M
+counted-spec =
+    tie.close
+    (tie.spec
+    lowest-requires
+    lowest-requires-2
+    add-less
+    less-requires
+    greater-requires
+    less-requires-2
+    greater-requires-2
+    add-self
+    returns)

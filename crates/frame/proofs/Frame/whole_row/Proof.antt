@@ -1,0 +1,91 @@
+-- Each of the ten numbers is read back as it was made, since it fits.
+use lib.IntN.{pos}
+use mathlib.Core.Path.{_≡_, sym, ap, _∙_}
+use Prim.Native.Nat.{_*_, _-_, _+_}
+use native.Mathlib.Omega.{arith}
+use mir.Syntax.{w64}
+use mir.Facts.{toZ-pos, toZ-ofZ}
+use Rattle.grain.proofs.EncodedTime.{offset-made, offset-read}
+use Rattle.frame.specs.Step.{wholeRow}
+use borrow.Author.Needs.{needs}
+use Rattle.frame.proofs.Frame.whole_row.Statement.{statement}
+use Rattle.frame.proofs.Frame.whole_row.Tie as tie
+
+difference-requires : tie.Need-difference-requires
+difference-requires c κs = search needs
+
+video-latency-requires : tie.Need-video-latency-requires
+video-latency-requires c κs = search needs
+
+sub-offset : tie.Need-sub-offset
+sub-offset c = let s = c .before .before in
+    let a = s .args in
+    let d = c .before .difference in
+    let v = c .video-latency in
+    offset-made (27 * a .self .first) (a .self .stamp) (a .self .phase) (a .plan .period) (omega arith) (omega arith) (omega arith)
+    (d .ensures) (v .ensures) (record { sfits = d .ok }) (record { sfits = v .ok })
+
+cast-t8 : tie.Need-cast-t8
+cast-t8 c = search needs
+
+add-difference : tie.Need-add-difference
+add-difference c = search needs
+
+difference-requires-2 : tie.Need-difference-requires-2
+difference-requires-2 c κs = search needs
+
+sub-t11 : tie.Need-sub-t11
+sub-t11 c = search needs
+
+mul-t12 : tie.Need-mul-t12
+mul-t12 c = search needs
+
+cast-t13 : tie.Need-cast-t13
+cast-t13 c = search needs
+
+cast-t14 : tie.Need-cast-t14
+cast-t14 c = search needs
+
+difference-requires-3 : tie.Need-difference-requires-3
+difference-requires-3 c κs = search needs
+
+returns : tie.Need-returns
+unfolding wholeRow
+returns c = let s = c .before .before .before .before .before .before .before in
+    let a = s .args in
+    let d = c .before .before .before .before .before .before .difference in
+    let v = c .before .before .before .before .before .video-latency in
+    let m = c .before .before .before .difference2 in
+    let fpt = toZ-ofZ {w = w64} (record { sfits = d .ok }) ∙ d .ensures in
+    let offset = offset-read (27 * a .self .first) (a .self .stamp) (a .self .phase) (a .plan .period) (omega arith) (omega arith) (omega arith)
+    (d .ensures) (v .ensures) (record { sfits = d .ok }) (record { sfits = v .ok }) in
+    let latency = toZ-ofZ {w = w64} (record { sfits = v .ok }) ∙ v .ensures in
+    λ j. record {
+      number = toZ-pos w64 {n = a .number} (omega arith) j;
+      kind = pos 0;
+      detail = pos 0;
+      fpt = fpt j;
+      offset = offset j;
+      latency = latency j;
+      margin = (toZ-ofZ {w = w64} (record { sfits = m .ok }) ∙ m .ensures) j;
+      gap = toZ-pos w64 {n = 27 * (a .self .first - a .marked)} (omega arith) j;
+      peak = toZ-pos w64 {n = a .self .top} (omega arith) j;
+      least = (toZ-ofZ {w = w64} (record { sfits = c .difference3 .ok }) ∙ c .difference3 .ensures) j;
+    }
+
+pub whole-row-spec : {M : Type 1} → statement M
+whole-row-spec =
+    tie.close
+    (tie.spec
+    difference-requires
+    video-latency-requires
+    sub-offset
+    cast-t8
+    add-difference
+    difference-requires-2
+    sub-t11
+    mul-t12
+    cast-t13
+    cast-t14
+    difference-requires-3
+    returns)

@@ -1,0 +1,65 @@
+-- Kind, row and answer of a frame, case by case, each from the facts that its branch of the code has found.
+use mathlib.Core.Path.{_≡_, refl, sym}
+use Prim.Native.Nat.{ℕ, _≤_, _<_}
+use native.Mathlib.Omega.{arith}
+use lib.Dec.{eqb, ltb}
+use borrow.Author.Tests.{lt-ltb, le-ltb, eq-eqb, ne-eqb}
+use Rattle.laws.specs.Choose.{pick-either}
+use Rattle.frame.specs.declared.Plan.{Plan}
+use Rattle.frame.specs.declared.Frame.{Frame}
+use Rattle.frame.specs.declared.Buffer.{Buffer}
+use Rattle.frame.specs.declared.Buffer.the-variants.{None, Pass, Under, Over}
+use Rattle.frame.specs.Step.{kindOf, detailOf, wholeRow, brokenRow, rowOf, answerOf}
+
+module _ (f : Frame) (n : ℕ) where
+  pub kind-short : f .held < n → 1 ≡ kindOf f n
+  unfolding kindOf
+  kind-short h = rw (lt-ltb (f .held) n h)
+
+  pub kind-long : n < f .held → 2 ≡ kindOf f n
+  unfolding kindOf
+  kind-long h = rw (le-ltb (f .held) n (omega arith), lt-ltb n (f .held) h)
+
+  pub kind-stamp : n ≤ f .held → f .held ≤ n → f .differs < f .held → 3 ≡ kindOf f n
+  unfolding kindOf
+  kind-stamp h k d = rw (le-ltb (f .held) n h, le-ltb n (f .held) k, lt-ltb (f .differs) (f .held) d)
+
+  pub kind-whole : n ≤ f .held → f .held ≤ n → f .held ≤ f .differs → 0 ≡ kindOf f n
+  unfolding kindOf
+  kind-whole h k d = rw (le-ltb (f .held) n h, le-ltb n (f .held) k, le-ltb (f .differs) (f .held) d)
+
+pub kind-small : (f : Frame) (n : ℕ) → kindOf f n ≤ 3
+unfolding kindOf
+kind-small f n =
+    pick-either (λ k. k ≤ 3) (ltb (f .held) n) (λ e. omega arith) (λ e.
+    pick-either (λ k. k ≤ 3) (ltb n (f .held)) (λ e. omega arith) (λ e.
+    pick-either (λ k. k ≤ 3) (ltb (f .differs) (f .held)) (λ e. omega arith) (λ e. omega arith)))
+
+pub detail-small : (f : Frame) (kind : ℕ) {m : ℕ} → f .held ≤ m → f .differs ≤ m → detailOf f kind ≤ m
+detail-small f kind {m} h d =
+    pick-either (λ k. k ≤ m) (eqb kind 3) (λ e. d) (λ e. pick-either (λ k. k ≤ m) (eqb kind 0) (λ e. omega arith) (λ e. h))
+
+module _ (plan : Plan) (number : ℕ) (f : Frame) where
+  pub row-whole : (marked : ℕ) → kindOf f (plan .packets) ≡ 0 → wholeRow plan number marked f ≡ rowOf plan number marked f
+  unfolding rowOf
+  row-whole marked e = rw (eq-eqb (kindOf f (plan .packets)) 0 e)
+
+  pub row-broken : (marked kind : ℕ) → kind ≡ kindOf f (plan .packets) → (kind ≡ 0 → ⊥) → brokenRow number kind (detailOf f kind) ≡ rowOf plan number marked f
+  unfolding rowOf
+  row-broken marked kind e b = rw e (rw (ne-eqb (kindOf f (plan .packets)) 0 (rw e at b)))
+
+  pub answer-broken : (kindOf f (plan .packets) ≡ 0 → ⊥) → None ≡ answerOf plan number f
+  unfolding answerOf
+  answer-broken b = rw (ne-eqb (kindOf f (plan .packets)) 0 b)
+
+  pub answer-under : kindOf f (plan .packets) ≡ 0 → 0 < f .deficit → Under (record { frame = number; place = f .late }) ≡ answerOf plan number f
+  unfolding answerOf
+  answer-under e d = rw (eq-eqb (kindOf f (plan .packets)) 0 e, lt-ltb 0 (f .deficit) d)
+
+  pub answer-over : kindOf f (plan .packets) ≡ 0 → f .deficit ≤ 0 → plan .full < f .top → Over (record { frame = number; place = f .top }) ≡ answerOf plan number f
+  unfolding answerOf
+  answer-over e d t = rw (eq-eqb (kindOf f (plan .packets)) 0 e, le-ltb 0 (f .deficit) d, lt-ltb (plan .full) (f .top) t)
+
+  pub answer-pass : kindOf f (plan .packets) ≡ 0 → f .deficit ≤ 0 → f .top ≤ plan .full → Pass ≡ answerOf plan number f
+  unfolding answerOf
+  answer-pass e d t = rw (eq-eqb (kindOf f (plan .packets)) 0 e, le-ltb 0 (f .deficit) d, le-ltb (plan .full) (f .top) t)

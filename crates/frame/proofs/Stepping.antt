@@ -1,0 +1,116 @@
+-- The code's step, packet by packet, goes through the states that the whole history declares by place, and writes the rows that it declares.
+use mathlib.Core.Path.{_≡_, refl, sym, ap, _∙_}
+use mathlib.Core.Bool.{Bool, true, false, _&&_}
+use mathlib.Core.List.{List, [], _∷_}
+use Prim.Native.Nat.{ℕ, zero, suc, _+_, _-_}
+use native.Mathlib.Omega.{arith}
+use native.Mathlib.Nat.{add-sub-of-le, sub-self, add-zero}
+use Rattle.laws.specs.Choose.{pick}
+use Rattle.laws.specs.Count.{count}
+use Rattle.frame.specs.declared.Plan.{Plan}
+use Rattle.frame.specs.declared.Frame.{Frame}
+use Rattle.frame.specs.declared.Frames.{Frames}
+use Rattle.frame.specs.declared.Row.{Row}
+use Rattle.frame.specs.declared.Buffer.{Buffer}
+use Rattle.frame.specs.declared.Buffer.the-variants.{None, Pass, Under, Over}
+use Rattle.frame.specs.Paper.{History, begunAt, closesAt, numberAt, since, heldAt}
+use Rattle.frame.specs.Step.{emptyOf, pushOf, rowOf, answerOf, joined, noFrames, arriveOf, closeOf, stepOf, rowsOf}
+use Rattle.frame.specs.ByPlace.{keptOf, frameFrom, openAt, closedAt, markedTime, answerAt, bufferAt, framesAt, rowsAt}
+use Rattle.frame.proofs.Stretches.{since-is, one-more, begun-next}
+use Rattle.frame.proofs.Keeping.{kept-step}
+
+pub joined-none : (b : Buffer) → joined b None ≡ b
+unfolding joined
+joined-none None = refl
+joined-none Pass = refl
+joined-none (Under p) = refl
+joined-none (Over p) = refl
+
+module _ (plan : Plan) (h : History) (i : ℕ) where
+  -- the frame with packet i pushed
+  pushed : pushOf plan (openAt plan h i) (h .time i) (h .stamp i) ≡ closedAt plan h i
+  pushed =
+      let s = since h i in
+      let here : s + (i - s) ≡ i = add-sub-of-le (since-is h i .within) in
+      rw (one-more h i) (rw here at (kept-step plan (λ j. h .time (s + j)) (λ j. h .stamp (s + j)) (i - s)))
+
+  -- a marker empties, any other packet stays in
+  open-next : (m : Bool) → h .marked i ≡ m → openAt plan h (suc i) ≡ pick m emptyOf (closedAt plan h i)
+  unfolding since keptOf
+  open-next true e = rw (e, sub-self (suc i))
+  open-next false e = rw e
+
+  current-next : (m b : Bool) → h .marked i ≡ m → begunAt h i ≡ b
+      → pick (begunAt h (suc i)) (openAt plan h (suc i)) emptyOf ≡ pick m emptyOf (pick b (closedAt plan h i) emptyOf)
+  current-next true b e f = rw (begun-next h i, e, open-next true e)
+  current-next false b e f = rw (begun-next h i, e, open-next false e, f)
+
+  buffer-next : (m b : Bool) → joined (bufferAt plan h i) (pick (m && b) (answerOf plan (numberAt h i) (closedAt plan h i)) None)
+      ≡ pick (m && b) (joined (bufferAt plan h i) (answerOf plan (numberAt h i) (closedAt plan h i))) (bufferAt plan h i)
+  buffer-next true true = refl
+  buffer-next true false = joined-none (bufferAt plan h i)
+  buffer-next false b = joined-none (bufferAt plan h i)
+
+  abbrev Next : Bool → Bool → Frames
+  Next m b = record {
+    begun = pick m true b;
+    closed = numberAt h i + pick (m && b) 1 0;
+    marked = pick m (h .time i) (markedTime plan h i);
+    current = pick m emptyOf (pick b (closedAt plan h i) emptyOf);
+    buffer = pick (m && b) (joined (bufferAt plan h i) (answerOf plan (numberAt h i) (closedAt plan h i))) (bufferAt plan h i);
+  }
+
+  module _ (m b : Bool) (e : h .marked i ≡ m) (f : begunAt h i ≡ b) where
+    begun-at-next : begunAt h (suc i) ≡ pick m true b
+    begun-at-next = rw (begun-next h i, e, f)
+
+    closed-next : numberAt h (suc i) ≡ numberAt h i + pick (m && b) 1 0
+    unfolding count
+    closed-next = ap (λ (t : Bool). numberAt h i + pick (t && begunAt h i) 1 0) e ∙ ap (λ (t : Bool). numberAt h i + pick (m && t) 1 0) f
+
+    marked-next : markedTime plan h (suc i) ≡ pick m (h .time i) (markedTime plan h i)
+    unfolding markedTime
+    marked-next = ap (λ (t : Bool). pick t (h .time i) (markedTime plan h i)) e
+
+    answers-next : bufferAt plan h (suc i) ≡ pick (m && b) (joined (bufferAt plan h i) (answerOf plan (numberAt h i) (closedAt plan h i))) (bufferAt plan h i)
+    unfolding bufferAt
+    answers-next =
+        ap (λ (t : Bool). joined (bufferAt plan h i) (pick (t && begunAt h i) (answerOf plan (numberAt h i) (closedAt plan h i)) None)) e
+        ∙ ap (λ (t : Bool). joined (bufferAt plan h i) (pick (m && t) (answerOf plan (numberAt h i) (closedAt plan h i)) None)) f
+        ∙ buffer-next m b
+
+    declared-next : framesAt plan h (suc i) ≡ Next m b
+    unfolding framesAt
+    declared-next = λ j. record {
+      begun = begun-at-next j;
+      closed = closed-next j;
+      marked = marked-next j;
+      current = current-next m b e f j;
+      buffer = answers-next j;
+    }
+
+  -- the code's step from the declared state, by cases on the marker and the lead-in
+  step-next : (m b : Bool) → begunAt h i ≡ b → stepOf plan (framesAt plan h i) (h .time i) (h .stamp i) m ≡ Next m b
+  unfolding stepOf framesAt arriveOf closeOf
+  step-next true true f = rw (f, pushed)
+  step-next true false f = rw f
+  step-next false true f = rw (f, pushed, add-zero)
+  step-next false false f = rw (f, add-zero)
+
+  pub frames-step : stepOf plan (framesAt plan h i) (h .time i) (h .stamp i) (h .marked i) ≡ framesAt plan h (suc i)
+  frames-step = step-next (h .marked i) (begunAt h i) refl ∙ sym (declared-next (h .marked i) (begunAt h i) refl refl)
+
+  rows-next : (m b : Bool) → begunAt h i ≡ b
+      → rowsOf plan (framesAt plan h i) (h .time i) (h .stamp i) m ≡ pick (m && b) (rowOf plan (numberAt h i) (markedTime plan h i) (closedAt plan h i) ∷ []) []
+  unfolding rowsOf framesAt arriveOf
+  rows-next true true f = rw (f, pushed)
+  rows-next true false f = rw f
+  rows-next false b f = refl
+
+  pub rows-step : rowsOf plan (framesAt plan h i) (h .time i) (h .stamp i) (h .marked i) ≡ rowsAt plan h i
+  rows-step = rows-next (h .marked i) (begunAt h i) refl
+
+-- before the first packet
+pub frames-first : (plan : Plan) (h : History) → framesAt plan h 0 ≡ noFrames
+unfolding framesAt count
+frames-first plan h = refl

@@ -1,0 +1,81 @@
+-- What the steps keep, by place: of the open frame after k packets, and of all the frames before packet i of the history.
+use mathlib.Core.Path.{_≡_}
+use mathlib.Core.Bool.{Bool, true, false, not, _&&_}
+use mathlib.Core.List.{List, [], _∷_}
+use Prim.Native.Nat.{ℕ, zero, suc, _+_, _-_, _*_}
+use lib.Dec.{ltb, eqb}
+use Rattle.laws.specs.Choose.{pick}
+use Rattle.laws.specs.Most.{most}
+use Rattle.laws.specs.Count.{count}
+use Rattle.laws.specs.Seek.{seek}
+use Rattle.grain.specs.Paper.{phase, readsBefore}
+use Rattle.frame.specs.declared.Plan.{Plan}
+use Rattle.frame.specs.declared.Frame.{Frame}
+use Rattle.frame.specs.declared.Frames.{Frames}
+use Rattle.frame.specs.declared.Row.{Row}
+use Rattle.frame.specs.declared.Buffer.{Buffer}
+use Rattle.frame.specs.declared.Buffer.the-variants.{None, Pass, Under, Over}
+use Rattle.frame.specs.Paper.{History, begunAt, closesAt, numberAt, since, heldAt}
+use Rattle.frame.specs.Step.{emptyOf, rowOf, answerOf, joined}
+
+-- a frame's packets: packet j of it arrives at time j
+module _ (plan : Plan) (time stamp : ℕ → ℕ) where
+  abbrev pub readsFrom : ℕ → ℕ
+  readsFrom j =
+      readsBefore (plan .packets) (plan .tro + plan .period) (plan .num) (plan .den) (27 * (time j - time 0) + phase (27 * time 0) (plan .period))
+
+  -- what is kept of the first k of them
+  unfoldable pub keptOf : ℕ → Frame
+  unfolding most seek
+  keptOf zero = emptyOf
+  keptOf (suc k) = record {
+    held = suc k;
+    first = time 0;
+    stamp = stamp 0;
+    phase = phase (27 * time 0) (plan .period);
+    differs = seek (λ j. not (eqb (stamp j) (stamp 0))) (suc k);
+    reads = readsFrom k;
+    top = most (λ j. suc j - readsFrom j) (suc k);
+    deficit = most (λ j. readsFrom j - j) (suc k);
+    late = seek (λ j. ltb j (readsFrom j)) (suc k);
+  }
+
+module _ (plan : Plan) (h : History) where
+  -- what is kept of the frame that begins at packet s after k packets of it
+  abbrev pub frameFrom : ℕ → ℕ → Frame
+  frameFrom s k = keptOf plan (λ j. h .time (s + j)) (λ j. h .stamp (s + j)) k
+
+  -- of the frame that packet i is in: before it, and with it
+  abbrev pub openAt : ℕ → Frame
+  openAt i = frameFrom (since h i) (i - since h i)
+
+  abbrev pub closedAt : ℕ → Frame
+  closedAt i = frameFrom (since h i) (heldAt h i)
+
+  -- the arrival of the last marker packet before packet i; 0 where there is none
+  unfoldable pub markedTime : ℕ → ℕ
+  markedTime zero = 0
+  markedTime (suc i) = pick (h .marked i) (h .time i) (markedTime i)
+
+  abbrev pub answerAt : ℕ → Buffer
+  answerAt i = pick (closesAt h i) (answerOf plan (numberAt h i) (closedAt i)) None
+
+  unfoldable pub bufferAt : ℕ → Buffer
+  unfolding joined
+  bufferAt zero = None
+  bufferAt (suc i) = joined (bufferAt i) (answerAt i)
+
+  -- all that is kept before packet i
+  unfoldable pub framesAt : ℕ → Frames
+  unfolding bufferAt markedTime
+  framesAt i = record {
+    begun = begunAt h i;
+    closed = numberAt h i;
+    marked = markedTime i;
+    current = pick (begunAt h i) (openAt i) emptyOf;
+    buffer = bufferAt i;
+  }
+
+  -- the rows that packet i writes
+  abbrev pub rowsAt : ℕ → List Row
+  rowsAt i = pick (closesAt h i) (rowOf plan (numberAt h i) (markedTime i) (closedAt i) ∷ []) []

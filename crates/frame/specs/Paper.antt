@@ -1,0 +1,199 @@
+-- Document 01's "Packets and frames" and "A row, and the verdict", over the whole history by place, for any plan.
+use mathlib.Core.Path.{_≡_}
+use mathlib.Core.Bool.{Bool, true, false, not, _&&_}
+use Prim.Native.Nat.{ℕ, zero, suc, pred, _+_, _-_, _*_, _≤_, _<_}
+use lib.Dec.{ltb, leb, eqb}
+use lib.IntN.{ℤ, pos, subℕ, _-ℤ_}
+use lib.Signed.{_≤ℤ_, _<ℤ_}
+use Rattle.laws.specs.Choose.{pick}
+use Rattle.laws.specs.Count.{count}
+use Rattle.laws.specs.Seek.{seek, Lowest}
+use Rattle.grain.specs.Paper.{grains, frameTime, firstPacketTime, rtpOffset, latency, readsBefore}
+use Rattle.frame.specs.declared.Plan.{Plan}
+use Rattle.frame.specs.declared.Row.{Row}
+use Rattle.frame.specs.declared.Place.{Place}
+use Rattle.frame.specs.declared.Buffer.{Buffer}
+use Rattle.frame.specs.declared.Buffer.the-variants.{None, Pass, Under, Over}
+
+-- A history as the frames see it: packet i arrives at time i, in nanoseconds.
+pub record History : Type 0 where
+  pub packets : ℕ
+  pub time : ℕ → ℕ
+  pub stamp : ℕ → ℕ
+  pub marked : ℕ → Bool
+
+-- ---- which packets are a frame
+
+module _ (h : History) where
+  -- "Packets up to and including the first marker are the lead-in: [..] in no frame.": it is over before packet i
+  abbrev pub begunAt : ℕ → Bool
+  begunAt i = ltb 0 (count (h .marked) i)
+
+  -- "After that each marker closes a frame."
+  abbrev pub closesAt : ℕ → Bool
+  closesAt i = h .marked i && begunAt i
+
+  -- "frame number from 0": how many frames are closed before packet i
+  abbrev pub numberAt : ℕ → ℕ
+  numberAt i = count closesAt i
+
+  -- the place after the last marker before packet i, where the frame that it is in began; 0 where there is none
+  unfoldable pub since : ℕ → ℕ
+  since zero = 0
+  since (suc i) = pick (h .marked i) (suc i) (since i)
+
+  -- which is to say: no marker from there up to packet i, and a marker just before. One place is so: proofs/Stretches.antt
+  pub record Began (i s : ℕ) : Type 0 where
+    pub within : s ≤ i
+    pub clear : (k : ℕ) → s ≤ k → k < i → h .marked k ≡ false
+    pub after : 0 < s → h .marked (pred s) ≡ true
+
+  -- the packets of the frame that packet i is in, it included
+  abbrev pub heldAt : ℕ → ℕ
+  heldAt i = suc i - since i
+
+module _ (plan : Plan) (h : History) where
+  -- ---- its kind
+
+  -- the place in the frame, from 0, of the first timestamp that differs from the first packet's; the number of its packets where none does
+  abbrev pub differsAt : ℕ → ℕ
+  differsAt i = seek (λ j. not (eqb (h .stamp (since h i + j)) (h .stamp (since h i)))) (heldAt h i)
+
+  -- "Kinds, tried in this order: 1 short (fewer than n), 2 long (more than n), 3 stamp (some timestamp differs from the first packet's), 0 whole."
+  abbrev pub kindAt : ℕ → ℕ
+  kindAt i = pick (ltb (heldAt h i) (plan .packets)) 1 (pick (ltb (plan .packets) (heldAt h i)) 2 (pick (ltb (differsAt i) (heldAt h i)) 3 0))
+
+  -- "detail (count for 1 and 2, place in the frame, from 0, of the first differing timestamp for 3, else 0)"
+  abbrev pub detailAt : ℕ → ℕ
+  detailAt i = pick (eqb (kindAt i) 3) (differsAt i) (pick (eqb (kindAt i) 0) 0 (heldAt h i))
+
+  -- ---- what is measured of a whole frame that begins at packet s
+
+  module _ (s : ℕ) where
+    -- the arrival of its packet j, in grains
+    abbrev pub arrival : ℕ → ℕ
+    arrival j = grains (h .time (s + j))
+
+    -- "T_CF + TRO", where read 0 is
+    abbrev pub firstRead : ℕ
+    firstRead = frameTime (arrival 0) (plan .period) + plan .tro
+
+    -- "the frame's reads strictly before its arrival", of packet j
+    abbrev pub readsTo : ℕ → ℕ
+    readsTo j = readsBefore (plan .packets) firstRead (plan .num) (plan .den) (arrival j)
+
+    -- "Level just after packet j: j + 1 less the frame's reads strictly before its arrival."
+    abbrev pub levelOf : ℕ → ℤ
+    levelOf j = subℕ (suc j) (readsTo j)
+
+    -- "The frame's peak is the greatest of these."
+    pub record PeakIs (z : ℤ) : Type 0 where
+      pub bound : (j : ℕ) → j < plan .packets → levelOf j ≤ℤ z
+      pub met : (j : ℕ) × (j < plan .packets) × (z ≡ levelOf j)
+
+    -- "At one instant arrivals come before reads.": the frame's packets arrived by read j
+    abbrev pub arrivedBy : ℕ → ℕ
+    arrivedBy j = count (λ i. leb (arrival i * plan .den) (firstRead * plan .den + j * plan .num)) (plan .packets)
+
+    -- "Least is the smallest, over all n reads, of the frame's packets arrived by that read less reads done, that one included."
+    pub record LeastIs (z : ℤ) : Type 0 where
+      pub bound : (j : ℕ) → j < plan .packets → z ≤ℤ subℕ (arrivedBy j) (suc j)
+      pub met : (j : ℕ) × (j < plan .packets) × (z ≡ subℕ (arrivedBy j) (suc j))
+
+    -- "one of its packets comes after its read time"
+    abbrev pub late : ℕ → Bool
+    late j = ltb (firstRead * plan .den + j * plan .num) (arrival j * plan .den)
+
+    -- "The buffer runs dry where least is below 0."
+    abbrev pub Dry : Type 0
+    Dry = (z : ℤ) × LeastIs z × (z <ℤ pos 0)
+
+    -- "over (VRX peak above VRX_FULL)"
+    abbrev pub Overfull : Type 0
+    Overfull = (z : ℤ) × PeakIs z × (pos (plan .full) <ℤ z)
+
+    -- FPT to least: "FPT = 27t − T_CF", "RTP_OFFSET = encoded − T_CF. Latency VL = 27t − encoded. Margin = TRO − FPT. GAP = first arrival of this
+    -- frame less arrival of the marker packet before it"
+    pub record Measured (r : Row) : Type 0 where
+      pub fpt : r .fpt ≡ firstPacketTime (arrival 0) (plan .period)
+      pub offset : r .offset ≡ rtpOffset (arrival 0) (h .stamp s) (plan .period)
+      pub latency : r .latency ≡ latency (arrival 0) (h .stamp s)
+      pub margin : r .margin ≡ pos (plan .tro) -ℤ firstPacketTime (arrival 0) (plan .period)
+      pub gap : r .gap ≡ subℕ (arrival 0) (grains (h .time (pred s)))
+      pub peak : PeakIs (r .peak)
+      pub least : LeastIs (r .least)
+
+  -- ---- the row
+
+  -- "For kinds 1 to 3 the last seven are 0."
+  pub record Zeros (r : Row) : Type 0 where
+    pub fpt : r .fpt ≡ pos 0
+    pub offset : r .offset ≡ pos 0
+    pub latency : r .latency ≡ pos 0
+    pub margin : r .margin ≡ pos 0
+    pub gap : r .gap ≡ pos 0
+    pub peak : r .peak ≡ pos 0
+    pub least : r .least ≡ pos 0
+
+  -- "A closed frame writes ten numbers": those of the frame that packet i closes
+  pub record RowIs (i : ℕ) (r : Row) : Type 0 where
+    pub number : r .number ≡ pos (numberAt h i)
+    pub kind : r .kind ≡ pos (kindAt i)
+    pub detail : r .detail ≡ pos (detailAt i)
+    pub whole : kindAt i ≡ 0 → Measured (since h i) r
+    pub broken : (kindAt i ≡ 0 → ⊥) → Zeros r
+
+  -- ---- the buffer answer
+
+  -- packet i closes a whole frame
+  pub record Whole (i : ℕ) : Type 0 where
+    pub closing : closesAt h i ≡ true
+    pub whole : kindAt i ≡ 0
+
+  -- which the buffer fails
+  pub data Fails (i : ℕ) : Type 0 where
+    dry : Dry (since h i) → Fails i
+    overfull : Overfull (since h i) → Fails i
+
+  -- "under (least below 0) with frame and the lowest j whose packet arrives after read j", decided by the frame that packet i closes
+  pub record UnderAt (i : ℕ) (p : Place) : Type 0 where
+    pub whole : Whole i
+    pub frame : p .frame ≡ numberAt h i
+    pub dry : Dry (since h i)
+    pub place : Lowest (late (since h i)) (plan .packets) (p .place)
+    pub first : (k : ℕ) → k < i → Whole k → ¬ Fails k
+
+  -- "over (VRX peak above VRX_FULL) with frame and peak"; "in one frame under goes first"
+  pub record OverAt (i : ℕ) (p : Place) : Type 0 where
+    pub whole : Whole i
+    pub frame : p .frame ≡ numberAt h i
+    pub not-dry : ¬ Dry (since h i)
+    pub peak : PeakIs (since h i) (pos (p .place))
+    pub over : plan .full < p .place
+    pub first : (k : ℕ) → k < i → Whole k → ¬ Fails k
+
+  -- "Buffer: none (no whole frame yet); pass; under [..]; over [..]. The first failing frame decides"
+  abbrev pub BufferIs : Buffer → Type 0
+  BufferIs None = (i : ℕ) → i < h .packets → ¬ Whole i
+  BufferIs Pass = ((i : ℕ) × (i < h .packets) × Whole i) × ((i : ℕ) → i < h .packets → Whole i → ¬ Fails i)
+  BufferIs (Under p) = (i : ℕ) × (i < h .packets) × UnderAt i p
+  BufferIs (Over p) = (i : ℕ) × (i < h .packets) × OverAt i p
+
+-- The paper's numbers for each case of the answer: "buffer 0 none, 1 pass, 2 under or 3 over, frame, packet or peak; 0 where there is none".
+abbrev pub bufferNumber : Buffer → ℕ
+bufferNumber None = 0
+bufferNumber Pass = 1
+bufferNumber (Under p) = 2
+bufferNumber (Over p) = 3
+
+abbrev pub bufferFrame : Buffer → ℕ
+bufferFrame None = 0
+bufferFrame Pass = 0
+bufferFrame (Under p) = p .frame
+bufferFrame (Over p) = p .frame
+
+abbrev pub bufferPlace : Buffer → ℕ
+bufferPlace None = 0
+bufferPlace Pass = 0
+bufferPlace (Under p) = p .place
+bufferPlace (Over p) = p .place

@@ -1,0 +1,34 @@
+-- What a plan and an open frame must keep to, so that nothing overflows. Each is met by every stream that set-up accepts and every accepted history.
+use mathlib.Core.Path.{_≡_}
+use Prim.Native.Nat.{ℕ, _+_, _*_, _≤_, _<_}
+use Rattle.frame.specs.declared.Plan.{Plan}
+use Rattle.frame.specs.declared.Frame.{Frame}
+
+pub record Planned (plan : Plan) : Type 0 where
+  pub long : 27 ≤ plan .period
+  pub short : plan .period ≤ 2147483648
+  pub some : 0 < plan .packets
+  pub few : plan .packets ≤ 20000
+  pub early : plan .tro < plan .period
+  pub apart : 0 < plan .num
+  pub near : plan .num ≤ 24 * plan .period
+  pub divided : plan .den ≤ 500000
+
+-- before a packet that arrives at t: an open frame that holds packets began at most 600 s before
+pub record Pushable (plan : Plan) (f : Frame) (t : ℕ) : Type 0 where
+  pub few : f .held < 1000000000
+  pub order : 0 < f .held → f .first ≤ t
+  pub near : 0 < f .held → t ≤ f .first + 600000000000
+  pub phased : f .phase ≤ 2 * plan .period
+  pub read : f .reads ≤ plan .packets
+
+-- before a row is made: the frame's first packet comes after the marker before it, at most 600 s
+pub record Rowable (plan : Plan) (number marked : ℕ) (f : Frame) : Type 0 where
+  pub few : f .held ≤ 1000000000
+  pub counted : number ≤ 1000000000
+  pub phased : f .phase ≤ 2 * plan .period
+  pub order : marked ≤ f .first
+  pub near : f .first ≤ marked + 600000000000
+  pub top : f .top ≤ 1000000000
+  pub low : f .deficit ≤ 20000
+  pub differs : f .differs ≤ 1000000000

@@ -1,0 +1,155 @@
+-- The frames step by step, as the code goes: the open frame by one packet more, its row and its answer, and what a marker closes.
+use mathlib.Core.Bool.{Bool, true, false, not, _&&_}
+use mathlib.Core.List.{List, [], _∷_}
+use Prim.Native.Nat.{ℕ, zero, suc, _+_, _-_, _*_, max}
+use lib.Dec.{ltb, eqb}
+use lib.IntN.{ℤ, pos, negℤ, subℕ, _-ℤ_}
+use Rattle.laws.specs.Choose.{pick}
+use Rattle.grain.specs.Paper.{phase, latency, readsBefore}
+use Rattle.frame.specs.declared.Plan.{Plan}
+use Rattle.frame.specs.declared.Frame.{Frame}
+use Rattle.frame.specs.declared.Frames.{Frames}
+use Rattle.frame.specs.declared.Row.{Row}
+use Rattle.frame.specs.declared.Place.{Place}
+use Rattle.frame.specs.declared.Buffer.{Buffer}
+use Rattle.frame.specs.declared.Buffer.the-variants.{None, Pass, Under, Over}
+
+-- ---- the open frame
+
+-- the lowest place that was hit, of those up to `place`; one more where none was
+abbrev pub lower : ℕ → ℕ → Bool → ℕ
+lower known place hit = pick (ltb known place) known (pick hit place (place + 1))
+
+abbrev pub emptyOf : Frame
+emptyOf = record { held = 0; first = 0; stamp = 0; phase = 0; differs = 0; reads = 0; top = 0; deficit = 0; late = 0 }
+
+unfoldable pub openedOf : Frame → ℕ → ℕ → ℕ → Frame
+openedOf f period t stamp = record {
+  held = f .held;
+  first = pick (eqb (f .held) 0) t (f .first);
+  stamp = pick (eqb (f .held) 0) stamp (f .stamp);
+  phase = pick (eqb (f .held) 0) (phase (27 * t) period) (f .phase);
+  differs = f .differs;
+  reads = f .reads;
+  top = f .top;
+  deficit = f .deficit;
+  late = f .late;
+}
+
+unfoldable pub countedOf : Frame → ℕ → ℕ → Frame
+countedOf f stamp reads = record {
+  held = f .held + 1;
+  first = f .first;
+  stamp = f .stamp;
+  phase = f .phase;
+  differs = lower (f .differs) (f .held) (not (eqb stamp (f .stamp)));
+  reads = reads;
+  top = max (f .top) (f .held + 1 - reads);
+  deficit = max (f .deficit) (reads - f .held);
+  late = lower (f .late) (f .held) (ltb (f .held) reads);
+}
+
+-- the frame's reads before an arrival, with all times from one period before the frame's start on
+abbrev pub readsOf : Plan → Frame → ℕ → ℕ
+readsOf plan f t = readsBefore (plan .packets) (plan .tro + plan .period) (plan .num) (plan .den) (27 * (t - f .first) + f .phase)
+
+abbrev pub pushOf : Plan → Frame → ℕ → ℕ → Frame
+pushOf plan f t stamp = countedOf (openedOf f (plan .period) t stamp) stamp (readsOf plan (openedOf f (plan .period) t stamp) t)
+
+-- ---- its kind, row and answer
+
+-- "Kinds, tried in this order: 1 short (fewer than n), 2 long (more than n), 3 stamp (some timestamp differs from the first packet's), 0 whole."
+unfoldable pub kindOf : Frame → ℕ → ℕ
+kindOf f n = pick (ltb (f .held) n) 1 (pick (ltb n (f .held)) 2 (pick (ltb (f .differs) (f .held)) 3 0))
+
+-- "detail (count for 1 and 2, place in the frame, from 0, of the first differing timestamp for 3, else 0)"
+abbrev pub detailOf : Frame → ℕ → ℕ
+detailOf f kind = pick (eqb kind 3) (f .differs) (pick (eqb kind 0) 0 (f .held))
+
+unfoldable pub wholeRow : Plan → ℕ → ℕ → Frame → Row
+wholeRow plan number marked f = record {
+  number = pos number;
+  kind = pos 0;
+  detail = pos 0;
+  fpt = subℕ (f .phase) (plan .period);
+  offset = subℕ (f .phase) (plan .period) -ℤ latency (27 * f .first) (f .stamp);
+  latency = latency (27 * f .first) (f .stamp);
+  margin = subℕ (plan .tro + plan .period) (f .phase);
+  gap = pos (27 * (f .first - marked));
+  peak = pos (f .top);
+  least = subℕ 0 (f .deficit);
+}
+
+abbrev pub brokenRow : ℕ → ℕ → ℕ → Row
+brokenRow number kind detail = record {
+  number = pos number;
+  kind = pos kind;
+  detail = pos detail;
+  fpt = pos 0;
+  offset = pos 0;
+  latency = pos 0;
+  margin = pos 0;
+  gap = pos 0;
+  peak = pos 0;
+  least = pos 0;
+}
+
+-- "For kinds 1 to 3 the last seven are 0."
+unfoldable pub rowOf : Plan → ℕ → ℕ → Frame → Row
+unfolding kindOf wholeRow
+rowOf plan number marked f =
+    pick (eqb (kindOf f (plan .packets)) 0) (wholeRow plan number marked f) (brokenRow number (kindOf f (plan .packets)) (detailOf f (kindOf f (plan .packets))))
+
+-- "under (least below 0) [..]; over (VRX peak above VRX_FULL) [..]; in one frame under goes first." A broken frame is not judged.
+unfoldable pub answerOf : Plan → ℕ → Frame → Buffer
+unfolding kindOf
+answerOf plan number f =
+    pick (eqb (kindOf f (plan .packets)) 0)
+    (pick (ltb 0 (f .deficit)) (Under (record { frame = number; place = f .late }))
+    (pick (ltb (plan .full) (f .top)) (Over (record { frame = number; place = f .top })) Pass))
+    None
+
+-- "The first failing frame decides": the answer so far, and then the next frame's
+unfoldable pub joined : Buffer → Buffer → Buffer
+joined None next = next
+joined Pass None = Pass
+joined Pass Pass = Pass
+joined Pass (Under p) = Under p
+joined Pass (Over p) = Over p
+joined (Under p) next = Under p
+joined (Over p) next = Over p
+
+-- ---- all that is kept of the frames
+
+abbrev pub noFrames : Frames
+noFrames = record { begun = false; closed = 0; marked = 0; current = emptyOf; buffer = None }
+
+-- in the lead-in a packet is in no frame
+unfoldable pub arriveOf : Plan → Frames → ℕ → ℕ → Frames
+arriveOf plan s t stamp = record {
+  begun = s .begun;
+  closed = s .closed;
+  marked = s .marked;
+  current = pick (s .begun) (pushOf plan (s .current) t stamp) (s .current);
+  buffer = s .buffer;
+}
+
+-- a marker packet, which has arrived, ends the lead-in or closes the frame
+unfoldable pub closeOf : Plan → Frames → ℕ → Frames
+unfolding answerOf joined
+closeOf plan s t = record {
+  begun = true;
+  closed = s .closed + pick (s .begun) 1 0;
+  marked = t;
+  current = emptyOf;
+  buffer = pick (s .begun) (joined (s .buffer) (answerOf plan (s .closed) (s .current))) (s .buffer);
+}
+
+unfoldable pub stepOf : Plan → Frames → ℕ → ℕ → Bool → Frames
+unfolding arriveOf closeOf
+stepOf plan s t stamp marker = pick marker (closeOf plan (arriveOf plan s t stamp) t) (arriveOf plan s t stamp)
+
+-- the row that a packet writes: none, or that of the frame it closes
+unfoldable pub rowsOf : Plan → Frames → ℕ → ℕ → Bool → List Row
+unfolding arriveOf rowOf
+rowsOf plan s t stamp marker = pick (marker && s .begun) (rowOf plan (s .closed) (s .marked) ((arriveOf plan s t stamp) .current) ∷ []) []

@@ -1,0 +1,347 @@
+// The frames of a stream: the open frame packet by packet, its row when a marker closes it, and the
+// receiver buffer's answer.
+// It knows `grain`. It must never know a rate code, a class or a schedule: the period, the packets of a
+// period, the offset and the spacing of the reads and the limit come in a plan.
+ghost use mathlib.Core.Path.{_≡_};
+ghost use mathlib.Core.Bool.{true};
+ghost use Prim.Native.Nat.{_-_, _≤_, _<_, max};
+ghost use Rattle.frame.specs.Step.{lower, emptyOf, openedOf, countedOf, pushOf, kindOf, detailOf, wholeRow, brokenRow, rowOf, answerOf, joined, noFrames, arriveOf, closeOf};
+ghost use Rattle.frame.specs.declared.Buffer.the-variants.{Pass};
+ghost use Rattle.frame.specs.Range.{Planned, Pushable, Rowable};
+
+// How many numbers a row has.
+pub const ROW: usize = 10;
+
+// What a stream is measured by: frames start at multiples of `period` grains and have `packets` packets;
+// the reads lie at tro + j·num/den grains after the start; `full` is the most that the buffer may hold.
+pub struct Plan {
+    pub period: u64,
+    pub packets: u64,
+    pub tro: u64,
+    pub num: u64,
+    pub den: u64,
+    pub full: u64,
+}
+
+// The open frame: how many packets it holds; of the first its arrival, timestamp and phase; the place of
+// the first timestamp that differs; the reads before the last packet; the greatest level; the greatest
+// lack of packets at an arrival; the place of the first late packet. A place that is not there yet is the
+// number of packets held.
+pub struct Frame {
+    pub held: u64,
+    pub first: u64,
+    pub stamp: u32,
+    pub phase: u64,
+    pub differs: u64,
+    pub reads: u64,
+    pub top: u64,
+    pub deficit: u64,
+    pub late: u64,
+}
+
+// A closed frame's ten numbers, in document 01's order.
+pub struct Row {
+    pub number: i64,
+    pub kind: i64,
+    pub detail: i64,
+    pub fpt: i64,
+    pub offset: i64,
+    pub latency: i64,
+    pub margin: i64,
+    pub gap: i64,
+    pub peak: i64,
+    pub least: i64,
+}
+
+// A frame's number, and the packet's place in it or the peak.
+pub struct Place {
+    pub frame: u64,
+    pub place: u64,
+}
+
+pub enum Buffer {
+    None,
+    Pass,
+    Under(Place),
+    Over(Place),
+}
+
+// All that is kept of the frames: whether the lead-in is over, how many are closed, the arrival of the
+// last marker packet, the open frame, and the answer so far.
+pub struct Frames {
+    pub begun: bool,
+    pub closed: u64,
+    pub marked: u64,
+    pub current: Frame,
+    pub buffer: Buffer,
+}
+
+// The lowest place that was hit, where `place` is tried next; one more than `place` where none was.
+fn lowest(known: u64, place: u64, hit: bool) -> u64
+    requires { ⌜ place < 1000000000 ⌝ }
+    ensures { λ r. ⌜ r ≡ lower known place hit ⌝ }
+{
+    if known < place {
+        return known;
+    }
+    if hit { place } else { place + 1 }
+}
+
+fn less(a: u64, b: u64) -> u64
+    ensures { λ r. ⌜ r ≡ a - b ⌝ }
+{
+    if a < b { 0 } else { a - b }
+}
+
+fn greater(a: u64, b: u64) -> u64
+    ensures { λ r. ⌜ r ≡ max a b ⌝ }
+{
+    if a < b { b } else { a }
+}
+
+impl Frame {
+    pub fn empty() -> Frame
+        ensures { λ r. ⌜ r ≡ emptyOf ⌝ }
+    {
+        Frame {
+            held: 0,
+            first: 0,
+            stamp: 0,
+            phase: 0,
+            differs: 0,
+            reads: 0,
+            top: 0,
+            deficit: 0,
+            late: 0,
+        }
+    }
+
+    // The first packet sets the frame's times.
+    fn opened(mut self, period: u64, t: u64, stamp: u32) -> Frame
+        requires { ⌜ (27 ≤ period) × (period ≤ 2147483648) ⌝ }
+        ensures { λ r. ⌜ r ≡ openedOf self period t stamp ⌝ }
+    {
+        if self.held == 0 {
+            self.first = t;
+            self.stamp = stamp;
+            self.phase = grain::frame_phase(t, period);
+        }
+        self
+    }
+
+    // One packet more, in a frame whose times are set; `reads` of the frame's reads come before it.
+    fn counted(mut self, stamp: u32, reads: u64) -> Frame
+        requires { ⌜ self .held < 1000000000 ⌝ }
+        ensures { λ r. ⌜ r ≡ countedOf self stamp reads ⌝ }
+    {
+        let place = self.held;
+        self.differs = lowest(self.differs, place, stamp != self.stamp);
+        self.late = lowest(self.late, place, place < reads);
+        self.top = greater(self.top, less(place + 1, reads));
+        self.deficit = greater(self.deficit, less(reads, place));
+        self.reads = reads;
+        self.held = place + 1;
+        self
+    }
+
+    // One packet more. Its time is taken from the frame's first packet on, so that nothing is long.
+    pub fn push(self, plan: Plan, t: u64, stamp: u32) -> Frame
+        requires { ⌜ Planned plan × Pushable plan self t ⌝ }
+        ensures { λ r. ⌜ r ≡ pushOf plan self t stamp ⌝ }
+    {
+        let f = self.opened(plan.period, t, stamp);
+        let x = 27 * (t - f.first) + f.phase;
+        let base = plan.tro + plan.period;
+        let reads = grain::reads_before(f.reads, plan.packets, base, plan.num, plan.den, x);
+        f.counted(stamp, reads)
+    }
+
+    // 1 short, 2 long, 3 stamp, 0 whole: tried in this order.
+    pub fn kind(self, n: u64) -> u64
+        ensures { λ r. ⌜ r ≡ kindOf self n ⌝ }
+    {
+        if self.held < n {
+            return 1;
+        }
+        if n < self.held {
+            return 2;
+        }
+        if self.differs < self.held {
+            return 3;
+        }
+        0
+    }
+
+    // The place of the first differing timestamp for kind 3, the count for 1 and 2, else 0.
+    fn detail(self, kind: u64) -> u64
+        ensures { λ r. ⌜ r ≡ detailOf self kind ⌝ }
+    {
+        if kind == 3 {
+            return self.differs;
+        }
+        if kind == 0 { 0 } else { self.held }
+    }
+
+    // The row of the frame, whose number is `number`, closed now; `marked` is the arrival of the marker
+    // packet before its first.
+    pub fn row(self, plan: Plan, number: u64, marked: u64) -> Row
+        requires { ⌜ Planned plan × Rowable plan number marked self ⌝ }
+        ensures { λ r. ⌜ r ≡ rowOf plan number marked self ⌝ }
+    {
+        let kind = self.kind(plan.packets);
+        if kind == 0 {
+            return self.whole_row(plan, number, marked);
+        }
+        broken_row(number, kind, self.detail(kind))
+    }
+
+    fn whole_row(self, plan: Plan, number: u64, marked: u64) -> Row
+        requires { ⌜ Planned plan × Rowable plan number marked self ⌝ }
+        ensures { λ r. ⌜ r ≡ wholeRow plan number marked self ⌝ }
+    {
+        let fpt = grain::difference(self.phase, plan.period);
+        let latency = grain::video_latency(self.first, self.stamp);
+        let offset = fpt - latency;
+        Row {
+            number: number as i64,
+            kind: 0,
+            detail: 0,
+            fpt,
+            offset,
+            latency,
+            margin: grain::difference(plan.tro + plan.period, self.phase),
+            gap: (27 * (self.first - marked)) as i64,
+            peak: self.top as i64,
+            least: grain::difference(0, self.deficit),
+        }
+    }
+
+    // A broken frame is not judged; of a whole one under goes first.
+    pub fn answer(self, plan: Plan, number: u64) -> Buffer
+        ensures { λ r. ⌜ r ≡ answerOf plan number self ⌝ }
+    {
+        let kind = self.kind(plan.packets);
+        if kind != 0 {
+            return Buffer::None;
+        }
+        if 0 < self.deficit {
+            return Buffer::Under(Place {
+                frame: number,
+                place: self.late,
+            });
+        }
+        if plan.full < self.top {
+            return Buffer::Over(Place {
+                frame: number,
+                place: self.top,
+            });
+        }
+        Buffer::Pass
+    }
+}
+
+fn broken_row(number: u64, kind: u64, detail: u64) -> Row
+    requires { ⌜ (number ≤ 1000000000) × (kind ≤ 3) × (detail ≤ 1000000000) ⌝ }
+    ensures { λ r. ⌜ r ≡ brokenRow number kind detail ⌝ }
+{
+    Row {
+        number: number as i64,
+        kind: kind as i64,
+        detail: detail as i64,
+        fpt: 0,
+        offset: 0,
+        latency: 0,
+        margin: 0,
+        gap: 0,
+        peak: 0,
+        least: 0,
+    }
+}
+
+impl Buffer {
+    // The answer so far, and then the next frame's: the first that fails decides.
+    pub fn then(self, next: Buffer) -> Buffer
+        ensures { λ r. ⌜ r ≡ joined self next ⌝ }
+    {
+        match self {
+            Buffer::None => next,
+            Buffer::Pass => pass_then(next),
+            Buffer::Under(p) => Buffer::Under(p),
+            Buffer::Over(p) => Buffer::Over(p),
+        }
+    }
+}
+
+fn pass_then(next: Buffer) -> Buffer
+    ensures { λ r. ⌜ r ≡ joined Pass next ⌝ }
+{
+    match next {
+        Buffer::None => Buffer::Pass,
+        Buffer::Pass => Buffer::Pass,
+        Buffer::Under(p) => Buffer::Under(p),
+        Buffer::Over(p) => Buffer::Over(p),
+    }
+}
+
+impl Frames {
+    pub fn none() -> Frames
+        ensures { λ r. ⌜ r ≡ noFrames ⌝ }
+    {
+        Frames {
+            begun: false,
+            closed: 0,
+            marked: 0,
+            current: Frame::empty(),
+            buffer: Buffer::None,
+        }
+    }
+
+    // A packet arrives: it is in the open frame, or in the lead-in and in none.
+    pub fn arrive(mut self, plan: Plan, t: u64, stamp: u32) -> Frames
+        requires { ⌜ Planned plan × (self .begun ≡ true → Pushable plan (self .current) t) ⌝ }
+        ensures { λ r. ⌜ r ≡ arriveOf plan self t stamp ⌝ }
+    {
+        if self.begun {
+            let frame = self.current;
+            let next = frame.push(plan, t, stamp);
+            self.current = next;
+        }
+        self
+    }
+
+    // The row of the open frame, which a marker closes now.
+    pub fn row(self, plan: Plan) -> Row
+        requires { ⌜ Planned plan × Rowable plan (self .closed) (self .marked) (self .current) ⌝ }
+        ensures { λ r. ⌜ r ≡ rowOf plan (self .closed) (self .marked) (self .current) ⌝ }
+    {
+        let frame = self.current;
+        frame.row(plan, self.closed, self.marked)
+    }
+
+    // The packet that arrived at t is a marker: it ends the lead-in, or closes the open frame.
+    pub fn close(self, plan: Plan, t: u64) -> Frames
+        requires { ⌜ self .closed ≤ 1000000000 ⌝ }
+        ensures { λ r. ⌜ r ≡ closeOf plan self t ⌝ }
+    {
+        let so_far = self.buffer;
+        if self.begun {
+            let frame = self.current;
+            let answer = frame.answer(plan, self.closed);
+            let buffer = so_far.then(answer);
+            return Frames {
+                begun: true,
+                closed: self.closed + 1,
+                marked: t,
+                current: Frame::empty(),
+                buffer,
+            };
+        }
+        Frames {
+            begun: true,
+            closed: self.closed,
+            marked: t,
+            current: Frame::empty(),
+            buffer: so_far,
+        }
+    }
+}

@@ -1,0 +1,83 @@
+-- The class that the code stands for is known in each arm; there the paper's formula is what was computed.
+use mathlib.Core.Path.{refl, ap, _∙_}
+use Prim.Native.Nat.{max}
+use Rattle.limits.specs.Paper.{cMax, activeRatio}
+use Rattle.limits.proofs.Laws.{c-max-told}
+use borrow.Author.Needs.{needs}
+use Rattle.limits.proofs.c_max.Statement.{statement}
+use Rattle.limits.proofs.c_max.Tie as tie
+
+class-of-requires : tie.Need-class-of-requires
+class-of-requires c κs = search needs
+
+enum-told : tie.Need-enum-told
+enum-told c = search needs
+
+int-over-requires : tie.Need-int-over-requires
+int-over-requires c κs = search needs
+
+larger-requires : tie.Need-larger-requires
+larger-requires c κs = search needs
+
+enum-told-2 : tie.Need-enum-told-2
+enum-told-2 c = search needs
+
+int-over-requires-2 : tie.Need-int-over-requires-2
+int-over-requires-2 c κs = search needs
+
+larger-requires-2 : tie.Need-larger-requires-2
+larger-requires-2 c κs = search needs
+
+enum-told-3 : tie.Need-enum-told-3
+enum-told-3 c = search needs
+
+int-over-requires-3 : tie.Need-int-over-requires-3
+int-over-requires-3 c κs = search needs
+
+larger-requires-3 : tie.Need-larger-requires-3
+larger-requires-3 c κs = search needs
+
+enum-told-4 : tie.Need-enum-told-4
+enum-told-4 c = search needs
+
+returns : tie.Need-returns
+unfolding cMax activeRatio
+returns c =
+    c-max-told (c .before .before .before .before .class-of .ensures) (c .before .before .enum-told .given .1) _ _ _
+    (c .larger .ensures ∙ ap (max 4) (c .before .int-over .ensures))
+
+returns-2 : tie.Need-returns-2
+unfolding cMax activeRatio
+returns-2 c =
+    c-max-told (c .before .before .before .before .class-of .ensures) (c .before .before .enum-told2 .given .1) _ _ _
+    (c .larger2 .ensures ∙ ap (max 4) (c .before .int-over2 .ensures))
+
+returns-3 : tie.Need-returns-3
+unfolding cMax activeRatio
+returns-3 c =
+    c-max-told (c .before .before .before .before .class-of .ensures) (c .before .before .enum-told3 .given .1) _ _ _
+    (c .larger3 .ensures ∙ ap (max 16) (c .before .int-over3 .ensures))
+
+returns-4 : tie.Need-returns-4
+unfolding cMax
+returns-4 c = c-max-told (c .before .before .class-of .ensures) (c .enum-told4 .given .1) _ _ _ refl
+
+pub c-max-spec : {M : Type 1} → statement M
+c-max-spec =
+    tie.close
+    (tie.spec
+    class-of-requires
+    enum-told
+    int-over-requires
+    larger-requires
+    enum-told-2
+    int-over-requires-2
+    larger-requires-2
+    enum-told-3
+    int-over-requires-3
+    larger-requires-3
+    enum-told-4
+    returns
+    returns-2
+    returns-3
+    returns-4)

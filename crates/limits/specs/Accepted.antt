@@ -1,0 +1,104 @@
+-- What it means that set-up refuses nothing: each of the seven numbers is in its place, said with no test and no list; and back.
+use mathlib.Core.Path.{_≡_, refl}
+use mathlib.Core.Logic.{_⊎_, inl, inr}
+use mathlib.Core.Bool.{Bool, true, false, _&&_, _||_}
+use Prim.Native.Nat.{ℕ, suc, _*_, _≤_, _<_}
+use native.Mathlib.Omega.{arith}
+use borrow.Author.Tests.{leb-true, le-leb, eqb-true, ltb-true, lt-ltb}
+use lib.Dec.{leb, ltb, eqb}
+use Rattle.laws.specs.Choose.{pick, false-true}
+use Rattle.limits.specs.Paper.{microsecond, frameLength, classOf, allOnes}
+use Rattle.limits.specs.Paper.{within, classFits, maxudpKnown, troFits, firstNo, setUpRefusal}
+
+pub record Accepted (rate schedule class height n maxudp tro : ℕ) : Type 0 where
+  pub rate-known : (1 ≤ rate) × (rate ≤ 8)
+  pub schedule-known : schedule ≤ 1
+  pub class-fits : classFits (classOf class) schedule ≡ true
+  pub height-fits : (1 ≤ height) × (height ≤ 65535)
+  pub n-fits : (1 ≤ n) × (n ≤ 20000)
+  pub maxudp-known : (maxudp ≡ 1460) ⊎ (maxudp ≡ 8960)
+  pub tro-fits : (tro ≡ allOnes) ⊎ (microsecond * tro < frameLength rate)
+
+-- tests as facts
+
+pub both : (s t : Bool) → (s && t) ≡ true → (s ≡ true) × (t ≡ true)
+both true t e = (refl, e)
+both false t e = absurd (false-true e)
+
+one-of : (s t : Bool) → (s || t) ≡ true → (s ≡ true) ⊎ (t ≡ true)
+one-of true t e = inl refl
+one-of false t e = inr e
+
+within-facts : (low high x : ℕ) → within low high x ≡ true → (low ≤ x) × (x ≤ high)
+within-facts low high x e =
+    let b = both (leb low x) (leb x high) e in (leb-true low x (b .0), leb-true x high (b .1))
+
+facts-within : (low high x : ℕ) → low ≤ x → x ≤ high → within low high x ≡ true
+facts-within low high x h k = rw (le-leb low x h, le-leb x high k)
+
+udp-facts : (x : ℕ) → maxudpKnown x ≡ true → (x ≡ 1460) ⊎ (x ≡ 8960)
+udp-facts x e = go (one-of (eqb x 1460) (eqb x 8960) e)
+  where
+    go : (eqb x 1460 ≡ true) ⊎ (eqb x 8960 ≡ true) → (x ≡ 1460) ⊎ (x ≡ 8960)
+    go (inl f) = inl (eqb-true x 1460 f)
+    go (inr f) = inr (eqb-true x 8960 f)
+
+facts-udp : (x : ℕ) → (x ≡ 1460) ⊎ (x ≡ 8960) → maxudpKnown x ≡ true
+facts-udp x (inl e) = rw e
+facts-udp x (inr e) = rw e
+
+tro-facts : (F tro : ℕ) → troFits F tro ≡ true → (tro ≡ allOnes) ⊎ (microsecond * tro < F)
+unfolding troFits
+tro-facts F tro e = go (one-of (eqb tro allOnes) (ltb (microsecond * tro) F) e)
+  where
+    go : (eqb tro allOnes ≡ true) ⊎ (ltb (microsecond * tro) F ≡ true) → (tro ≡ allOnes) ⊎ (microsecond * tro < F)
+    go (inl f) = inl (eqb-true tro allOnes f)
+    go (inr f) = inr (ltb-true (microsecond * tro) F f)
+
+facts-tro : (F tro : ℕ) → (tro ≡ allOnes) ⊎ (microsecond * tro < F) → troFits F tro ≡ true
+unfolding troFits
+facts-tro F tro (inl e) = rw e
+facts-tro F tro (inr h) = rw (lt-ltb (microsecond * tro) F h) (go (eqb tro allOnes))
+  where
+    go : (t : Bool) → (t || true) ≡ true
+    go true = refl
+    go false = refl
+
+-- a list of questions that stops at no number, counted from one, has no question answered no
+answered : (t : Bool) (k r : ℕ) → pick t r (suc k) ≡ 0 → (t ≡ true) × (r ≡ 0)
+answered true k r e = (refl, e)
+answered false k r e = absurd (omega arith)
+
+module _ (rate schedule class height n maxudp tro : ℕ) where
+  pub accepted : setUpRefusal rate schedule class height n maxudp tro ≡ 0 → Accepted rate schedule class height n maxudp tro
+  unfolding setUpRefusal firstNo
+  accepted e0 =
+      let e1 = answered (within 1 8 rate) 0 _ e0 in
+      let e2 = answered (within 0 1 schedule) 1 _ (e1 .1) in
+      let e3 = answered (classFits (classOf class) schedule) 2 _ (e2 .1) in
+      let e4 = answered (within 1 65535 height) 3 _ (e3 .1) in
+      let e5 = answered (within 1 20000 n) 4 _ (e4 .1) in
+      let e6 = answered (maxudpKnown maxudp) 5 _ (e5 .1) in
+      let e7 = answered (troFits (frameLength rate) tro) 6 _ (e6 .1) in
+      record {
+        rate-known = within-facts 1 8 rate (e1 .0);
+        schedule-known = within-facts 0 1 schedule (e2 .0) .1;
+        class-fits = e3 .0;
+        height-fits = within-facts 1 65535 height (e4 .0);
+        n-fits = within-facts 1 20000 n (e5 .0);
+        maxudp-known = udp-facts maxudp (e6 .0);
+        tro-fits = tro-facts (frameLength rate) tro (e7 .0);
+      }
+
+  pub accepts : Accepted rate schedule class height n maxudp tro → setUpRefusal rate schedule class height n maxudp tro ≡ 0
+  unfolding setUpRefusal firstNo
+  accepts a =
+      rw (
+        facts-within 1 8 rate (a .rate-known .0) (a .rate-known .1),
+        facts-within 0 1 schedule (omega arith) (a .schedule-known),
+        a .class-fits,
+        facts-within 1 65535 height (a .height-fits .0) (a .height-fits .1),
+        facts-within 1 20000 n (a .n-fits .0) (a .n-fits .1),
+        facts-udp maxudp (a .maxudp-known),
+        facts-tro (frameLength rate) tro (a .tro-fits),
+      )

@@ -1,0 +1,33 @@
+-- Exact fractions of whole numbers, so that a formula can stand as the paper writes it; nothing is rounded and nothing reduced.
+use mathlib.Core.Path.{_≡_, refl}
+use mathlib.Core.Logic.{_↔_}
+use Prim.Native.Nat.{ℕ, zero, _*_, _/_, _≤_, _<_}
+use native.Mathlib.Nat.{le-div-iff-mul-le}
+
+pub record Fraction : Type 0 where
+  pub num : ℕ
+  pub den : ℕ
+
+infixl 7 _·_
+infixl 7 _÷_
+abbrev pub whole : ℕ → Fraction
+whole a = record { num = a; den = 1 }
+
+abbrev pub _·_ : Fraction → Fraction → Fraction
+x · y = record { num = x .num * y .num; den = x .den * y .den }
+
+abbrev pub _÷_ : Fraction → Fraction → Fraction
+x ÷ y = record { num = x .num * y .den; den = x .den * y .num }
+
+-- two ways to write one number, cross-multiplied
+abbrev pub Same : Fraction → Fraction → Type 0
+Same x y = x .num * y .den ≡ y .num * x .den
+
+-- INT, document 001: the largest whole number not greater than the fraction
+unfoldable pub int : Fraction → ℕ
+int x = x .num / x .den
+
+-- and this says that it is: of all k, those up to INT and no others are not greater than the fraction
+pub int-largest : (x : Fraction) (k : ℕ) → 0 < x .den → (k ≤ int x) ↔ (k * x .den ≤ x .num)
+unfolding int
+int-largest x k h = le-div-iff-mul-le h

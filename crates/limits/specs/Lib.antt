@@ -1,0 +1,7 @@
+pub mod Fraction
+pub mod Paper
+pub mod Steps
+pub mod Accepted
+pub mod Facts
+pub mod Figures
+pub mod Cases

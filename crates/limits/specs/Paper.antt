@@ -1,0 +1,122 @@
+-- The numbers that a stream is set up with, and the limits that follow from them, each under its sentence of document 01.
+use mathlib.Core.Bool.{Bool, true, false, _&&_, _||_}
+use mathlib.Core.List.{List, [], _∷_}
+use Prim.Native.Nat.{ℕ, zero, suc, _*_, max}
+use lib.Dec.{ltb, leb, eqb}
+use lib.ListN.{getD}
+use Rattle.laws.specs.Choose.{pick}
+use Rattle.limits.specs.Fraction.{Fraction, whole, _·_, _÷_, int}
+use Rattle.limits.specs.declared.Class.{Class}
+use Rattle.limits.specs.declared.Class.the-variants.{Narrow, NarrowLinear, Wide, Unknown}
+
+-- "Every duration is a whole number of grains; 27 grains are one nanosecond."
+abbrev pub microsecond : ℕ
+microsecond = 27 * 1000
+
+abbrev pub second : ℕ
+second = 27 * 1000000000
+
+-- "The frame length in grains for each rate code, 1 to 8"; a code outside has 0, and set-up refuses it
+abbrev pub frameLengths : List ℕ
+frameLengths =
+    1126125000 ∷ 1125000000 ∷ 1080000000 ∷ 900900000 ∷ 900000000 ∷ 540000000 ∷ 450450000 ∷ 450000000 ∷ []
+
+unfoldable pub frameLength : ℕ → ℕ
+frameLength rate = getD (0 ∷ frameLengths) rate 0
+
+-- "With T the frame in seconds"
+abbrev pub seconds : ℕ → Fraction
+seconds F = whole F ÷ whole second
+
+-- "Schedule: 0 gapped (R = 24/25, from 1080/1125), 1 linear (R = 1)."; a code above 1, which set-up refuses, goes with 1
+unfoldable pub activeRatio : ℕ → Fraction
+activeRatio zero = whole 24 ÷ whole 25
+activeRatio (suc schedule) = whole 1
+
+-- "Class: 1 narrow (gapped only), 2 narrow linear (linear only), 3 wide (either). 0 means 3."
+abbrev pub classes : List Class
+classes = Wide ∷ Narrow ∷ NarrowLinear ∷ Wide ∷ []
+
+unfoldable pub classOf : ℕ → Class
+classOf class = getD classes class Unknown
+
+-- The six formulas, for any frame length F. A class that set-up refuses has 0, which no sentence of the paper speaks of.
+
+-- "C_MAX: narrow MAX(4, INT(n/(43200·R·T))); narrow linear MAX(4, INT(n/(43200·T))); wide MAX(16, INT(n/(21600·T)))."
+unfoldable pub cMax : Class → ℕ → ℕ → ℕ → ℕ
+cMax Narrow schedule F n = max 4 (int (whole n ÷ (whole 43200 · activeRatio schedule · seconds F)))
+cMax NarrowLinear schedule F n = max 4 (int (whole n ÷ (whole 43200 · seconds F)))
+cMax Wide schedule F n = max 16 (int (whole n ÷ (whole 21600 · seconds F)))
+cMax Unknown schedule F n = 0
+
+-- "VRX_FULL: narrow and narrow linear MAX(INT(12000/MAXUDP), INT(n/(27000·T))); wide MAX(INT(1080000/MAXUDP), INT(n/(300·T)))."
+unfoldable pub vrxFull : Class → ℕ → ℕ → ℕ → ℕ
+vrxFull Narrow maxudp F n = max (int (whole 12000 ÷ whole maxudp)) (int (whole n ÷ (whole 27000 · seconds F)))
+vrxFull NarrowLinear maxudp F n = max (int (whole 12000 ÷ whole maxudp)) (int (whole n ÷ (whole 27000 · seconds F)))
+vrxFull Wide maxudp F n = max (int (whole 1080000 ÷ whole maxudp)) (int (whole n ÷ (whole 300 · seconds F)))
+vrxFull Unknown maxudp F n = 0
+
+-- "TRO (4; all ones is default)"
+abbrev pub allOnes : ℕ
+allOnes = 4294967295
+
+-- "or default: 43F/1125 for height 1080 and up, else 28F/750"
+unfoldable pub defaultTro : ℕ → ℕ → Fraction
+defaultTro F height = pick (leb 1080 height) (whole 43 · whole F ÷ whole 1125) (whole 28 · whole F ÷ whole 750)
+
+-- "TRO: given in whole microseconds, .. or default"
+unfoldable pub troGrains : ℕ → ℕ → ℕ → ℕ
+troGrains F height tro = pick (eqb tro allOnes) (int (defaultTro F height)) (microsecond * tro)
+
+-- "Read j (0 to n−1) is at T_CF + TRO + j·R·F/n, kept as a fraction."
+abbrev pub readSpacing : ℕ → ℕ → ℕ → Fraction
+readSpacing schedule F n = activeRatio schedule · whole F ÷ whole n
+
+-- the same spacing as the code keeps it: a numerator that hangs on F, a denominator that hangs on n (Facts: `spacing`)
+abbrev pub readNum : ℕ → ℕ → ℕ
+readNum schedule F = activeRatio schedule .num * F
+
+abbrev pub readDen : ℕ → ℕ → ℕ
+readDen schedule n = activeRatio schedule .den * n
+
+-- The seven questions of set-up, each true where its number may stand.
+
+abbrev pub within : ℕ → ℕ → ℕ → Bool
+within low high x = leb low x && leb x high
+
+-- "class (unknown or against the schedule)"
+abbrev pub classFits : Class → ℕ → Bool
+classFits Narrow schedule = eqb schedule 0
+classFits NarrowLinear schedule = eqb schedule 1
+classFits Wide schedule = true
+classFits Unknown schedule = false
+
+-- "MAXUDP 1460 or 8960."
+abbrev pub maxudpKnown : ℕ → Bool
+maxudpKnown maxudp = eqb maxudp 1460 || eqb maxudp 8960
+
+-- "TRO: given in whole microseconds, below one frame, or default"
+unfoldable pub troFits : ℕ → ℕ → Bool
+troFits F tro = eqb tro allOnes || ltb (microsecond * tro) F
+
+-- "set-up, in this order: rate, schedule, class (unknown or against the schedule), height, n, MAXUDP, TRO"
+-- "Height 1 to 65,535. Packets per frame n, 1 to 20,000."
+abbrev pub questions : ℕ → ℕ → ℕ → ℕ → ℕ → ℕ → ℕ → List Bool
+questions rate schedule class height n maxudp tro =
+    within 1 8 rate
+    ∷ within 0 1 schedule
+    ∷ classFits (classOf class) schedule
+    ∷ within 1 65535 height
+    ∷ within 1 20000 n
+    ∷ maxudpKnown maxudp
+    ∷ troFits (frameLength rate) tro
+    ∷ []
+
+-- the number, counted from k, of the first question that is answered no; 0 where there is none
+unfoldable pub firstNo : ℕ → List Bool → ℕ
+firstNo k [] = 0
+firstNo k (answer ∷ more) = pick answer (firstNo (suc k) more) k
+
+-- the refusals 1 to 7 of set-up, and 0 for what is accepted
+unfoldable pub setUpRefusal : ℕ → ℕ → ℕ → ℕ → ℕ → ℕ → ℕ → ℕ
+setUpRefusal rate schedule class height n maxudp tro = firstNo 1 (questions rate schedule class height n maxudp tro)

@@ -1,0 +1,245 @@
+// The numbers that a stream is set up with: the frame length of each rate, the share of a frame in
+// which its packets are read, the offset TRO, the limits C_MAX and VRX_FULL, and the seven refusals.
+// It knows plain numbers, as the record file holds them, and a frame length in grains, whatever its
+// rate. It must never know a packet, an arrival or a state: what a limit is held against lies above.
+
+ghost use mathlib.Core.Path.{_≡_};
+ghost use mathlib.Core.List.{[], _∷_};
+ghost use Prim.Native.Nat.{_/_, _<_, max};
+ghost use Rattle.limits.specs.Fraction.{whole, _·_, _÷_, int};
+ghost use Rattle.limits.specs.Steps.{Divides};
+ghost use Rattle.limits.specs.Paper.{frameLength, activeRatio, seconds, classOf, cMax, vrxFull, troGrains, readNum, readDen};
+ghost use Rattle.limits.specs.Paper.{within, classFits, maxudpKnown, troFits, firstNo, setUpRefusal};
+
+const MICROSECOND: u64 = 27000;
+
+const SECOND: u64 = 27000000000;
+
+const GAPPED: u8 = 0;
+
+const LINEAR: u8 = 1;
+
+const DEFAULT_TRO: u32 = 4294967295;
+
+// An unknown class is refused at set-up; the limits give it 0, so that they answer for any number.
+pub enum Class {
+    Narrow,
+    NarrowLinear,
+    Wide,
+    Unknown,
+}
+
+// The frame length in grains; a code that set-up refuses has none, and gets 0.
+pub fn frame_length(rate: u8) -> u64
+    ensures { λ r. ⌜ r ≡ frameLength rate ⌝ }
+{
+    match rate {
+        1 => 1126125000,
+        2 => 1125000000,
+        3 => 1080000000,
+        4 => 900900000,
+        5 => 900000000,
+        6 => 540000000,
+        7 => 450450000,
+        8 => 450000000,
+        0 | 9..=255 => 0,
+    }
+}
+
+// The one place that tells the codes of a class apart: records keep 0 as written, all else asks here.
+pub fn class_of(class: u8) -> Class
+    ensures { λ r. ⌜ r ≡ classOf class ⌝ }
+{
+    match class {
+        0 | 3 => Class::Wide,
+        1 => Class::Narrow,
+        2 => Class::NarrowLinear,
+        4..=255 => Class::Unknown,
+    }
+}
+
+// The first of the seven set-up numbers, in the paper's order, that is refused; 0 where none is.
+pub fn refusal(rate: u8, schedule: u8, class: u8, height: u16, n: u32, maxudp: u16, tro: u32) -> u8
+    ensures { λ r. ⌜ r ≡ setUpRefusal rate schedule class height n maxudp tro ⌝ }
+{
+    first_no(
+        is_within(1, 8, rate as u32),
+        is_within(0, 1, schedule as u32),
+        class_fits(class, schedule),
+        is_within(1, 65535, height as u32),
+        is_within(1, 20000, n),
+        maxudp_known(maxudp),
+        tro_fits(frame_length(rate), tro),
+    )
+}
+
+// The refusal that belongs to the first question answered no; 0 where there is none.
+fn first_no(
+    rate: bool,
+    schedule: bool,
+    class: bool,
+    height: bool,
+    n: bool,
+    maxudp: bool,
+    tro: bool,
+) -> u8
+    ensures { λ r. ⌜ r ≡ firstNo 1 (rate ∷ schedule ∷ class ∷ height ∷ n ∷ maxudp ∷ tro ∷ []) ⌝ }
+{
+    if !rate {
+        return 1;
+    }
+    if !schedule {
+        return 2;
+    }
+    if !class {
+        return 3;
+    }
+    if !height {
+        return 4;
+    }
+    if !n {
+        return 5;
+    }
+    if !maxudp {
+        return 6;
+    }
+    if !tro {
+        return 7;
+    }
+    0
+}
+
+fn is_within(low: u32, high: u32, x: u32) -> bool
+    ensures { λ r. ⌜ r ≡ within low high x ⌝ }
+{
+    low <= x && x <= high
+}
+
+fn class_fits(class: u8, schedule: u8) -> bool
+    ensures { λ r. ⌜ r ≡ classFits (classOf class) schedule ⌝ }
+{
+    let kind = class_of(class);
+    match kind {
+        Class::Narrow => schedule == GAPPED,
+        Class::NarrowLinear => schedule == LINEAR,
+        Class::Wide => true,
+        Class::Unknown => false,
+    }
+}
+
+fn maxudp_known(maxudp: u16) -> bool
+    ensures { λ r. ⌜ r ≡ maxudpKnown maxudp ⌝ }
+{
+    match maxudp {
+        1460 | 8960 => true,
+        _ => false,
+    }
+}
+
+fn tro_fits(frame: u64, tro: u32) -> bool
+    ensures { λ r. ⌜ r ≡ troFits frame tro ⌝ }
+{
+    tro == DEFAULT_TRO || MICROSECOND * (tro as u64) < frame
+}
+
+// TRO in grains. The bound keeps 43·F within 64 bits: 2^32 grains are 159 ms, the longest frame 42 ms.
+pub fn tro_grains(frame: u64, height: u16, tro: u32) -> u64
+    requires { ⌜ frame < 4294967296 ⌝ }
+    ensures { λ r. ⌜ r ≡ troGrains frame height tro ⌝ }
+{
+    if tro != DEFAULT_TRO {
+        return MICROSECOND * (tro as u64);
+    }
+    if 1080 <= height {
+        43 * frame / 1125
+    } else {
+        28 * frame / 750
+    }
+}
+
+// The reads of a frame lie R·F/n = read_num/read_den grains apart: dividing would lose the fraction.
+pub fn read_num(schedule: u8, frame: u64) -> u64
+    requires { ⌜ frame < 4294967296 ⌝ }
+    ensures { λ r. ⌜ r ≡ readNum schedule frame ⌝ }
+{
+    active_num(schedule) * frame
+}
+
+pub fn read_den(schedule: u8, n: u32) -> u64
+    ensures { λ r. ⌜ r ≡ readDen schedule n ⌝ }
+{
+    active_den(schedule) * (n as u64)
+}
+
+// R, the share of a frame in which its packets are read, as a numerator and a denominator.
+fn active_num(schedule: u8) -> u64
+    ensures { λ r. ⌜ r ≡ activeRatio schedule .num ⌝ }
+{
+    if schedule == GAPPED { 24 } else { 1 }
+}
+
+fn active_den(schedule: u8) -> u64
+    ensures { λ r. ⌜ r ≡ activeRatio schedule .den ⌝ }
+{
+    if schedule == GAPPED { 25 } else { 1 }
+}
+
+// C_MAX: a bucket that ever holds more has failed. R is 1 where the paper's formula has none.
+pub fn c_max(class: u8, schedule: u8, frame: u64, n: u32) -> u64
+    ensures { λ r. ⌜ r ≡ cMax (classOf class) schedule frame n ⌝ }
+{
+    let kind = class_of(class);
+    match kind {
+        Class::Narrow => larger(4, int_over(n, 43200, schedule, frame)),
+        Class::NarrowLinear => larger(4, int_over(n, 43200, LINEAR, frame)),
+        Class::Wide => larger(16, int_over(n, 21600, LINEAR, frame)),
+        Class::Unknown => 0,
+    }
+}
+
+// VRX_FULL: a receiver's buffer that ever holds more has failed.
+pub fn vrx_full(class: u8, maxudp: u16, frame: u64, n: u32) -> u64
+    ensures { λ r. ⌜ r ≡ vrxFull (classOf class) maxudp frame n ⌝ }
+{
+    let kind = class_of(class);
+    match kind {
+        Class::Narrow => full(12000, maxudp, n, 27000, frame),
+        Class::NarrowLinear => full(12000, maxudp, n, 27000, frame),
+        Class::Wide => full(1080000, maxudp, n, 300, frame),
+        Class::Unknown => 0,
+    }
+}
+
+// MAX(INT(bytes/MAXUDP), INT(n/(k·T)))
+fn full(bytes: u64, maxudp: u16, n: u32, k: u64, frame: u64) -> u64
+    requires { ⌜ Divides k ⌝ }
+    ensures { λ r. ⌜ r ≡ max (int (whole bytes ÷ whole maxudp)) (int (whole n ÷ (whole k · seconds frame))) ⌝ }
+{
+    larger(
+        quotient(bytes, maxudp as u64),
+        int_over(n, k, LINEAR, frame),
+    )
+}
+
+// INT(n/(k·R·T)). A second is divided by k first, with nothing left over, and then by one divisor
+// at a time: the whole number is the same, and no product leaves 64 bits, whatever the frame.
+fn int_over(n: u32, k: u64, schedule: u8, frame: u64) -> u64
+    requires { ⌜ Divides k ⌝ }
+    ensures { λ r. ⌜ r ≡ int (whole n ÷ (whole k · activeRatio schedule · seconds frame)) ⌝ }
+{
+    let all = (n as u64) * (SECOND / k) * active_den(schedule);
+    quotient(quotient(all, active_num(schedule)), frame)
+}
+
+// a / b in whole numbers; over nothing it is 0, as it is in the definitions.
+fn quotient(a: u64, b: u64) -> u64
+    ensures { λ r. ⌜ r ≡ a / b ⌝ }
+{
+    if b == 0 { 0 } else { a / b }
+}
+
+fn larger(a: u64, b: u64) -> u64
+    ensures { λ r. ⌜ r ≡ max a b ⌝ }
+{
+    if a < b { b } else { a }
+}
