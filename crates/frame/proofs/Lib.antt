@@ -6,3 +6,4 @@ pub mod Keeping
 pub mod Stepping
 pub mod RowOfFrame
 pub mod BufferOfFrames
+pub mod Ranges

@@ -22,7 +22,7 @@ pub record Timed (plan : Plan) (f : Frame) (t : ℕ) : Type 0 where
   pub phased : f .phase ≤ 2 * plan .period
   pub read : f .reads ≤ plan .packets
 
-timed : (plan : Plan) (f : Frame) (t stamp : ℕ) → Planned plan → Pushable plan f t → Timed plan (openedOf f (plan .period) t stamp) t
+pub timed : (plan : Plan) (f : Frame) (t stamp : ℕ) → Planned plan → Pushable plan f t → Timed plan (openedOf f (plan .period) t stamp) t
 unfolding openedOf
 timed plan f t stamp p h = go (eqb (f .held) 0) refl
   where

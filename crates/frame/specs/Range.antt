@@ -1,8 +1,12 @@
 -- What a plan and an open frame must keep to, so that nothing overflows. Each is met by every stream that set-up accepts and every accepted history.
 use mathlib.Core.Path.{_≡_}
+use mathlib.Core.Bool.{true}
 use Prim.Native.Nat.{ℕ, _+_, _*_, _≤_, _<_}
 use Rattle.frame.specs.declared.Plan.{Plan}
 use Rattle.frame.specs.declared.Frame.{Frame}
+use Rattle.frame.specs.declared.Frames.{Frames}
+use Rattle.frame.specs.declared.Buffer.{Buffer}
+use Rattle.frame.specs.Paper.{bufferFrame, bufferPlace}
 
 pub record Planned (plan : Plan) : Type 0 where
   pub long : 27 ≤ plan .period
@@ -32,3 +36,24 @@ pub record Rowable (plan : Plan) (number marked : ℕ) (f : Frame) : Type 0 wher
   pub top : f .top ≤ 1000000000
   pub low : f .deficit ≤ 20000
   pub differs : f .differs ≤ 1000000000
+
+-- The range of each number that is kept of the frames, by the plan and by what came before: the first and the last arrival, and how many packets.
+pub record Answered (b : Buffer) (most : ℕ) : Type 0 where
+  pub frame : bufferFrame b ≤ most
+  pub place : bufferPlace b ≤ most
+
+pub record Kept (plan : Plan) (s : Frames) (first last packets : ℕ) : Type 0 where
+  pub begun : s .begun ≡ true → 0 < packets
+  pub closed : s .closed ≤ packets
+  pub marked-from : s .begun ≡ true → first ≤ s .marked
+  pub marked-to : s .begun ≡ true → s .marked ≤ last
+  pub held : s .current .held ≤ packets
+  pub first-from : 0 < s .current .held → s .marked ≤ s .current .first
+  pub first-to : 0 < s .current .held → s .current .first ≤ last
+  pub phased : s .current .phase ≤ 2 * plan .period
+  pub read : s .current .reads ≤ plan .packets
+  pub differs : s .current .differs ≤ s .current .held
+  pub top : s .current .top ≤ s .current .held
+  pub deficit : s .current .deficit ≤ plan .packets
+  pub late : s .current .late ≤ s .current .held
+  pub answered : Answered (s .buffer) packets

@@ -135,12 +135,13 @@ impl Frame {
         ensures { λ r. ⌜ r ≡ countedOf self stamp reads ⌝ }
     {
         let place = self.held;
+        let count = place + 1;
         self.differs = lowest(self.differs, place, stamp != self.stamp);
         self.late = lowest(self.late, place, place < reads);
-        self.top = greater(self.top, less(place + 1, reads));
+        self.top = greater(self.top, less(count, reads));
         self.deficit = greater(self.deficit, less(reads, place));
         self.reads = reads;
-        self.held = place + 1;
+        self.held = count;
         self
     }
 

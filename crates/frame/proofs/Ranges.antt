@@ -1,0 +1,219 @@
+-- Each number that is kept of the frames stays in its range, packet by packet; and from these ranges the code's own demands follow.
+use mathlib.Core.Path.{_≡_, refl, sym, ap, _∙_, subst}
+use mathlib.Core.Bool.{Bool, true, false, not}
+use Prim.Native.Nat.{ℕ, zero, suc, _+_, _-_, _*_, _≤_, _<_, max}
+use native.Mathlib.Omega.{arith}
+use lib.Dec.{ltb, eqb}
+use borrow.Author.Tests.{ltb-true, ltb-false, eqb-true, eqb-false}
+use Rattle.laws.specs.Choose.{pick, pick-either, false-true}
+use Rattle.laws.specs.Count.{count-le}
+use Rattle.grain.specs.Paper.{readBefore}
+use Rattle.frame.specs.declared.Plan.{Plan}
+use Rattle.frame.specs.declared.Frame.{Frame}
+use Rattle.frame.specs.declared.Frames.{Frames}
+use Rattle.frame.specs.declared.Buffer.{Buffer}
+use Rattle.frame.specs.declared.Buffer.the-variants.{None, Pass, Under, Over}
+use Rattle.frame.specs.Paper.{bufferFrame, bufferPlace}
+use Rattle.frame.specs.Step.{lower, kindOf, emptyOf, openedOf, countedOf, readsOf, pushOf, answerOf, joined, noFrames, arriveOf, closeOf, stepOf}
+use Rattle.frame.specs.Range.{Planned, Pushable, Rowable, Answered, Kept}
+use Rattle.frame.proofs.Opening.{Timed, timed}
+
+pub kept-none : (plan : Plan) → Kept plan noFrames 0 0 0
+kept-none plan = record {
+  begun = λ e. absurd (false-true e);
+  closed = omega arith;
+  marked-from = λ e. omega arith;
+  marked-to = λ e. omega arith;
+  held = omega arith;
+  first-from = λ l. omega arith;
+  first-to = λ l. omega arith;
+  phased = omega arith;
+  read = omega arith;
+  differs = omega arith;
+  top = omega arith;
+  deficit = omega arith;
+  late = omega arith;
+  answered = record { frame = omega arith; place = omega arith };
+}
+
+-- the next packet arrives at t, in order and in time
+pub record Next (first last packets t : ℕ) : Type 0 where
+  pub order : last ≤ t
+  pub near : t ≤ first + 600000000000
+  pub few : packets < 1000000000
+
+lower-small : (known place : ℕ) (hit : Bool) → known ≤ place → lower known place hit ≤ place + 1
+lower-small known place hit l =
+    pick-either (λ k. k ≤ place + 1) (ltb known place) (λ e. omega arith) (λ e. pick-either (λ k. k ≤ place + 1) hit (λ e. omega arith) (λ e. omega arith))
+
+module _ (plan : Plan) (s : Frames) (first last packets t : ℕ) (p : Planned plan) (k : Kept plan s first last packets) where
+  pub pushable : (s .begun ≡ true → Next first last packets t) → s .begun ≡ true → Pushable plan (s .current) t
+  pushable next e = record {
+    few = omega (arith, k .held, next e .few);
+    order = λ l. omega (arith, k .first-to l, next e .order);
+    near = λ l. omega (arith, k .first-from l, k .marked-from e, next e .near);
+    phased = k .phased;
+    read = k .read;
+  }
+
+  -- what is pushed
+  pub record Pushed (f : Frame) : Type 0 where
+    pub held : f .held ≡ s .current .held + 1
+    pub first-from : s .marked ≤ f .first
+    pub first-to : f .first ≤ t
+    pub phased : f .phase ≤ 2 * plan .period
+    pub read : f .reads ≤ plan .packets
+    pub differs : f .differs ≤ f .held
+    pub top : f .top ≤ f .held
+    pub deficit : f .deficit ≤ plan .packets
+    pub late : f .late ≤ f .held
+
+  counted : (o : Frame) (stamp : ℕ) → o .held ≡ s .current .held → o .differs ≡ s .current .differs → o .top ≡ s .current .top → o .deficit ≡ s .current .deficit
+      → o .late ≡ s .current .late → s .marked ≤ o .first → Timed plan o t → Pushed (countedOf o stamp (readsOf plan o t))
+  unfolding countedOf
+  counted o stamp eh ed et ef el from z =
+      let few = count-le (readBefore (plan .tro + plan .period) (plan .num) (plan .den) (27 * (t - o .first) + o .phase)) (plan .packets) in
+      record {
+        held = omega arith;
+        first-from = from;
+        first-to = z .order;
+        phased = z .phased;
+        read = few;
+        differs = lower-small (o .differs) (o .held) (not (eqb stamp (o .stamp))) (omega (arith, k .differs));
+        top = omega (arith, k .top);
+        deficit = omega (arith, k .deficit);
+        late = lower-small (o .late) (o .held) (ltb (o .held) (readsOf plan o t)) (omega (arith, k .late));
+      }
+
+  opened-from : (stamp : ℕ) → s .begun ≡ true → Next first last packets t → s .marked ≤ (openedOf (s .current) (plan .period) t stamp) .first
+  unfolding openedOf
+  opened-from stamp e next = go (eqb (s .current .held) 0) refl
+    where
+      go : (z : Bool) → eqb (s .current .held) 0 ≡ z → s .marked ≤ pick z t (s .current .first)
+      go true q = omega (arith, k .marked-to e, next .order)
+      go false q = let some : ¬ (s .current .held ≡ 0) = eqb-false (s .current .held) 0 q in k .first-from (omega arith)
+
+  pub pushed : (stamp : ℕ) → s .begun ≡ true → Next first last packets t → Pushed (pushOf plan (s .current) t stamp)
+  unfolding openedOf
+  pushed stamp e next =
+      counted (openedOf (s .current) (plan .period) t stamp) stamp refl refl refl refl refl (opened-from stamp e next)
+      (timed plan (s .current) t stamp p (pushable (λ b. next) e))
+
+  -- ---- a packet arrives, and closes if it is a marker; first′ is the first arrival with it
+
+  module _ (stamp first′ : ℕ) (next : s .begun ≡ true → Next first last packets t) (order : last ≤ t) (same : s .begun ≡ true → first′ ≡ first) (since : first′ ≤ t) where
+    -- the lead-in: nothing is pushed
+    kept-lead : s .begun ≡ false → Kept plan s first′ t (packets + 1)
+    kept-lead e = record {
+      begun = λ b. omega arith;
+      closed = omega (arith, k .closed);
+      marked-from = λ b. absurd (false-true (sym e ∙ b));
+      marked-to = λ b. absurd (false-true (sym e ∙ b));
+      held = omega (arith, k .held);
+      first-from = k .first-from;
+      first-to = λ l. omega (arith, k .first-to l);
+      phased = k .phased;
+      read = k .read;
+      differs = k .differs;
+      top = k .top;
+      deficit = k .deficit;
+      late = k .late;
+      answered = record { frame = omega (arith, k .answered .frame); place = omega (arith, k .answered .place) };
+    }
+
+    kept-pushed : s .begun ≡ true
+        → Kept plan (record { begun = s .begun; closed = s .closed; marked = s .marked; current = pushOf plan (s .current) t stamp; buffer = s .buffer }) first′ t (packets + 1)
+    kept-pushed e =
+        let f = pushed stamp e (next e) in
+        record {
+          begun = λ b. omega arith;
+          closed = omega (arith, k .closed);
+          marked-from = λ b. omega (arith, k .marked-from e, same e);
+          marked-to = λ b. omega (arith, k .marked-to e);
+          held = omega (arith, k .held, f .held);
+          first-from = λ l. f .first-from;
+          first-to = λ l. f .first-to;
+          phased = f .phased;
+          read = f .read;
+          differs = f .differs;
+          top = f .top;
+          deficit = f .deficit;
+          late = f .late;
+          answered = record { frame = omega (arith, k .answered .frame); place = omega (arith, k .answered .place) };
+        }
+
+    pub kept-arrive : Kept plan (arriveOf plan s t stamp) first′ t (packets + 1)
+    unfolding arriveOf
+    kept-arrive = go (s .begun) refl
+      where
+        go : (b : Bool) → s .begun ≡ b
+            → Kept plan (record { begun = s .begun; closed = s .closed; marked = s .marked; current = pick b (pushOf plan (s .current) t stamp) (s .current); buffer = s .buffer }) first′ t (packets + 1)
+        go true e = kept-pushed e
+        go false e = kept-lead e
+
+    -- a row can be made of what was pushed
+    pub rowable : s .begun ≡ true → Rowable plan (s .closed) (s .marked) ((arriveOf plan s t stamp) .current)
+    unfolding arriveOf
+    rowable e = rw e (row (pushed stamp e (next e)))
+      where
+        row : Pushed (pushOf plan (s .current) t stamp) → Rowable plan (s .closed) (s .marked) (pushOf plan (s .current) t stamp)
+        row f = record {
+          few = omega (arith, f .held, k .held, next e .few);
+          counted = omega (arith, k .closed, next e .few);
+          phased = f .phased;
+          order = f .first-from;
+          near = omega (arith, f .first-to, next e .near, k .marked-from e);
+          top = omega (arith, f .top, f .held, k .held, next e .few);
+          low = omega (arith, f .deficit, p .few);
+          differs = omega (arith, f .differs, f .held, k .held, next e .few);
+        }
+
+-- the answer of a frame names it and a place in it
+none-named : (m : ℕ) → Answered None m
+none-named m = record { frame = omega arith; place = omega arith }
+
+pass-named : (m : ℕ) → Answered Pass m
+pass-named m = record { frame = omega arith; place = omega arith }
+
+answer-named : (plan : Plan) (n : ℕ) (f : Frame) (m : ℕ) → n ≤ m → f .late ≤ m → f .top ≤ m → Answered (answerOf plan n f) m
+unfolding answerOf
+answer-named plan n f m hn hl ht =
+    pick-either (λ b. Answered b m) (eqb (kindOf f (plan .packets)) 0) (λ e.
+    pick-either (λ b. Answered b m) (ltb 0 (f .deficit)) (λ e. record { frame = hn; place = hl }) (λ e.
+    pick-either (λ b. Answered b m) (ltb (plan .full) (f .top)) (λ e. record { frame = hn; place = ht }) (λ e. pass-named m))) (λ e. none-named m)
+
+joined-named : (b c : Buffer) (m : ℕ) → Answered b m → Answered c m → Answered (joined b c) m
+unfolding joined
+joined-named None c m x y = y
+joined-named Pass None m x y = x
+joined-named Pass Pass m x y = x
+joined-named Pass (Under q) m x y = y
+joined-named Pass (Over q) m x y = y
+joined-named (Under q) c m x y = x
+joined-named (Over q) c m x y = x
+
+-- a marker closes the frame of what has arrived
+module _ (plan : Plan) (a : Frames) (first t packets : ℕ) (k : Kept plan a first t packets) (room : a .closed + 1 ≤ packets) (since : first ≤ t) where
+  answers : (b : Bool) → Answered (pick b (joined (a .buffer) (answerOf plan (a .closed) (a .current))) (a .buffer)) packets
+  answers b =
+      pick-either (λ x. Answered x packets) b (λ e. joined-named (a .buffer) (answerOf plan (a .closed) (a .current)) packets (k .answered)
+      (answer-named plan (a .closed) (a .current) packets (k .closed) (omega (arith, k .late, k .held)) (omega (arith, k .top, k .held)))) (λ e. k .answered)
+
+  pub kept-close : Kept plan (closeOf plan a t) first t packets
+  unfolding closeOf
+  kept-close = record {
+    begun = λ e. omega arith;
+    closed = pick-either (λ x. a .closed + x ≤ packets) (a .begun) (λ e. omega arith) (λ e. omega arith);
+    marked-from = λ e. since;
+    marked-to = λ e. omega arith;
+    held = omega arith;
+    first-from = λ l. absurd (omega arith);
+    first-to = λ l. omega arith;
+    phased = omega arith;
+    read = omega arith;
+    differs = omega arith;
+    top = omega arith;
+    deficit = omega arith;
+    late = omega arith;
+    answered = answers (a .begun);
+  }
