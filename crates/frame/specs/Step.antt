@@ -100,6 +100,11 @@ unfolding kindOf wholeRow
 rowOf plan number marked f =
     pick (eqb (kindOf f (plan .packets)) 0) (wholeRow plan number marked f) (brokenRow number (kindOf f (plan .packets)) (detailOf f (kindOf f (plan .packets))))
 
+-- "A closed frame writes ten numbers: frame number from 0; kind; detail [..]; FPT; RTP_OFFSET; VL; margin; GAP; VRX peak; VRX least."
+abbrev pub numbersOf : Row → List ℤ
+numbersOf r =
+    r .number ∷ r .kind ∷ r .detail ∷ r .fpt ∷ r .offset ∷ r .latency ∷ r .margin ∷ r .gap ∷ r .peak ∷ r .least ∷ []
+
 -- "under (least below 0) [..]; over (VRX peak above VRX_FULL) [..]; in one frame under goes first." A broken frame is not judged.
 unfoldable pub answerOf : Plan → ℕ → Frame → Buffer
 unfolding kindOf

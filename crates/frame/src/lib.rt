@@ -4,8 +4,10 @@
 // period, the offset and the spacing of the reads and the limit come in a plan.
 ghost use mathlib.Core.Path.{_≡_};
 ghost use mathlib.Core.Bool.{true};
-ghost use Prim.Native.Nat.{_-_, _≤_, _<_, max};
-ghost use Rattle.frame.specs.Step.{lower, emptyOf, openedOf, countedOf, pushOf, kindOf, detailOf, wholeRow, brokenRow, rowOf, answerOf, joined, noFrames, arriveOf, closeOf};
+ghost use Prim.Native.Nat.{_+_, _-_, _≤_, _<_, max};
+ghost use lib.ListN.{length};
+ghost use Rattle.laws.specs.Lay.{laid};
+ghost use Rattle.frame.specs.Step.{lower, emptyOf, openedOf, countedOf, pushOf, kindOf, detailOf, wholeRow, brokenRow, rowOf, numbersOf, answerOf, joined, noFrames, arriveOf, closeOf};
 ghost use Rattle.frame.specs.declared.Buffer.the-variants.{Pass};
 ghost use Rattle.frame.specs.Range.{Planned, Pushable, Rowable};
 
@@ -256,6 +258,39 @@ fn broken_row(number: u64, kind: u64, detail: u64) -> Row
         gap: 0,
         peak: 0,
         least: 0,
+    }
+}
+
+impl Row {
+    // The ten numbers in document 01's order: the one place that knows it.
+    pub fn numbers(self) -> [i64; ROW]
+        ensures { λ r. ⌜ r ≡ numbersOf self ⌝ }
+    {
+        [
+            self.number,
+            self.kind,
+            self.detail,
+            self.fpt,
+            self.offset,
+            self.latency,
+            self.margin,
+            self.gap,
+            self.peak,
+            self.least,
+        ]
+    }
+
+    // The ten numbers into `rows`, from `at` on.
+    pub fn put(self, rows: &mut [i64], at: usize)
+        requires { ⌜ at + 10 ≤ length (now rows) ⌝ }
+        ensures { λ r. ⌜ now (rows .exit) ≡ laid at (numbersOf self) (now (rows .entry)) ⌝ }
+    {
+        let numbers = self.numbers();
+        let mut k = 0;
+        while k < ROW {
+            rows[at + k] = numbers[k];
+            k += 1;
+        }
     }
 }
 

@@ -4,4 +4,5 @@ pub mod Most
 pub mod Count
 pub mod Seek
 pub mod Fold
+pub mod Lay
 pub mod Differ

@@ -1,0 +1,84 @@
+-- What is left of the ten numbers, laid from the next place on, gives the end; each turn lays one.
+use Rattle.laws.specs.Lay.{laid, laid-turn, laid-done}
+use lib.IntN.{pos}
+use mir.Syntax.{w64}
+use mir.Facts.{toZ-ofZ}
+use native.Mathlib.Nat.{add-zero}
+use mathlib.Core.Path.{_≡_, refl, sym, ap, _∙_}
+use lib.ListN.{drop, getD}
+use Prim.Native.Nat.{ℕ, _+_, _*_, _-_, _≤_, _<_}
+use mathlib.Core.Path.{_≡_}
+use native.Mathlib.Omega.{arith}
+use lib.ListN.{length, length-set}
+use borrow.Author.Needs.{needs}
+use Rattle.frame.proofs.Row.put.Statement.{statement}
+use Rattle.frame.proofs.Row.put.Tie as tie
+
+abbrev Inv-loop : tie.InvT-loop
+Inv-loop rows₀ at numbers k₀ rows k = (laid (at + k) (drop k numbers) rows ≡ laid at numbers rows₀) × (k ≤ 10) × (length rows ≡ length rows₀) × (length numbers ≡ 10)
+
+abbrev μ-loop : tie.MeasureT-loop
+μ-loop rows₀ at numbers k₀ rows k = 10 - k
+
+numbers-requires : tie.Need-numbers-requires Inv-loop μ-loop
+numbers-requires c κs = search needs
+
+loop-holds : tie.Need-loop-holds Inv-loop μ-loop
+loop-holds c = (rw add-zero, omega arith, refl, ap length (c .numbers .ensures))
+
+mul-rows : tie.Need-mul-rows Inv-loop μ-loop
+mul-rows c = search needs
+
+array-copy-out-rows : tie.Need-array-copy-out-rows Inv-loop μ-loop
+array-copy-out-rows c = search needs
+
+add-t12 : tie.Need-add-t12 Inv-loop μ-loop
+add-t12 c = search needs
+
+mul-t13 : tie.Need-mul-t13 Inv-loop μ-loop
+mul-t13 c = search needs
+
+slice-set-from-rows : tie.Need-slice-set-from-rows Inv-loop μ-loop
+slice-set-from-rows c = search needs
+
+add-k : tie.Need-add-k Inv-loop μ-loop
+add-k c = search needs
+
+loop-less : tie.Need-loop-less Inv-loop μ-loop
+loop-less c = search needs
+
+loop-again : tie.Need-loop-again Inv-loop μ-loop
+loop-again c = let l = c .before .before .loop in
+    let ten = c .before .before .before .numbers .result in (
+      rw (toZ-ofZ {w = w64} (record { sfits = c .rows .given })) (laid-turn _ (l .k) ten (l .rows) (pos 0) (omega (arith, l .inv .3)) ∙ l .inv .0),
+      omega arith,
+      simp length-set (l .inv .2),
+      l .inv .3,
+    )
+
+same-length : tie.Need-same-length Inv-loop μ-loop
+same-length c = search needs
+
+returns : tie.Need-returns Inv-loop μ-loop
+returns c = let l = c .before .loop in
+    let ten = c .before .before .numbers .result in
+    laid-done _ (l .k) ten (l .rows) (omega (arith, l .inv .3)) (l .inv .0) ∙ rw (c .before .before .numbers .ensures)
+
+pub put-spec : {M : Type 1} → statement M
+put-spec =
+    tie.close
+    (tie.spec
+    Inv-loop
+    μ-loop
+    numbers-requires
+    loop-holds
+    mul-rows
+    array-copy-out-rows
+    add-t12
+    mul-t13
+    slice-set-from-rows
+    add-k
+    loop-less
+    loop-again
+    same-length
+    returns)
