@@ -6,6 +6,7 @@ ghost use mathlib.Core.Path.{_≡_};
 ghost use Prim.Native.Nat.{_-_, _≤_, _<_};
 ghost use lib.Dec.{leb};
 ghost use Rattle.laws.specs.Choose.{pick};
+ghost use Rattle.bucket.specs.Paper.{networkNumber, networkFirst, networkLast};
 ghost use Rattle.bucket.specs.Step.{emptyOf, stepOf, arrivedOf, judged};
 
 // The packets first .. last of the history, numbered from 0.
@@ -25,6 +26,36 @@ pub struct Bucket {
     pub start: u64,
     pub peak: u64,
     pub network: Network,
+}
+
+impl Network {
+    // The paper's numbers for the answer: 0 pass or 1 burst, the run's first and last packet, 0 where there is none.
+    pub fn number(self) -> u64
+        ensures { λ r. ⌜ r ≡ networkNumber self ⌝ }
+    {
+        match self {
+            Network::Pass => 0,
+            Network::Burst(_) => 1,
+        }
+    }
+
+    pub fn first(self) -> u64
+        ensures { λ r. ⌜ r ≡ networkFirst self ⌝ }
+    {
+        match self {
+            Network::Pass => 0,
+            Network::Burst(run) => run.first,
+        }
+    }
+
+    pub fn last(self) -> u64
+        ensures { λ r. ⌜ r ≡ networkLast self ⌝ }
+    {
+        match self {
+            Network::Pass => 0,
+            Network::Burst(run) => run.last,
+        }
+    }
 }
 
 impl Bucket {

@@ -7,6 +7,7 @@ ghost use mathlib.Core.Bool.{true};
 ghost use Prim.Native.Nat.{_+_, _-_, _≤_, _<_, max};
 ghost use lib.ListN.{length};
 ghost use Rattle.laws.specs.Lay.{laid};
+ghost use Rattle.frame.specs.Paper.{bufferNumber, bufferFrame, bufferPlace};
 ghost use Rattle.frame.specs.Step.{lower, emptyOf, openedOf, countedOf, pushOf, kindOf, detailOf, wholeRow, brokenRow, rowOf, numbersOf, answerOf, joined, noFrames, arriveOf, closeOf};
 ghost use Rattle.frame.specs.declared.Buffer.the-variants.{Pass};
 ghost use Rattle.frame.specs.Range.{Planned, Pushable, Rowable};
@@ -295,6 +296,41 @@ impl Row {
 }
 
 impl Buffer {
+    // The paper's numbers for the answer: 0 none, 1 pass, 2 under, 3 over; the frame, and the packet's place
+    // or the peak, 0 where there is none.
+    pub fn number(self) -> u64
+        ensures { λ r. ⌜ r ≡ bufferNumber self ⌝ }
+    {
+        match self {
+            Buffer::None => 0,
+            Buffer::Pass => 1,
+            Buffer::Under(_) => 2,
+            Buffer::Over(_) => 3,
+        }
+    }
+
+    pub fn frame(self) -> u64
+        ensures { λ r. ⌜ r ≡ bufferFrame self ⌝ }
+    {
+        match self {
+            Buffer::None => 0,
+            Buffer::Pass => 0,
+            Buffer::Under(p) => p.frame,
+            Buffer::Over(p) => p.frame,
+        }
+    }
+
+    pub fn place(self) -> u64
+        ensures { λ r. ⌜ r ≡ bufferPlace self ⌝ }
+    {
+        match self {
+            Buffer::None => 0,
+            Buffer::Pass => 0,
+            Buffer::Under(p) => p.place,
+            Buffer::Over(p) => p.place,
+        }
+    }
+
     // The answer so far, and then the next frame's: the first that fails decides.
     pub fn then(self, next: Buffer) -> Buffer
         ensures { λ r. ⌜ r ≡ joined self next ⌝ }

@@ -48,7 +48,7 @@ impl Past {
     }
 
     // Nanoseconds from the first packet to one at `t`: 0 for a past no history has, whose first is after `t`.
-    fn elapsed(self, t: u64) -> u64
+    pub fn elapsed(self, t: u64) -> u64
         ensures { λ r. ⌜ r ≡ elapsedOf self t ⌝ }
     {
         let first = self.first_with(t);

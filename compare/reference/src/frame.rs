@@ -1,0 +1,124 @@
+//! Frames: where they begin and end, their kinds and their times.
+
+use crate::fraction::Fraction;
+use crate::numbers::{Limits, GRAINS_PER_TICK, WRAP};
+use crate::packet::Packet;
+
+/// A closed frame.
+#[derive(Clone, Copy, Debug)]
+pub struct Frame<'a> {
+    pub packets: &'a [Packet],
+    /// "the marker packet before it".
+    pub marker_before: &'a Packet,
+}
+
+/// Kind and detail of a frame.
+#[derive(Clone, Copy, Debug, PartialEq, Eq)]
+pub enum Kind {
+    Whole,
+    Short { count: usize },
+    Long { count: usize },
+    Stamp { place: usize },
+}
+
+/// "Packets up to and including the first marker are the lead-in: in the
+/// bucket, in no frame. After that each marker closes a frame."
+pub fn closed_frames(packets: &[Packet]) -> Vec<Frame<'_>> {
+    let markers: Vec<usize> = (0..packets.len())
+        .filter(|&i| packets[i].marker == 1)
+        .collect();
+    markers
+        .windows(2)
+        .map(|pair| Frame {
+            packets: &packets[pair[0] + 1..=pair[1]],
+            marker_before: &packets[pair[0]],
+        })
+        .collect()
+}
+
+impl Frame<'_> {
+    pub fn first(&self) -> &Packet {
+        &self.packets[0]
+    }
+
+    /// "Kinds, tried in this order: 1 short (fewer than n), 2 long (more than
+    /// n), 3 stamp (some timestamp differs from the first packet's), 0 whole."
+    pub fn kind(&self, n: i128) -> Kind {
+        let count = self.packets.len();
+        if (count as i128) < n {
+            return Kind::Short { count };
+        }
+        if (count as i128) > n {
+            return Kind::Long { count };
+        }
+        match self.first_differing_timestamp() {
+            Some(place) => Kind::Stamp { place },
+            None => Kind::Whole,
+        }
+    }
+
+    /// "place in the frame, from 0, of the first differing timestamp".
+    fn first_differing_timestamp(&self) -> Option<usize> {
+        self.packets
+            .iter()
+            .position(|packet| packet.timestamp != self.first().timestamp)
+    }
+}
+
+impl Kind {
+    /// "detail (count for 1 and 2, place in the frame, from 0, of the first
+    /// differing timestamp for 3, else 0)".
+    pub fn numbers(&self) -> (i64, i64) {
+        match *self {
+            Kind::Whole => (0, 0),
+            Kind::Short { count } => (1, count as i64),
+            Kind::Long { count } => (2, count as i64),
+            Kind::Stamp { place } => (3, place as i64),
+        }
+    }
+}
+
+/// The times of a frame, all in grains.
+#[derive(Clone, Copy, Debug, PartialEq, Eq)]
+pub struct Times {
+    pub t_cf: i128,
+    pub first_packet_time: i128,
+    pub rtp_offset: i128,
+    pub latency: i128,
+    pub margin: i128,
+    pub gap: i128,
+}
+
+/// "N = round(27t/F), halves up; T_CF = N·F."
+pub fn t_cf(first: &Packet, frame: i128) -> i128 {
+    let half = Fraction::new(1, 2);
+    let n = Fraction::new(first.grains(), frame).plus(half).floor();
+    n * frame
+}
+
+/// "Encoded time, formulas (1) and (2): the arrival's wrap count times P plus
+/// 300,000 times the timestamp, with [...] wrap count INT(27t/P)."
+pub fn encoded_time(first: &Packet) -> i128 {
+    let wrap_count = Fraction::new(first.grains(), WRAP).floor();
+    wrap_count * WRAP + GRAINS_PER_TICK * i128::from(first.timestamp)
+}
+
+/// "FPT = 27t − T_CF", "RTP_OFFSET = encoded − T_CF. Latency VL = 27t −
+/// encoded. Margin = TRO − FPT. GAP = first arrival of this frame less arrival
+/// of the marker packet before it".
+pub fn times(limits: &Limits, frame: &Frame) -> Times {
+    let first = frame.first();
+    let t_cf = t_cf(first, limits.frame);
+    let encoded = encoded_time(first);
+    let first_packet_time = first.grains() - t_cf;
+    // "FPT is at least minus half a frame and below plus half."
+    assert!(-limits.frame <= 2 * first_packet_time && 2 * first_packet_time < limits.frame);
+    Times {
+        t_cf,
+        first_packet_time,
+        rtp_offset: encoded - t_cf,
+        latency: first.grains() - encoded,
+        margin: limits.tro - first_packet_time,
+        gap: first.grains() - frame.marker_before.grains(),
+    }
+}

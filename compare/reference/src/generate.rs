@@ -1,0 +1,213 @@
+//! Test files: record files of streams, whole and damaged.
+
+use std::io;
+use std::path::Path;
+
+use crate::numbers::Numbers;
+use crate::packet::Packet;
+use crate::random::Random;
+use crate::record::{packet_body, parameters_body, record, write};
+use crate::stream::{refused_numbers, stream};
+
+/// File `index` of a seed.
+pub fn file(seed: u64, index: u64) -> Vec<u8> {
+    let mut random = Random::new(seed, index);
+    match random.below(100) {
+        0 => vec![],
+        1..=2 => front(&mut random),
+        3..=4 => random_bytes(&mut random),
+        5..=12 => refused_set_up(&mut random),
+        13..=38 => damaged(&mut random),
+        _ => {
+            let (numbers, packets) = stream(&mut random);
+            write(&numbers, &packets)
+        }
+    }
+}
+
+/// Writes `count` files `NNNNNN.rec`.
+pub fn generate(seed: u64, count: u64, directory: &Path) -> io::Result<()> {
+    std::fs::create_dir_all(directory)?;
+    for index in 0..count {
+        let name = format!("{:06}.rec", index);
+        std::fs::write(directory.join(name), file(seed, index))?;
+    }
+    Ok(())
+}
+
+/// A file cut off within its first bytes; the version byte alone is one.
+fn front(random: &mut Random) -> Vec<u8> {
+    let (numbers, packets) = stream(random);
+    let mut bytes = write(&numbers, &packets);
+    bytes.truncate(random.pick(&[1, 1, 2, 3, 4, 18, 19]));
+    bytes
+}
+
+/// Half of them with the right version byte, so that they get past 20.
+fn random_bytes(random: &mut Random) -> Vec<u8> {
+    let length = 1 + random.place(80);
+    let mut bytes: Vec<u8> = (0..length).map(|_| random.bits() as u8).collect();
+    if random.chance(50) {
+        bytes[0] = 1;
+    }
+    bytes
+}
+
+fn refused_set_up(random: &mut Random) -> Vec<u8> {
+    let numbers = refused_numbers(random);
+    let packets = if random.chance(50) {
+        vec![Packet::new(1_000, 0, 1), Packet::new(2_000, 0, 1)]
+    } else {
+        vec![]
+    };
+    write(&numbers, &packets)
+}
+
+/// A file as its records, so that damage can be aimed at one of them.
+struct Pieces {
+    version: u8,
+    records: Vec<Vec<u8>>,
+}
+
+impl Pieces {
+    fn of(numbers: &Numbers, packets: &[Packet]) -> Pieces {
+        let mut records = vec![record(&parameters_body(numbers))];
+        records.extend(packets.iter().map(|packet| record(&packet_body(packet))));
+        Pieces {
+            version: 1,
+            records,
+        }
+    }
+
+    fn bytes(&self) -> Vec<u8> {
+        let mut bytes = vec![self.version];
+        bytes.extend(self.records.concat());
+        bytes
+    }
+
+    /// The first records are hit more often, the parameters among them.
+    fn any(&self, random: &mut Random) -> usize {
+        let few = self.records.len().min(4);
+        if random.chance(40) {
+            random.place(few)
+        } else {
+            random.place(self.records.len())
+        }
+    }
+}
+
+fn damaged(random: &mut Random) -> Vec<u8> {
+    let (numbers, mut packets) = stream(random);
+    packets.truncate(600);
+    let mut pieces = Pieces::of(&numbers, &packets);
+    match random.below(14) {
+        0 => zero_length(random, &mut pieces),
+        1 => other_length(random, &mut pieces),
+        2 | 9 => resized_body(random, &mut pieces),
+        3 => other_kind(random, &mut pieces),
+        4 => swapped_kind(random, &mut pieces),
+        5 => pieces.version = random.pick(&[0, 2, 3, 255]),
+        6 => second_parameters(random, &mut pieces, &numbers),
+        7 => packets_first(random, &mut pieces),
+        8 => inserted(random, &mut pieces),
+        _ => {}
+    }
+    damaged_bytes(random, pieces.bytes())
+}
+
+fn set_length(record: &mut [u8], length: usize) {
+    record[..2].copy_from_slice(&(length as u16).to_be_bytes());
+}
+
+fn zero_length(random: &mut Random, pieces: &mut Pieces) {
+    let place = pieces.any(random);
+    set_length(&mut pieces.records[place], 0);
+}
+
+/// The field alone is changed: what follows is then read out of step, or the
+/// file ends too soon. The lengths of both kinds are among them.
+fn other_length(random: &mut Random, pieces: &mut Pieces) {
+    let place = pieces.any(random);
+    let rest: usize = pieces.records[place..].iter().map(|r| r.len()).sum();
+    let to_the_end = (rest - 2).min(65_535);
+    let beyond = (rest - 1).min(65_535);
+    let length = random.pick(&[1, 13, 14, 15, 16, 17, 256, 65_535, to_the_end, beyond]);
+    set_length(&mut pieces.records[place], length);
+}
+
+/// Field and body grow or shrink together: 22, or 21 when nothing is left.
+fn resized_body(random: &mut Random, pieces: &mut Pieces) {
+    let place = pieces.any(random);
+    let body = pieces.records[place].len() - 2;
+    let any = random.place(40);
+    let size = random.pick(&[0, 1, body - 1, body + 1, 14, 16, any]);
+    let changed = &mut pieces.records[place];
+    changed.resize(2 + size, 0);
+    set_length(changed, size);
+}
+
+fn other_kind(random: &mut Random, pieces: &mut Pieces) {
+    let place = pieces.any(random);
+    pieces.records[place][2] = random.pick(&[0, 3, 4, 5, 255]);
+}
+
+/// A kind that is known, on a body of the other's length.
+fn swapped_kind(random: &mut Random, pieces: &mut Pieces) {
+    let place = pieces.any(random);
+    pieces.records[place][2] = 3 - pieces.records[place][2];
+}
+
+/// Parameters again: the same ones, or ones that set-up would refuse.
+fn second_parameters(random: &mut Random, pieces: &mut Pieces, numbers: &Numbers) {
+    let again = if random.chance(50) {
+        *numbers
+    } else {
+        refused_numbers(random)
+    };
+    let place = 1 + random.place(pieces.records.len());
+    pieces
+        .records
+        .insert(place, record(&parameters_body(&again)));
+}
+
+/// Parameters later, or not at all; the packet in front may itself be one that
+/// would be refused.
+fn packets_first(random: &mut Random, pieces: &mut Pieces) {
+    let parameters = pieces.records.remove(0);
+    if pieces.records.is_empty() || random.chance(60) {
+        let packet = Packet::new(random.bits(), 0, random.pick(&[0, 1, 2, 2]));
+        pieces.records.insert(0, record(&packet_body(&packet)));
+    }
+    if random.chance(60) {
+        let place = 1 + random.place(pieces.records.len());
+        pieces.records.insert(place, parameters);
+    }
+}
+
+/// A record of an unknown kind, or of a known one and the wrong length.
+fn inserted(random: &mut Random, pieces: &mut Pieces) {
+    let place = random.place(pieces.records.len() + 1);
+    let length = random.pick(&[1, 2, 14, 16, 300, 65_535]);
+    let mut body = vec![0; length];
+    body[0] = random.pick(&[0, 1, 2, 3, 4, 200]);
+    pieces.records.insert(place, record(&body));
+}
+
+fn damaged_bytes(random: &mut Random, mut bytes: Vec<u8>) -> Vec<u8> {
+    match random.below(10) {
+        0..=1 => bytes.truncate(random.place(bytes.len())),
+        2 => bytes.truncate(random.place(bytes.len().min(40))),
+        3..=4 => flip(random, &mut bytes),
+        5 => bytes.extend(vec![random.pick(&[0, 1, 255]); 1 + random.place(3)]),
+        _ => {}
+    }
+    bytes
+}
+
+fn flip(random: &mut Random, bytes: &mut [u8]) {
+    for _ in 0..=random.below(4) {
+        let reach = random.pick(&[bytes.len(), bytes.len().min(60)]);
+        let place = random.place(reach);
+        bytes[place] ^= 1 << random.below(8);
+    }
+}

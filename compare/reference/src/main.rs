@@ -1,0 +1,128 @@
+//! The command `reference`.
+
+use std::io::{self, Read, Write};
+use std::path::Path;
+use std::process::exit;
+
+use vtiming_reference::generate::generate;
+use vtiming_reference::{expected_c_call, expected_output, graph, set_up, Numbers};
+
+const USAGE: &str = "usage:
+  reference print FILE|-          what vtiming prints for the file
+  reference ccall ROOM FILE|-     number, offset and bytes of the C call
+  reference limits RATE SCHEDULE CLASS HEIGHT N MAXUDP TRO|default
+  reference graph FPT MARGIN VL   the graph's doubles for figures in grains
+  reference gen SEED COUNT DIR    writes COUNT test files to DIR
+  reference expect DIR            writes FILE.out for each .rec file in DIR";
+
+fn main() {
+    let arguments: Vec<String> = std::env::args().skip(1).collect();
+    let words: Vec<&str> = arguments.iter().map(|word| word.as_str()).collect();
+    let done = match words.as_slice() {
+        ["print", file] => print(file),
+        ["ccall", room, file] => c_call(room, file),
+        ["limits", numbers @ ..] if numbers.len() == 7 => limits(numbers),
+        ["graph", fpt, margin, vl] => figures(fpt, margin, vl),
+        ["gen", seed, count, directory] => gen(seed, count, directory),
+        ["expect", directory] => expect(Path::new(directory)),
+        _ => usage(),
+    };
+    if let Err(error) = done {
+        eprintln!("reference: {}", error);
+        exit(1);
+    }
+}
+
+fn usage() -> io::Result<()> {
+    eprintln!("{}", USAGE);
+    exit(2);
+}
+
+fn number<T: std::str::FromStr>(word: &str) -> io::Result<T> {
+    word.parse().map_err(|_| {
+        let message = format!("not a number here: {}", word);
+        io::Error::new(io::ErrorKind::InvalidInput, message)
+    })
+}
+
+fn contents(file: &str) -> io::Result<Vec<u8>> {
+    if file != "-" {
+        return std::fs::read(file);
+    }
+    let mut bytes = Vec::new();
+    io::stdin().lock().read_to_end(&mut bytes)?;
+    Ok(bytes)
+}
+
+fn say(text: &str) -> io::Result<()> {
+    io::stdout().lock().write_all(text.as_bytes())
+}
+
+fn print(file: &str) -> io::Result<()> {
+    say(&expected_output(&contents(file)?))
+}
+
+fn c_call(room: &str, file: &str) -> io::Result<()> {
+    let (number, offset, filled) = expected_c_call(&contents(file)?, number(room)?);
+    let bytes = filled.unwrap_or_default();
+    let hex: String = bytes.iter().map(|byte| format!("{:02x}", byte)).collect();
+    say(format!("{} {} {}", number, offset, hex).trim_end())?;
+    say("\n")
+}
+
+fn limits(words: &[&str]) -> io::Result<()> {
+    let numbers = Numbers {
+        rate: number(words[0])?,
+        schedule: number(words[1])?,
+        class: number(words[2])?,
+        height: number(words[3])?,
+        packets_per_frame: number(words[4])?,
+        maxudp: number(words[5])?,
+        tro: tro(words[6])?,
+    };
+    say(&match set_up(&numbers) {
+        Err(number) => format!("refused {}\n", number),
+        Ok(limits) => format!(
+            "F {} TRO {} C_MAX {} VRX_FULL {}\n",
+            limits.frame, limits.tro, limits.c_max, limits.vrx_full
+        ),
+    })
+}
+
+/// "all ones is default", as in a record file.
+fn tro(word: &str) -> io::Result<Option<u64>> {
+    match word {
+        "default" | "4294967295" => Ok(None),
+        _ => Ok(Some(number(word)?)),
+    }
+}
+
+/// The doubles with their bits, so that they can be compared exactly.
+fn figures(fpt: &str, margin: &str, vl: &str) -> io::Result<()> {
+    match graph(number(fpt)?, number(margin)?, number(vl)?) {
+        Err(number) => say(&format!("refused {}\n", number)),
+        Ok(graph) => {
+            let values = [graph.first_packet_time, graph.margin, graph.latency];
+            let lines = values.map(|value| format!("{:016x} {}\n", value.to_bits(), value));
+            say(&lines.concat())
+        }
+    }
+}
+
+fn gen(seed: &str, count: &str, directory: &str) -> io::Result<()> {
+    generate(number(seed)?, number(count)?, Path::new(directory))
+}
+
+fn expect(directory: &Path) -> io::Result<()> {
+    for entry in std::fs::read_dir(directory)? {
+        let path = entry?.path();
+        if path
+            .extension()
+            .map_or(false, |extension| extension == "rec")
+        {
+            let text = expected_output(&std::fs::read(&path)?);
+            std::fs::write(path.with_extension("out"), text)?;
+        }
+    }
+    Ok(())
+}

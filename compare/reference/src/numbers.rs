@@ -1,0 +1,171 @@
+//! The grain, the seven stream numbers, and what set-up derives from them.
+
+use crate::fraction::Fraction;
+
+/// "27 grains are one nanosecond."
+pub const GRAINS_PER_NANOSECOND: i128 = 27;
+/// "An RTP tick at 90 kHz is 300,000 grains."
+pub const GRAINS_PER_TICK: i128 = 300_000;
+pub const GRAINS_PER_MICROSECOND: i128 = 1_000 * GRAINS_PER_NANOSECOND;
+pub const GRAINS_PER_SECOND: i128 = 1_000_000_000 * GRAINS_PER_NANOSECOND;
+/// "P = 1,288,490,188,800,000 grains (2^32 ticks)."
+pub const WRAP: i128 = 1_288_490_188_800_000;
+
+/// The seven numbers as the caller gives them. `tro` is in whole microseconds;
+/// `None` is the default. "Records keep class 0 and a default TRO as written",
+/// so nothing is worked out here.
+#[derive(Clone, Copy, Debug, PartialEq, Eq)]
+pub struct Numbers {
+    pub rate: u64,
+    pub schedule: u64,
+    pub class: u64,
+    pub height: u64,
+    pub packets_per_frame: u64,
+    pub maxudp: u64,
+    pub tro: Option<u64>,
+}
+
+/// What set-up derives.
+#[derive(Clone, Copy, Debug, PartialEq, Eq)]
+pub struct Limits {
+    /// F, in grains.
+    pub frame: i128,
+    /// R of the schedule.
+    pub r: Fraction,
+    /// n.
+    pub n: i128,
+    /// TRO, in grains.
+    pub tro: i128,
+    pub c_max: i128,
+    pub vrx_full: i128,
+}
+
+/// "0 means 3."
+#[derive(Clone, Copy, Debug, PartialEq, Eq)]
+pub enum Class {
+    Narrow,
+    NarrowLinear,
+    Wide,
+}
+
+/// "The frame length in grains for each rate code, 1 to 8."
+pub fn frame_length(rate: u64) -> Option<i128> {
+    match rate {
+        1 => Some(1_126_125_000),
+        2 => Some(1_125_000_000),
+        3 => Some(1_080_000_000),
+        4 => Some(900_900_000),
+        5 => Some(900_000_000),
+        6 => Some(540_000_000),
+        7 => Some(450_450_000),
+        8 => Some(450_000_000),
+        _ => None,
+    }
+}
+
+/// "Schedule: 0 gapped (R = 24/25, from 1080/1125), 1 linear (R = 1)."
+pub fn schedule_ratio(schedule: u64) -> Option<Fraction> {
+    match schedule {
+        0 => Some(Fraction::new(24, 25)),
+        1 => Some(Fraction::whole(1)),
+        _ => None,
+    }
+}
+
+/// "Class: 1 narrow (gapped only), 2 narrow linear (linear only), 3 wide
+/// (either). 0 means 3."
+pub fn class_of(class: u64, schedule: u64) -> Option<Class> {
+    match (class, schedule) {
+        (1, 0) => Some(Class::Narrow),
+        (2, 1) => Some(Class::NarrowLinear),
+        (0, _) | (3, _) => Some(Class::Wide),
+        _ => None,
+    }
+}
+
+/// "TRO: given in whole microseconds, below one frame, or default: 43F/1125
+/// for height 1080 and up, else 28F/750."
+pub fn tro_grains(tro: Option<u64>, height: u64, frame: i128) -> Option<i128> {
+    match tro {
+        Some(microseconds) => given_tro(microseconds, frame),
+        None => Some(default_tro(height, frame)),
+    }
+}
+
+fn given_tro(microseconds: u64, frame: i128) -> Option<i128> {
+    let grains = i128::from(microseconds) * GRAINS_PER_MICROSECOND;
+    if grains < frame {
+        Some(grains)
+    } else {
+        None
+    }
+}
+
+fn default_tro(height: u64, frame: i128) -> i128 {
+    let tro = if height >= 1080 {
+        Fraction::new(43 * frame, 1125)
+    } else {
+        Fraction::new(28 * frame, 750)
+    };
+    // "Both are whole grains at all eight rates."
+    assert!(tro.is_whole());
+    tro.floor()
+}
+
+/// INT(n/(divisor·T)), with T the frame in seconds; `divisor` carries R where
+/// the paper has it.
+fn int_n_over(n: i128, divisor: Fraction, frame: i128) -> i128 {
+    let t = Fraction::new(frame, GRAINS_PER_SECOND);
+    Fraction::whole(n).divided_by(divisor.times(t)).floor()
+}
+
+/// "C_MAX: narrow MAX(4, INT(n/(43200·R·T))); narrow linear
+/// MAX(4, INT(n/(43200·T))); wide MAX(16, INT(n/(21600·T)))."
+fn c_max(class: Class, n: i128, r: Fraction, frame: i128) -> i128 {
+    let divisor = |whole| Fraction::whole(whole);
+    match class {
+        Class::Narrow => 4_i128.max(int_n_over(n, divisor(43_200).times(r), frame)),
+        Class::NarrowLinear => 4_i128.max(int_n_over(n, divisor(43_200), frame)),
+        Class::Wide => 16_i128.max(int_n_over(n, divisor(21_600), frame)),
+    }
+}
+
+/// "VRX_FULL: narrow and narrow linear MAX(INT(12000/MAXUDP),
+/// INT(n/(27000·T))); wide MAX(INT(1080000/MAXUDP), INT(n/(300·T)))."
+fn vrx_full(class: Class, n: i128, maxudp: i128, frame: i128) -> i128 {
+    let (bytes, divisor) = match class {
+        Class::Narrow | Class::NarrowLinear => (12_000, 27_000),
+        Class::Wide => (1_080_000, 300),
+    };
+    let by_size = Fraction::new(bytes, maxudp).floor();
+    by_size.max(int_n_over(n, Fraction::whole(divisor), frame))
+}
+
+/// Set-up. "1..7: set-up, in this order: rate, schedule, class (unknown or
+/// against the schedule), height, n, MAXUDP, TRO."
+pub fn set_up(numbers: &Numbers) -> Result<Limits, u8> {
+    let frame = frame_length(numbers.rate).ok_or(1)?;
+    let r = schedule_ratio(numbers.schedule).ok_or(2)?;
+    let class = class_of(numbers.class, numbers.schedule).ok_or(3)?;
+    check((1..=65_535).contains(&numbers.height), 4)?;
+    check((1..=20_000).contains(&numbers.packets_per_frame), 5)?;
+    check([1460, 8960].contains(&numbers.maxudp), 6)?;
+    let tro = tro_grains(numbers.tro, numbers.height, frame).ok_or(7)?;
+    let n = i128::from(numbers.packets_per_frame);
+    Ok(Limits {
+        frame,
+        r,
+        n,
+        tro,
+        c_max: c_max(class, n, r, frame),
+        vrx_full: vrx_full(class, n, i128::from(numbers.maxudp), frame),
+    })
+}
+
+fn check(holds: bool, number: u8) -> Result<(), u8> {
+    if holds {
+        Ok(())
+    } else {
+        Err(number)
+    }
+}

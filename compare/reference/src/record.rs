@@ -1,0 +1,230 @@
+//! The record file: reading and writing.
+
+use crate::numbers::{set_up, Numbers};
+use crate::packet::{first_refused, zip, Packet, Past};
+use crate::Refusal;
+
+const VERSION: u8 = 1;
+/// "Kind 1, 16 bytes: kind, rate, schedule, class, height (2), n (4), MAXUDP
+/// (2), TRO (4; all ones is default)."
+const PARAMETERS_KIND: u8 = 1;
+const PARAMETERS_LENGTH: usize = 16;
+/// "Kind 2, 14 bytes: kind, arrival (8), timestamp (4), marker."
+const PACKET_KIND: u8 = 2;
+const PACKET_LENGTH: usize = 14;
+const LENGTH_BYTES: usize = 2;
+const DEFAULT_TRO: u64 = 0xffff_ffff;
+
+/// How far a reading went. What came before a refusal is kept, since the
+/// program prints "the rows closed before a refusal".
+#[derive(Clone, Debug, PartialEq, Eq)]
+pub struct FileReading {
+    pub numbers: Option<Numbers>,
+    pub packets: Vec<Packet>,
+    pub refusal: Option<Refusal>,
+    past: Past,
+}
+
+enum Record {
+    Parameters(Numbers),
+    Packet(Packet),
+}
+
+/// "Reading stops at the first record that is refused and gives its offset
+/// (0 for 20)".
+pub fn read(bytes: &[u8]) -> FileReading {
+    let mut reading = FileReading {
+        numbers: None,
+        packets: Vec::new(),
+        refusal: None,
+        past: Past::default(),
+    };
+    reading.refusal = reading.read_all(bytes).err();
+    reading
+}
+
+/// The records of a file, or number and offset.
+pub fn parse(bytes: &[u8]) -> Result<(Numbers, Vec<Packet>), Refusal> {
+    let reading = read(bytes);
+    match (reading.refusal, reading.numbers) {
+        (Some(refusal), _) => Err(refusal),
+        (None, Some(numbers)) => Ok((numbers, reading.packets)),
+        (None, None) => unreachable!("a file without parameters is refused by 23"),
+    }
+}
+
+impl FileReading {
+    fn read_all(&mut self, bytes: &[u8]) -> Result<(), Refusal> {
+        // "20: file empty, or version byte not 1".
+        if bytes.first() != Some(&VERSION) {
+            return Err(Refusal::new(20, 0));
+        }
+        let mut offset = 1;
+        while offset < bytes.len() {
+            let length = self
+                .read_record(&bytes[offset..])
+                .map_err(|number| Refusal::new(number, offset as u64))?;
+            offset += LENGTH_BYTES + length;
+        }
+        // "A lone version byte is 23 at offset 1."
+        if self.numbers.is_none() {
+            return Err(Refusal::new(23, offset as u64));
+        }
+        Ok(())
+    }
+
+    /// One record at the front of `rest`; gives its body's length. "at one
+    /// record 21, 22, 23 come in that order, before set-up and packet
+    /// refusals."
+    fn read_record(&mut self, rest: &[u8]) -> Result<usize, u8> {
+        let body = body_of(rest).ok_or(21)?;
+        match record_of(body).ok_or(22)? {
+            Record::Parameters(numbers) => self.take_parameters(numbers)?,
+            Record::Packet(packet) => self.take_packet(packet)?,
+        }
+        Ok(body.len())
+    }
+
+    /// "23: [...] parameters again", before set-up has a word.
+    fn take_parameters(&mut self, numbers: Numbers) -> Result<(), u8> {
+        if self.numbers.is_some() {
+            return Err(23);
+        }
+        set_up(&numbers)?;
+        self.numbers = Some(numbers);
+        Ok(())
+    }
+
+    /// "23: no parameters first", before 11 to 14.
+    fn take_packet(&mut self, packet: Packet) -> Result<(), u8> {
+        if self.numbers.is_none() {
+            return Err(23);
+        }
+        if let Some(number) = self.past.refuses(&packet) {
+            return Err(number);
+        }
+        self.past = self.past.with(&packet);
+        self.packets.push(packet);
+        Ok(())
+    }
+}
+
+/// "21: record cut short, or its length 0". A length field of which only one
+/// byte is there is a record cut short too.
+fn body_of(rest: &[u8]) -> Option<&[u8]> {
+    if rest.len() < LENGTH_BYTES {
+        return None;
+    }
+    let length = big_endian(&rest[..LENGTH_BYTES]) as usize;
+    if length == 0 || rest.len() < LENGTH_BYTES + length {
+        return None;
+    }
+    Some(&rest[LENGTH_BYTES..LENGTH_BYTES + length])
+}
+
+/// "22: unknown kind, or wrong length for its kind".
+fn record_of(body: &[u8]) -> Option<Record> {
+    match (body[0], body.len()) {
+        (PARAMETERS_KIND, PARAMETERS_LENGTH) => Some(Record::Parameters(numbers_of(body))),
+        (PACKET_KIND, PACKET_LENGTH) => Some(Record::Packet(packet_of(body))),
+        _ => None,
+    }
+}
+
+/// "Records keep class 0 and a default TRO as written."
+fn numbers_of(body: &[u8]) -> Numbers {
+    let tro = big_endian(&body[12..16]);
+    Numbers {
+        rate: big_endian(&body[1..2]),
+        schedule: big_endian(&body[2..3]),
+        class: big_endian(&body[3..4]),
+        height: big_endian(&body[4..6]),
+        packets_per_frame: big_endian(&body[6..10]),
+        maxudp: big_endian(&body[10..12]),
+        tro: if tro == DEFAULT_TRO { None } else { Some(tro) },
+    }
+}
+
+fn packet_of(body: &[u8]) -> Packet {
+    Packet {
+        arrival: big_endian(&body[1..9]),
+        timestamp: big_endian(&body[9..13]) as u32,
+        marker: body[13],
+    }
+}
+
+/// "All big-endian."
+fn big_endian(bytes: &[u8]) -> u64 {
+    bytes
+        .iter()
+        .fold(0, |value, byte| value * 256 + u64::from(*byte))
+}
+
+/// The bytes of a file, nothing checked but that each number has room in its
+/// field, so that files that are to be refused can be written as well.
+pub fn write(numbers: &Numbers, packets: &[Packet]) -> Vec<u8> {
+    let mut bytes = vec![VERSION];
+    bytes.extend(record(&parameters_body(numbers)));
+    for packet in packets {
+        bytes.extend(record(&packet_body(packet)));
+    }
+    bytes
+}
+
+/// "records: length (two bytes, big-endian, of the body), body".
+pub fn record(body: &[u8]) -> Vec<u8> {
+    let mut bytes = field(body.len() as u64, LENGTH_BYTES);
+    bytes.extend(body);
+    bytes
+}
+
+pub fn parameters_body(numbers: &Numbers) -> Vec<u8> {
+    [
+        field(u64::from(PARAMETERS_KIND), 1),
+        field(numbers.rate, 1),
+        field(numbers.schedule, 1),
+        field(numbers.class, 1),
+        field(numbers.height, 2),
+        field(numbers.packets_per_frame, 4),
+        field(numbers.maxudp, 2),
+        field(numbers.tro.unwrap_or(DEFAULT_TRO), 4),
+    ]
+    .concat()
+}
+
+pub fn packet_body(packet: &Packet) -> Vec<u8> {
+    [
+        field(u64::from(PACKET_KIND), 1),
+        field(packet.arrival, 8),
+        field(u64::from(packet.timestamp), 4),
+        field(u64::from(packet.marker), 1),
+    ]
+    .concat()
+}
+
+fn field(value: u64, width: usize) -> Vec<u8> {
+    let bytes = value.to_be_bytes();
+    let (above, kept) = bytes.split_at(8 - width);
+    assert!(above.iter().all(|byte| *byte == 0), "no room in the field");
+    kept.to_vec()
+}
+
+/// The writer. "The writer refuses by 1 to 7, 10 to 14, then 24, and then
+/// writes nothing"; places are "0 for 1 to 10 and 24", else the packet's.
+pub fn writer(
+    numbers: &Numbers,
+    (arrivals, timestamps, markers): (&[u64], &[u32], &[u8]),
+    room: usize,
+) -> Result<Vec<u8>, Refusal> {
+    set_up(numbers).map_err(|number| Refusal::new(number, 0))?;
+    let packets = zip(arrivals, timestamps, markers)?;
+    if let Some(refusal) = first_refused(Past::default(), &packets) {
+        return Err(refusal);
+    }
+    let bytes = write(numbers, &packets);
+    // "24: the writer's lent bytes are fewer than the file needs".
+    if room < bytes.len() {
+        return Err(Refusal::new(24, 0));
+    }
+    Ok(bytes)
+}

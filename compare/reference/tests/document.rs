@@ -1,0 +1,601 @@
+//! Document 01, sentence by sentence: its twelve cases, its example, and every
+//! refusal number that can occur.
+
+use vtiming_reference::bucket::{drain_instant, Run};
+use vtiming_reference::fraction::Fraction;
+use vtiming_reference::frame::{closed_frames, times};
+use vtiming_reference::numbers::{GRAINS_PER_TICK, WRAP};
+use vtiming_reference::packet::LONGEST_HISTORY;
+use vtiming_reference::reads::{read_instant, reading};
+use vtiming_reference::*;
+
+const EXAMPLE: &str = "\
+frame 0 0 0 18900000 0 18900000 1740000 45900000 1 0
+packets 5 frames 1 peak 2 network pass buffer pass
+";
+
+fn narrow(n: u64) -> Numbers {
+    Numbers {
+        rate: 6,
+        schedule: 0,
+        class: 1,
+        height: 1080,
+        packets_per_frame: n,
+        maxudp: 1460,
+        tro: None,
+    }
+}
+
+fn with_tro(rate: u64, tro: u64) -> Numbers {
+    Numbers {
+        rate,
+        tro: Some(tro),
+        ..narrow(4)
+    }
+}
+
+fn packets(list: &[(u64, u32, u8)]) -> Vec<Packet> {
+    list.iter()
+        .map(|&(arrival, timestamp, marker)| Packet::new(arrival, timestamp, marker))
+        .collect()
+}
+
+fn example_packets() -> Vec<Packet> {
+    packets(&[
+        (19_000_000, 0, 1),
+        (20_700_000, 1800, 0),
+        (25_500_000, 1800, 0),
+        (30_300_000, 1800, 0),
+        (35_100_000, 1800, 1),
+    ])
+}
+
+fn example_file() -> Vec<u8> {
+    write(&narrow(4), &example_packets())
+}
+
+/// FPT of a frame of one packet that arrives at `t`, after a lead-in.
+fn first_packet_time(t: u64) -> i64 {
+    let list = packets(&[(0, 0, 1), (t, 0, 1)]);
+    measure(&narrow(1), &list).unwrap().rows[0][3]
+}
+
+fn refused(number: u8, place: u64) -> Refusal {
+    Refusal::new(number, place)
+}
+
+// --- both sides of each limit ---
+
+#[test]
+fn case_1_tro_at_rate_6() {
+    assert!(set_up(&with_tro(6, 19_999)).is_ok());
+    assert_eq!(set_up(&with_tro(6, 20_000)), Err(7));
+}
+
+#[test]
+fn case_2_tro_at_rate_7() {
+    assert!(set_up(&with_tro(7, 16_683)).is_ok());
+    assert_eq!(set_up(&with_tro(7, 16_684)), Err(7));
+}
+
+#[test]
+fn case_3_c_max() {
+    assert_eq!(set_up(&narrow(4147)).unwrap().c_max, 4);
+    assert_eq!(set_up(&narrow(4148)).unwrap().c_max, 5);
+}
+
+#[test]
+fn case_4_vrx_full() {
+    assert_eq!(set_up(&narrow(4859)).unwrap().vrx_full, 8);
+    assert_eq!(set_up(&narrow(4860)).unwrap().vrx_full, 9);
+}
+
+#[test]
+fn case_5_an_exact_half_goes_up() {
+    assert_eq!(first_packet_time(10_000_000), -270_000_000);
+}
+
+#[test]
+fn case_6_just_below_half() {
+    assert_eq!(first_packet_time(9_999_999), 269_999_973);
+}
+
+/// The frame of cases 7 and 8: the first packet `after` T_CF, the other three
+/// in time.
+fn frame_of_four(after: u64) -> Vec<Packet> {
+    let t_cf = 20_000_000;
+    packets(&[
+        (t_cf - 1_000_000, 0, 1),
+        (t_cf + after, 1800, 0),
+        (t_cf + 5_500_000, 1800, 0),
+        (t_cf + 10_300_000, 1800, 0),
+        (t_cf + 15_100_000, 1800, 1),
+    ])
+}
+
+fn levels_and_least(list: &[Packet]) -> (Vec<i128>, i128) {
+    let limits = set_up(&with_tro(6, 700)).unwrap();
+    let frames = closed_frames(list);
+    let t_cf = times(&limits, &frames[0]).t_cf;
+    let reading = reading(&limits, t_cf, frames[0].packets);
+    (reading.levels, reading.least)
+}
+
+#[test]
+fn case_7_in_time() {
+    let list = frame_of_four(700_000);
+    let (levels, least) = levels_and_least(&list);
+    assert_eq!((levels[0], least), (1, 0));
+    let measurement = measure(&with_tro(6, 700), &list).unwrap();
+    assert_eq!(measurement.buffer, Buffer::Pass);
+}
+
+#[test]
+fn case_8_late() {
+    let list = frame_of_four(700_001);
+    let (levels, least) = levels_and_least(&list);
+    assert_eq!((levels[0], least), (0, -1));
+    let measurement = measure(&with_tro(6, 700), &list).unwrap();
+    let under = Buffer::Under {
+        frame: 0,
+        packet: 0,
+    };
+    assert_eq!(measurement.buffer, under);
+}
+
+#[test]
+fn case_9_five_at_one_instant() {
+    let list = packets(&[(1_000, 0, 0); 5]);
+    let measurement = measure(&narrow(4), &list).unwrap();
+    assert_eq!(measurement.peak, 5);
+    assert_eq!(
+        measurement.network,
+        Network::Burst(Run { first: 0, last: 4 })
+    );
+    let four = measure(&narrow(4), &list[..4]).unwrap();
+    assert_eq!((four.peak, four.network), (4, Network::Pass));
+}
+
+#[test]
+fn case_10_the_timestamp_that_went_round() {
+    let t = 47_721_858_844_445;
+    let list = packets(&[(t - 1, 0, 1), (t, 4_294_967_295, 1)]);
+    let row = measure(&narrow(1), &list).unwrap().rows[0];
+    assert_eq!(row[5], -1_288_490_188_499_985);
+}
+
+#[test]
+fn case_11_the_example() {
+    assert_eq!(expected_output(&example_file()), EXAMPLE);
+}
+
+#[test]
+fn case_12_the_empty_file() {
+    assert_eq!(expected_output(&[]), "refused 20 0\n");
+    assert_eq!(expected_c_call(&[], 1000), (20, 0, None));
+}
+
+// --- the numbers ---
+
+#[test]
+fn two_to_the_32_ticks_are_p() {
+    assert_eq!(GRAINS_PER_TICK << 32, WRAP);
+}
+
+#[test]
+fn default_tro_and_read_spacing_of_1080p50() {
+    let limits = set_up(&narrow(4320)).unwrap();
+    // 764.444 µs and 4.4444 µs.
+    assert_eq!(limits.tro, 20_640_000);
+    let spacing = read_instant(&limits, -limits.tro, 1);
+    assert_eq!(spacing, Fraction::whole(120_000));
+    assert_eq!(drain_instant(&limits, 11), Fraction::whole(1_250_000));
+}
+
+#[test]
+fn both_default_tros_are_whole_at_all_rates() {
+    for rate in 1..=8 {
+        for height in [1, 1079, 1080, 65_535] {
+            let numbers = Numbers {
+                rate,
+                height,
+                ..narrow(4)
+            };
+            let limits = set_up(&numbers).unwrap();
+            let (over, under) = if height < 1080 { (28, 750) } else { (43, 1125) };
+            assert_eq!(limits.tro * under, over * limits.frame);
+        }
+    }
+}
+
+#[test]
+fn wide_and_narrow_linear_limits() {
+    let wide = Numbers {
+        class: 0,
+        maxudp: 8960,
+        ..narrow(20_000)
+    };
+    let limits = set_up(&wide).unwrap();
+    assert_eq!((limits.c_max, limits.vrx_full), (46, 3333));
+    let small = Numbers {
+        packets_per_frame: 1,
+        ..wide
+    };
+    let limits = set_up(&small).unwrap();
+    assert_eq!((limits.c_max, limits.vrx_full), (16, 120));
+    let linear = Numbers {
+        schedule: 1,
+        class: 2,
+        ..narrow(4320)
+    };
+    let limits = set_up(&linear).unwrap();
+    assert_eq!((limits.c_max, limits.vrx_full), (5, 8));
+}
+
+// --- refusals ---
+
+#[test]
+fn refusals_1_to_7_in_order() {
+    // Every number is wrong; mending them one after the other shows the order.
+    let mut numbers = Numbers {
+        rate: 9,
+        schedule: 2,
+        class: 4,
+        height: 0,
+        packets_per_frame: 20_001,
+        maxudp: 1500,
+        tro: Some(50_000),
+    };
+    let mut seen = vec![];
+    for step in 0..8 {
+        seen.push(set_up(&numbers).map_or_else(|number| number, |_| 0));
+        match step {
+            0 => numbers.rate = 6,
+            1 => numbers.schedule = 1,
+            2 => numbers.class = 2,
+            3 => numbers.height = 1,
+            4 => numbers.packets_per_frame = 20_000,
+            5 => numbers.maxudp = 8960,
+            _ => numbers.tro = Some(0),
+        }
+    }
+    assert_eq!(seen, [1, 2, 3, 4, 5, 6, 7, 0]);
+    assert_eq!(
+        measure(&Numbers { rate: 0, ..numbers }, &[]),
+        Err(refused(1, 0))
+    );
+}
+
+#[test]
+fn refusal_3_against_the_schedule() {
+    let class_and_schedule = |class, schedule| {
+        set_up(&Numbers {
+            class,
+            schedule,
+            ..narrow(4)
+        })
+        .is_ok()
+    };
+    assert!(class_and_schedule(1, 0) && !class_and_schedule(1, 1));
+    assert!(class_and_schedule(2, 1) && !class_and_schedule(2, 0));
+    assert!(class_and_schedule(0, 0) && class_and_schedule(0, 1));
+    assert!(class_and_schedule(3, 0) && class_and_schedule(3, 1));
+}
+
+#[test]
+fn refusals_4_to_6_at_their_ends() {
+    let height = |height| {
+        set_up(&Numbers {
+            height,
+            ..narrow(4)
+        })
+        .err()
+    };
+    assert_eq!(
+        [0, 1, 65_535, 65_536].map(height),
+        [Some(4), None, None, Some(4)]
+    );
+    let n = |n| set_up(&narrow(n)).err();
+    assert_eq!(
+        [0, 1, 20_000, 20_001].map(n),
+        [Some(5), None, None, Some(5)]
+    );
+    let maxudp = |maxudp| {
+        set_up(&Numbers {
+            maxudp,
+            ..narrow(4)
+        })
+        .err()
+    };
+    assert_eq!([1460, 8960, 1461].map(maxudp), [None, None, Some(6)]);
+}
+
+#[test]
+fn refusals_11_to_13_with_their_places() {
+    let numbers = narrow(4);
+    let refusal = |list: &[(u64, u32, u8)]| measure(&numbers, &packets(list)).err();
+    assert_eq!(refusal(&[(5, 0, 0), (5, 0, 2)]), Some(refused(11, 1)));
+    assert_eq!(refusal(&[(5, 0, 0), (5, 0, 0)]), None);
+    assert_eq!(refusal(&[(5, 0, 0), (4, 0, 0)]), Some(refused(12, 1)));
+    let end = 5 + LONGEST_HISTORY;
+    assert_eq!(refusal(&[(5, 0, 0), (end, 0, 0)]), None);
+    let beyond = [(5, 0, 0), (end, 0, 0), (end + 1, 0, 0)];
+    assert_eq!(refusal(&beyond), Some(refused(13, 2)));
+}
+
+#[test]
+fn refusals_10_and_15_of_one_call() {
+    let numbers = narrow(1);
+    let history = packets(&[(1, 0, 1), (2, 0, 1)]);
+    let lists: (&[u64], &[u32], &[u8]) = (&[3, 4], &[0, 0], &[1, 1]);
+    assert_eq!(call(&numbers, &history, lists, 19), Err(refused(15, 2)));
+    let answer = call(&numbers, &history, lists, 20).unwrap();
+    assert_eq!((answer.rows.len(), answer.after.frames), (2, 3));
+    assert_eq!(answer.rows[0][0], 1);
+    let uneven: (&[u64], &[u32], &[u8]) = (&[3, 4], &[0], &[1, 2]);
+    assert_eq!(call(&numbers, &history, uneven, 0), Err(refused(10, 0)));
+    let high: (&[u64], &[u32], &[u8]) = (&[3, 4], &[0, 0], &[1, 2]);
+    assert_eq!(call(&numbers, &history, high, 0), Err(refused(11, 3)));
+    let nothing: (&[u64], &[u32], &[u8]) = (&[], &[], &[]);
+    assert_eq!(call(&numbers, &history, nothing, 0).unwrap().rows.len(), 0);
+}
+
+#[test]
+fn refusal_16_and_the_doubles() {
+    let figures = graph(18_900_000, 1_740_000, -13_500).unwrap();
+    assert_eq!(figures.first_packet_time, 700.0);
+    assert_eq!(figures.margin, 1_740_000.0 / 27_000.0);
+    assert_eq!(figures.latency, -0.5);
+    let edge = 1_i64 << 53;
+    assert!(graph(edge, -edge, edge).is_ok());
+    assert_eq!(graph(edge + 1, 0, 0), Err(16));
+    assert_eq!(graph(0, -edge - 1, 0), Err(16));
+    assert_eq!(graph(0, 0, i64::MIN), Err(16));
+}
+
+#[test]
+fn refusal_20() {
+    assert_eq!(parse(&[]), Err(refused(20, 0)));
+    assert_eq!(parse(&[0]), Err(refused(20, 0)));
+    let mut file = example_file();
+    file[0] = 2;
+    assert_eq!(parse(&file), Err(refused(20, 0)));
+}
+
+#[test]
+fn refusal_21() {
+    let file = example_file();
+    // 1 and 18 bytes of parameters, then 16 bytes a packet.
+    assert_eq!(parse(&file[..2]), Err(refused(21, 1)));
+    assert_eq!(parse(&file[..18]), Err(refused(21, 1)));
+    assert!(parse(&file[..19]).is_ok());
+    assert_eq!(parse(&file[..20]), Err(refused(21, 19)));
+    assert_eq!(parse(&file[..21]), Err(refused(21, 19)));
+    assert_eq!(parse(&file[..34]), Err(refused(21, 19)));
+    assert!(parse(&file[..35]).is_ok());
+    let zero = [&file[..19], &[0, 0]].concat();
+    assert_eq!(parse(&zero), Err(refused(21, 19)));
+}
+
+#[test]
+fn refusal_22() {
+    let file = example_file();
+    let wrong_length = [&file[..19], &[0, 1, 2]].concat();
+    assert_eq!(parse(&wrong_length), Err(refused(22, 19)));
+    let unknown_kind = [&file[..19], &[0, 1, 3]].concat();
+    assert_eq!(parse(&unknown_kind), Err(refused(22, 19)));
+    // 22 goes before 23: no parameters yet, but the kind is unknown.
+    assert_eq!(parse(&[1, 0, 1, 9]), Err(refused(22, 1)));
+}
+
+#[test]
+fn refusal_23() {
+    let file = example_file();
+    assert_eq!(parse(&[1]), Err(refused(23, 1)));
+    let packets_first = [&file[..1], &file[19..]].concat();
+    assert_eq!(parse(&packets_first), Err(refused(23, 1)));
+    let again = [&file[..35], &file[1..19]].concat();
+    assert_eq!(parse(&again), Err(refused(23, 35)));
+    // 23 goes before set-up's own refusals.
+    let mut refused_again = again;
+    refused_again[35 + 3] = 0;
+    assert_eq!(parse(&refused_again), Err(refused(23, 35)));
+}
+
+#[test]
+fn set_up_and_packet_refusals_have_the_records_offset() {
+    // Version, length and kind come before the rate.
+    let mut file = example_file();
+    file[4] = 0;
+    assert_eq!(parse(&file), Err(refused(1, 1)));
+    let mut list = example_packets();
+    list[4].marker = 2;
+    assert_eq!(parse(&write(&narrow(4), &list)), Err(refused(11, 83)));
+    list[4] = Packet::new(30_299_999, 1800, 1);
+    assert_eq!(parse(&write(&narrow(4), &list)), Err(refused(12, 83)));
+    list[4] = Packet::new(19_000_001 + LONGEST_HISTORY, 1800, 1);
+    assert_eq!(parse(&write(&narrow(4), &list)), Err(refused(13, 83)));
+}
+
+#[test]
+fn the_writer_and_its_refusals() {
+    let numbers = narrow(4);
+    let lists: (&[u64], &[u32], &[u8]) = (&[1, 2], &[3, 4], &[0, 1]);
+    let file = writer(&numbers, lists, 51).unwrap();
+    assert_eq!(file.len(), 51);
+    assert_eq!(
+        parse(&file),
+        Ok((numbers, packets(&[(1, 3, 0), (2, 4, 1)])))
+    );
+    assert_eq!(writer(&numbers, lists, 50), Err(refused(24, 0)));
+    let bad = Numbers {
+        tro: Some(20_000),
+        ..numbers
+    };
+    let uneven: (&[u64], &[u32], &[u8]) = (&[1], &[3, 4], &[0, 7]);
+    assert_eq!(writer(&bad, uneven, 0), Err(refused(7, 0)));
+    assert_eq!(writer(&numbers, uneven, 0), Err(refused(10, 0)));
+    let high: (&[u64], &[u32], &[u8]) = (&[2, 1], &[3, 4], &[0, 7]);
+    assert_eq!(writer(&numbers, high, 0), Err(refused(11, 1)));
+    let back: (&[u64], &[u32], &[u8]) = (&[2, 1], &[3, 4], &[0, 1]);
+    assert_eq!(writer(&numbers, back, 0), Err(refused(12, 1)));
+}
+
+#[test]
+fn class_0_and_default_tro_stay_as_written() {
+    let numbers = Numbers {
+        class: 0,
+        ..narrow(4)
+    };
+    let file = write(&numbers, &[]);
+    let expected = [
+        1, 0, 16, 1, 6, 0, 0, 4, 56, 0, 0, 0, 4, 5, 180, 255, 255, 255, 255,
+    ];
+    assert_eq!(file, expected);
+    assert_eq!(parse(&file), Ok((numbers, vec![])));
+}
+
+// --- output and C call ---
+
+#[test]
+fn rows_closed_before_a_refusal_are_printed() {
+    let mut file = example_file();
+    file.extend([0, 1]);
+    let first_line = EXAMPLE.lines().next().unwrap();
+    assert_eq!(
+        expected_output(&file),
+        format!("{}\nrefused 21 99\n", first_line)
+    );
+}
+
+#[test]
+fn parameters_alone_are_a_file() {
+    let file = write(&narrow(4), &[]);
+    let line = "packets 0 frames 0 peak 0 network pass buffer none\n";
+    assert_eq!(expected_output(&file), line);
+}
+
+#[test]
+fn the_c_call_on_the_example() {
+    let file = example_file();
+    let (number, offset, bytes) = expected_c_call(&file, 8 * 19);
+    assert_eq!((number, offset), (0, 0));
+    let bytes = bytes.unwrap();
+    let values: Vec<i64> = bytes
+        .chunks(8)
+        .map(|eight| {
+            let mut array = [0; 8];
+            array.copy_from_slice(eight);
+            i64::from_be_bytes(array)
+        })
+        .collect();
+    let row = [
+        0, 0, 0, 18_900_000, 0, 18_900_000, 1_740_000, 45_900_000, 1, 0,
+    ];
+    assert_eq!(values[..9], [5, 1, 2, 0, 0, 0, 1, 0, 0]);
+    assert_eq!(values[9..], row);
+    assert_eq!(expected_c_call(&file, 8 * 19 - 1), (15, 99, None));
+    // After all else.
+    assert_eq!(expected_c_call(&file[..98], 0), (21, 83, None));
+}
+
+// --- frames, buffer and bucket ---
+
+/// n 3; each frame at its own T_CF, all packets in time for TRO 0.
+fn frames_of(list: &[&[u32]]) -> Vec<Packet> {
+    let mut packets = vec![Packet::new(1_000_000, 0, 1)];
+    for (i, stamps) in list.iter().enumerate() {
+        for (j, stamp) in stamps.iter().enumerate() {
+            let arrival = 20_000_000 * (i as u64 + 1) - 3_000 + j as u64;
+            let marker = u8::from(j + 1 == stamps.len());
+            packets.push(Packet::new(arrival, *stamp, marker));
+        }
+    }
+    packets
+}
+
+fn three() -> Numbers {
+    Numbers {
+        packets_per_frame: 3,
+        ..with_tro(6, 0)
+    }
+}
+
+#[test]
+fn kinds_in_their_order_and_frame_numbers() {
+    let list = frames_of(&[&[1, 2], &[1, 1, 1, 2], &[1, 1, 2], &[1, 2, 1], &[1, 1, 1]]);
+    let rows = measure(&three(), &list).unwrap().rows;
+    let heads: Vec<&[i64]> = rows.iter().map(|row| &row[..3]).collect();
+    assert_eq!(
+        heads,
+        [[0, 1, 2], [1, 2, 4], [2, 3, 2], [3, 3, 1], [4, 0, 0]]
+    );
+    assert!(rows[..4].iter().all(|row| row[3..] == [0; 7]));
+    assert_eq!(rows[4][3], -81_000);
+    assert_eq!(rows[4][8..], [3, 0]);
+}
+
+#[test]
+fn a_broken_frame_is_not_judged() {
+    let list = frames_of(&[&[1, 2], &[1, 1, 1, 2], &[1, 1, 2]]);
+    assert_eq!(measure(&three(), &list).unwrap().buffer, Buffer::None);
+}
+
+#[test]
+fn over_and_the_first_failing_frame() {
+    let numbers = Numbers {
+        maxudp: 8960,
+        ..three()
+    };
+    let mut list = frames_of(&[&[1, 2], &[1, 1, 1], &[1, 1, 1]]);
+    // VRX_FULL is 1 here, so frame 1 overfills the buffer.
+    let over = Buffer::Over { frame: 1, peak: 3 };
+    assert_eq!(measure(&numbers, &list).unwrap().buffer, over);
+    // Under goes before over in one frame.
+    list[5].arrival += 19_000_000;
+    let under = Buffer::Under {
+        frame: 1,
+        packet: 2,
+    };
+    let measurement = measure(&numbers, &list).unwrap();
+    assert_eq!(measurement.rows[1][8..], [2, -1]);
+    assert_eq!(measurement.buffer, under);
+}
+
+#[test]
+fn the_drain_comes_before_an_arrival_at_its_instant() {
+    // Rate 6, n 4: eleven drains take exactly 50 ms.
+    let exact = 50_000_000;
+    let list = |second| packets(&[(0, 0, 0), (second, 0, 0), (second, 0, 0)]);
+    let limits = set_up(&narrow(4)).unwrap();
+    assert_eq!(drain_instant(&limits, 11), Fraction::whole(27 * exact));
+    // One packet before the eleventh drain, one at it.
+    let mut close = list(exact as u64);
+    close[1].arrival -= 1;
+    assert_eq!(measure(&narrow(4), &close).unwrap().peak, 1);
+    close[2].arrival -= 1;
+    assert_eq!(measure(&narrow(4), &close).unwrap().peak, 2);
+}
+
+#[test]
+fn unused_drains_are_not_saved_up_and_the_run_starts_where_it_was_empty() {
+    let mut list = packets(&[(0, 0, 0)]);
+    list.extend(packets(&[(1_000_000_000, 0, 0); 6]));
+    let measurement = measure(&narrow(4), &list).unwrap();
+    assert_eq!(measurement.peak, 6);
+    assert_eq!(
+        measurement.network,
+        Network::Burst(Run { first: 1, last: 5 })
+    );
+}
+
+#[test]
+fn arrivals_at_the_end_of_64_bits() {
+    let list = packets(&[(u64::MAX - 1, 0, 1), (u64::MAX, 0, 1)]);
+    let row = measure(&narrow(1), &list).unwrap().rows[0];
+    let grains = 27 * i128::from(u64::MAX);
+    let t_cf = (grains + 270_000_000) / 540_000_000 * 540_000_000;
+    assert_eq!(i128::from(row[3]), grains - t_cf);
+    assert_eq!(i128::from(row[5]), grains % WRAP);
+    assert_eq!(row[7], 27);
+}

@@ -1,0 +1,81 @@
+-- The whole call, case by case, each from what its branch of the code has found.
+use mathlib.Core.Path.{_≡_, refl, sym, ap, _∙_, subst}
+use mathlib.Core.Bool.{Bool, true, false}
+use mathlib.Core.List.{List, [], _∷_}
+use Prim.Native.Nat.{ℕ, _+_, _*_, _/_, _≤_, _<_}
+use native.Mathlib.Omega.{arith}
+use native.Mathlib.Nat.{le-div-iff-mul-le, div-lt-iff-lt-mul}
+use lib.Dec.{leb}
+use lib.IntN.{ℤ}
+use lib.ListN.{length}
+use borrow.Author.Tests.{le-leb, lt-leb}
+use Rattle.packet.specs.declared.Refusal.{Refusal}
+use Rattle.packet.specs.declared.Scanned.{Scanned}
+use Rattle.packet.specs.declared.Scanned.the-variants.{Fine, Refused as Scan-Refused}
+use Rattle.packet.specs.Paper.{Packet, OneLength, packets}
+use Rattle.packet.specs.Step.{scanOf, scannedOf}
+use Rattle.packet.proofs.Turn.{scanned-fine}
+use Rattle.timing.specs.declared.State.{State}
+use Rattle.timing.specs.declared.Rules.{Rules}
+use Rattle.timing.specs.declared.Fed.{Fed}
+use Rattle.timing.specs.declared.Fed.the-variants.{Accepted, Refused}
+use Rattle.timing.specs.Step.{rulesOf, rowsAfter, numbers}
+use Rattle.timing.specs.Range.{inRange}
+use Rattle.timing.specs.Feed.{Runs, Ran, Outcome, refusedBy, acceptedAs, roomFor, byScan, feedOf, refusedAs, Is}
+use Rattle.timing.proofs.InRange.{sound-of}
+use Rattle.timing.proofs.Scanning.{scan-runs, numbers-length}
+
+is : {o q : Outcome} → q ≡ o → Is o (q .answer) (q .rows)
+is e = record { answer-is = ap (λ (x : Outcome). x .answer) e; rows-are = ap (λ (x : Outcome). x .rows) e }
+
+module _ (s : State) (rows : List ℤ) (ts ss ms : List ℕ) where
+  pub fed-9 : inRange s ≡ false → Is (feedOf s rows ts ss ms) (Refused 9 0 s) rows
+  unfolding feedOf
+  fed-9 e = is (rw e)
+
+  module _ (e : inRange s ≡ true) where
+    by-scan : (x : Scanned) → x ≡ scannedOf (s .past) (s .frames .begun) ts ss ms → byScan s rows x (packets ts ss ms) ≡ feedOf s rows ts ss ms
+    unfolding feedOf
+    by-scan x f = rw (e, f)
+
+    pub fed-refused : {x : Scanned} {r : Refusal} {a : Fed} → x ≡ scannedOf (s .past) (s .frames .begun) ts ss ms → x ≡ Scan-Refused r → a ≡ refusedAs x s
+        → Is (feedOf s rows ts ss ms) a rows
+    fed-refused {x} {r} {a} f g h =
+        let o = is (ap (λ (y : Scanned). byScan s rows y (packets ts ss ms)) (sym g) ∙ by-scan x f) in
+        record { answer-is = h ∙ ap (λ (y : Scanned). refusedAs y s) g ∙ o .answer-is; rows-are = o .rows-are }
+
+    module _ {x : Scanned} {n : ℕ} (f : x ≡ scannedOf (s .past) (s .frames .begun) ts ss ms) (g : x ≡ Fine n) where
+      room-for : roomFor s rows n (packets ts ss ms) ≡ feedOf s rows ts ss ms
+      room-for = ap (λ (y : Scanned). byScan s rows y (packets ts ss ms)) (sym g) ∙ by-scan x f
+
+      pub fed-15 : length rows / 10 < n → Is (feedOf s rows ts ss ms) (Refused 15 (s .past .packets) s) rows
+      fed-15 l =
+          let few : length rows < n * 10 = div-lt-iff-lt-mul {k = 10} {x = length rows} {y = n} (omega arith) .0 l in
+          is (sym (rw (lt-leb (n * 10) (length rows) few)) ∙ room-for)
+
+      fine : OneLength ts ss ms × (scanOf (s .past) (s .frames .begun) 0 (packets ts ss ms) ≡ Fine n)
+      fine = scanned-fine (s .past) (s .frames .begun) ts ss ms n (sym f ∙ g)
+
+      pub one-length : OneLength ts ss ms
+      one-length = fine .0
+
+      enough : n ≤ length rows / 10 → n * 10 ≤ length rows
+      enough l = le-div-iff-mul-le {k = 10} {x = n} {y = length rows} (omega arith) .0 l
+
+      -- the rules that the code has worked out
+      module _ {q : Rules} (eq : q ≡ rulesOf (s .numbers)) (l : n ≤ length rows / 10) where
+        pub runs : Runs q s (packets ts ss ms) 0 (length rows)
+        runs =
+            let r = scan-runs (packets ts ss ms) q s 0 n (fine .1) in
+            record {
+              rules-are = eq;
+              sound = sound-of s e;
+              passes = r .0;
+              fits = omega (arith, enough l, r .1, numbers-length (rowsAfter q s (packets ts ss ms)));
+            }
+
+        pub fed : {t : State} {after : List ℤ} → Ran q s (packets ts ss ms) rows t after → Is (feedOf s rows ts ss ms) (Accepted t) after
+        fed {t} {after} ran =
+            let r = subst (λ (x : Rules). Ran x s (packets ts ss ms) rows t after) eq ran in
+            let o = is {q = acceptedAs s rows (packets ts ss ms)} (sym (rw (le-leb (n * 10) (length rows) (enough l))) ∙ room-for) in
+            record { answer-is = ap Accepted (r .state-is) ∙ o .answer-is; rows-are = r .rows-are ∙ o .rows-are }

@@ -1,0 +1,77 @@
+-- The rules of accepted stream numbers keep to what the frames and the bucket demand, for every rate at once: by the table's greatest and least length.
+use mathlib.Core.Path.{_≡_, refl}
+use mathlib.Core.Logic.{_⊎_, inl, inr}
+use Prim.Native.Nat.{ℕ, zero, suc, _+_, _*_, _≤_, _<_}
+use native.Mathlib.Omega.{arith}
+use native.Mathlib.Nat.{mul-le-mul, mul-le-mul-left, mul-le-mul-right, div-mul-le-self}
+use Rattle.limits.specs.Paper.{frameLength, activeRatio, readNum, readDen, troGrains}
+use Rattle.limits.specs.Fraction.{int}
+use Rattle.limits.specs.Accepted.{Accepted, accepted}
+use Rattle.limits.specs.Facts.{frame-most, frame-least, tro-below}
+use Rattle.grain.specs.Paper.{instants}
+use Rattle.frame.specs.Range.{Planned}
+use Rattle.timing.specs.declared.StreamNumbers.{StreamNumbers}
+use Rattle.timing.specs.Step.{setUpOf, frameOf, rulesOf}
+
+-- the spacing of the reads, gapped or linear
+num-some : (schedule F : ℕ) → 0 < F → 0 < readNum schedule F
+unfolding activeRatio
+num-some zero F p = omega arith
+num-some (suc schedule) F p = omega arith
+
+num-most : (schedule F : ℕ) → readNum schedule F ≤ 24 * F
+unfolding activeRatio
+num-most zero F = omega arith
+num-most (suc schedule) F = omega arith
+
+den-most : (schedule n : ℕ) → n ≤ 20000 → readDen schedule n ≤ 500000
+unfolding activeRatio
+den-most zero n h = omega arith
+den-most (suc schedule) n h = omega arith
+
+module _ (x : StreamNumbers) (e : setUpOf x ≡ 0) where
+  fine : Accepted (x .rate) (x .schedule) (x .class) (x .height) (x .n) (x .maxudp) (x .tro)
+  fine = accepted (x .rate) (x .schedule) (x .class) (x .height) (x .n) (x .maxudp) (x .tro) e
+
+  pub frame-long : 450000000 ≤ frameOf x
+  frame-long = frame-least (x .rate) (fine .rate-known .0) (fine .rate-known .1)
+
+  pub planned : Planned (rulesOf x .plan)
+  unfolding rulesOf
+  planned = record {
+    long = omega (arith, frame-long);
+    short = omega (arith, frame-most (x .rate));
+    some = fine .n-fits .0;
+    few = fine .n-fits .1;
+    early = tro-below fine;
+    apart = num-some (x .schedule) (frameOf x) (omega (arith, frame-long));
+    near = num-most (x .schedule) (frameOf x);
+    divided = den-most (x .schedule) (x .n) (fine .n-fits .1);
+  }
+
+  -- the drain instants of 600 s are fewer than a billion, and their products fit
+  module _ (ns : ℕ) (h : ns ≤ 600000000000) where
+    pub reach-fits : 27 * ns * (rulesOf x .share) ≤ 3564000000000000000
+    unfolding rulesOf
+    reach-fits =
+        let long : 27 * ns ≤ 16200000000000 = omega arith in
+        let many : 11 * x .n ≤ 220000 = omega (arith, fine .n-fits .1) in
+        omega (arith, mul-le-mul long many)
+
+    pub drains-few : instants (27 * ns) (rulesOf x .spacing) (rulesOf x .share) ≤ 1000000000
+    unfolding rulesOf
+    drains-few =
+        let d = instants (27 * ns) (rulesOf x .spacing) (rulesOf x .share) in
+        let far : 4500000000 ≤ 10 * frameOf x = omega (arith, frame-long) in
+        omega (arith, div-mul-le-self (27 * ns * (11 * x .n)) (10 * frameOf x), mul-le-mul-left d far, reach-fits)
+
+  pub spacing-some : 0 < rulesOf x .spacing
+  unfolding rulesOf
+  spacing-some = omega (arith, frame-long)
+
+  -- a count of drains that is in range, times the spacing, fits
+  pub guess-fits : (d : ℕ) → d ≤ 1000000000 → d * rulesOf x .spacing < 18446744073709551616
+  unfolding rulesOf
+  guess-fits d h =
+      let near : 10 * frameOf x ≤ 11261250000 = omega (arith, frame-most (x .rate)) in
+      omega (arith, mul-le-mul h near)

@@ -1,0 +1,31 @@
+-- Where the lead-in is over the row is made and laid; else nothing is.
+use native.Mathlib.Omega.{arith}
+use Rattle.timing.proofs.Laying.{lays-one, lays-none}
+use borrow.Author.Needs.{needs}
+use Rattle.timing.proofs.State.lay_row.Statement.{statement}
+use Rattle.timing.proofs.State.lay_row.Tie as tie
+
+row-requires : tie.Need-row-requires
+row-requires c κs = let s = c .before .before .before in (s .pre .planned, s .pre .made (c .before .if1 .taken))
+
+put-requires : tie.Need-put-requires
+put-requires c κs = c .before .before .before .before .before .pre .fits (c .before .before .before .if1 .taken)
+
+add-result : tie.Need-add-result
+add-result c = let s = c .before .before .before .before .before .before .before in
+    omega (arith, s .pre .fits (c .before .before .before .before .before .if1 .taken))
+
+same-length : tie.Need-same-length
+same-length c = search needs
+
+returns : tie.Need-returns
+returns c = let s = c .before .before .before .before .before .before .before in
+    lays-one (s .args .rules) (s .args .self) (s .args .at) _ (c .before .before .before .row .result) (c .before .before .before .before .before .if1 .taken)
+    (c .before .before .before .row .ensures) (c .before .put .ensures)
+
+returns-2 : tie.Need-returns-2
+returns-2 c = let s = c .before .before in lays-none (s .args .rules) (s .args .self) (s .args .at) _ (c .if1 .left)
+
+pub lay-row-spec : {M : Type 1} → statement M
+lay-row-spec =
+    tie.close (tie.spec row-requires put-requires add-result same-length returns returns-2)

@@ -1,0 +1,57 @@
+-- Each rule by the function of `limits` that makes it; no frame length is above 2^32.
+use native.Mathlib.Omega.{arith}
+use Rattle.limits.specs.Facts.{frame-most}
+use Rattle.timing.specs.Step.{rulesOf}
+use borrow.Author.Needs.{needs}
+use Rattle.timing.proofs.StreamNumbers.rules.Statement.{statement}
+use Rattle.timing.proofs.StreamNumbers.rules.Tie as tie
+
+frame-length-requires : tie.Need-frame-length-requires
+frame-length-requires c κs = search needs
+
+cast-t4 : tie.Need-cast-t4
+cast-t4 c = search needs
+
+tro-grains-requires : tie.Need-tro-grains-requires
+tro-grains-requires c κs = omega (arith, frame-most (c .before .before .args .self .rate))
+
+read-num-requires : tie.Need-read-num-requires
+read-num-requires c κs = omega (arith, frame-most (c .before .before .before .args .self .rate))
+
+read-den-requires : tie.Need-read-den-requires
+read-den-requires c κs = search needs
+
+vrx-full-requires : tie.Need-vrx-full-requires
+vrx-full-requires c κs = search needs
+
+mul-t4 : tie.Need-mul-t4
+mul-t4 c = omega (arith, frame-most (c .before .before .before .before .before .before .args .self .rate))
+
+cast-t8 : tie.Need-cast-t8
+cast-t8 c = search needs
+
+mul-t7 : tie.Need-mul-t7
+mul-t7 c = search needs
+
+c-max-requires : tie.Need-c-max-requires
+c-max-requires c κs = search needs
+
+returns : tie.Need-returns
+unfolding rulesOf
+returns c = cc
+
+pub rules-spec : {M : Type 1} → statement M
+rules-spec =
+    tie.close
+    (tie.spec
+    frame-length-requires
+    cast-t4
+    tro-grains-requires
+    read-num-requires
+    read-den-requires
+    vrx-full-requires
+    mul-t4
+    cast-t8
+    mul-t7
+    c-max-requires
+    returns)

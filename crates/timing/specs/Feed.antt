@@ -1,0 +1,111 @@
+-- Feeding a call's packets: what each part of the code asks and gives, and the whole call, refusals included.
+use mathlib.Core.Path.{_≡_}
+use mathlib.Core.Bool.{Bool, true, false}
+use mathlib.Core.List.{List, [], _∷_}
+use Prim.Native.Nat.{ℕ, zero, suc, _+_, _*_, _≤_, _<_}
+use lib.Dec.{leb}
+use lib.IntN.{ℤ}
+use lib.ListN.{length}
+use Rattle.laws.specs.Choose.{pick}
+use Rattle.laws.specs.Lay.{laid}
+use Rattle.packet.specs.declared.Past.{Past}
+use Rattle.packet.specs.declared.Scanned.{Scanned}
+use Rattle.packet.specs.declared.Scanned.the-variants.{Fine, Refused as Scan-Refused}
+use Rattle.packet.specs.Paper.{Packet, packets}
+use Rattle.packet.specs.Step.{elapsedOf, nextOf, numberOf, scannedOf}
+use Rattle.frame.specs.declared.Row.{Row}
+use Rattle.frame.specs.Step.{rowOf}
+use Rattle.frame.specs.Range.{Planned, Pushable, Rowable}
+use Rattle.timing.specs.declared.Rules.{Rules}
+use Rattle.timing.specs.declared.State.{State}
+use Rattle.timing.specs.declared.Fed.{Fed}
+use Rattle.timing.specs.declared.Fed.the-variants.{Accepted, Refused}
+use Rattle.timing.specs.Step.{rulesOf, stateAfter, rowsAfter, numbers}
+use Rattle.timing.specs.Range.{inRange, Sound}
+
+-- ---- what the parts ask and give
+
+-- before a packet that arrives at t
+pub record Arrives (rules : Rules) (s : State) (t : ℕ) : Type 0 where
+  pub few : s .past .packets < 1000000000
+  pub apart : 0 < rules .spacing
+  pub guess : s .drained * rules .spacing < 18446744073709551616
+  pub since : elapsedOf (s .past) t ≤ 600000000000
+  pub reach : 27 * elapsedOf (s .past) t * rules .share < 18446744073709551616
+  pub level : s .bucket .level ≤ s .past .packets
+  pub planned : Planned (rules .plan)
+  pub push : s .frames .begun ≡ true → Pushable (rules .plan) (s .frames .current) t
+
+-- before a row is laid at `at`, into so many numbers
+pub record Lays (rules : Rules) (s : State) (at room : ℕ) : Type 0 where
+  pub planned : Planned (rules .plan)
+  pub made : s .frames .begun ≡ true → Rowable (rules .plan) (s .frames .closed) (s .frames .marked) (s .frames .current)
+  pub fits : s .frames .begun ≡ true → at + 10 ≤ room
+
+-- the row that a marker closes, if the lead-in is over
+abbrev pub closing : Rules → State → List Row
+closing rules s = pick (s .frames .begun) (rowOf (rules .plan) (s .frames .closed) (s .frames .marked) (s .frames .current) ∷ []) []
+
+pub record Laid (rules : Rules) (s : State) (at : ℕ) (before : List ℤ) (then : ℕ) (after : List ℤ) : Type 0 where
+  pub next : then ≡ at + length (numbers (closing rules s))
+  pub rows : after ≡ laid at (numbers (closing rules s)) before
+
+-- ---- a list of packets that is accepted
+
+-- each packet, against what came before it, is refused by none of 11 to 14
+unfoldable pub Passes : Past → List Packet → Type 0
+Passes past [] = Unit
+Passes past (p ∷ ps) = (numberOf past p ≡ 0) × Passes (nextOf past (p .time)) ps
+
+-- what a run through a list needs: a state in range, packets that pass, and room for the rows from `at` on
+pub record Runs (rules : Rules) (s : State) (l : List Packet) (at room : ℕ) : Type 0 where
+  pub rules-are : rules ≡ rulesOf (s .numbers)
+  pub sound : Sound s
+  pub passes : Passes (s .past) l
+  pub fits : at + length (numbers (rowsAfter rules s l)) ≤ room
+
+-- and what it gives
+pub record Ran (rules : Rules) (s : State) (l : List Packet) (before : List ℤ) (state : State) (after : List ℤ) : Type 0 where
+  pub state-is : state ≡ stateAfter rules s l
+  pub rows-are : after ≡ laid 0 (numbers (rowsAfter rules s l)) before
+
+-- ---- the whole call
+
+-- the answer, and what the lent rows hold
+pub record Outcome : Type 0 where
+  pub answer : Fed
+  pub rows : List ℤ
+
+module _ (s : State) (rows : List ℤ) where
+  -- "A refused call accepts none of its packets, returns the number and the packet's place in the history [..], state and rows unchanged."
+  abbrev pub refusedBy : ℕ → ℕ → Outcome
+  refusedBy number place = record { answer = Refused number place s; rows = rows }
+
+  abbrev pub acceptedAs : List Packet → Outcome
+  acceptedAs l = record {
+    answer = Accepted (stateAfter (rulesOf (s .numbers)) s l);
+    rows = laid 0 (numbers (rowsAfter (rulesOf (s .numbers)) s l)) rows;
+  }
+
+  -- "15 fewer than ten row numbers per frame closed in this call", with "the call's first packet's" place
+  abbrev pub roomFor : ℕ → List Packet → Outcome
+  roomFor closed l = pick (leb (closed * 10) (length rows)) (acceptedAs l) (refusedBy 15 (s .past .packets))
+
+  abbrev pub byScan : Scanned → List Packet → Outcome
+  byScan (Fine closed) l = roomFor closed l
+  byScan (Scan-Refused r) l = refusedBy (r .number) (r .place)
+
+  -- "Order: 9, 10, then packet by packet 11 to 14, then 15."
+  unfoldable pub feedOf : List ℕ → List ℕ → List ℕ → Outcome
+  feedOf ts ss ms =
+      pick (inRange s) (byScan (scannedOf (s .past) (s .frames .begun) ts ss ms) (packets ts ss ms)) (refusedBy 9 0)
+
+-- a scan's refusal as an answer, with the state as it was
+abbrev pub refusedAs : Scanned → State → Fed
+refusedAs (Fine closed) s = Accepted s
+refusedAs (Scan-Refused r) s = Refused (r .number) (r .place) s
+
+-- an answer and a list of rows are an outcome's
+pub record Is (o : Outcome) (answer : Fed) (rows : List ℤ) : Type 0 where
+  pub answer-is : answer ≡ o .answer
+  pub rows-are : rows ≡ o .rows

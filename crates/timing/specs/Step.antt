@@ -1,0 +1,88 @@
+-- The measurement step by step: what follows from the stream numbers, one packet more, and the rows that it writes.
+use mathlib.Core.Bool.{Bool, true, false}
+use mathlib.Core.List.{List, [], _∷_, _++_}
+use Prim.Native.Nat.{ℕ, _+_, _-_, _*_}
+use lib.IntN.{ℤ}
+use Rattle.laws.specs.Choose.{pick}
+use Rattle.laws.specs.Fold.{fold}
+use Rattle.grain.specs.Paper.{instants}
+use Rattle.limits.specs.Paper.{frameLength, classOf, cMax, vrxFull, troGrains, readNum, readDen, setUpRefusal}
+use Rattle.packet.specs.declared.Past.{Past}
+use Rattle.packet.specs.Paper.{Packet, marked}
+use Rattle.packet.specs.Step.{nothing, elapsedOf, nextOf}
+use Rattle.bucket.specs.Step as B
+use Rattle.frame.specs.declared.Plan.{Plan}
+use Rattle.frame.specs.declared.Row.{Row}
+use Rattle.frame.specs.Step as F
+use Rattle.timing.specs.declared.StreamNumbers.{StreamNumbers}
+use Rattle.timing.specs.declared.Rules.{Rules}
+use Rattle.timing.specs.declared.State.{State}
+
+-- ---- what follows from the stream numbers
+
+-- the refusals 1 to 7 of set-up, 0 where there is none
+abbrev pub setUpOf : StreamNumbers → ℕ
+setUpOf x = setUpRefusal (x .rate) (x .schedule) (x .class) (x .height) (x .n) (x .maxudp) (x .tro)
+
+abbrev pub frameOf : StreamNumbers → ℕ
+frameOf x = frameLength (x .rate)
+
+unfoldable pub rulesOf : StreamNumbers → Rules
+rulesOf x = record {
+  plan = record {
+    period = frameOf x;
+    packets = x .n;
+    tro = troGrains (frameOf x) (x .height) (x .tro);
+    num = readNum (x .schedule) (frameOf x);
+    den = readDen (x .schedule) (x .n);
+    full = vrxFull (classOf (x .class)) (x .maxudp) (frameOf x) (x .n);
+  };
+  spacing = 10 * frameOf x;
+  share = 11 * x .n;
+  limit = cMax (classOf (x .class)) (x .schedule) (frameOf x) (x .n);
+}
+
+abbrev pub freshOf : StreamNumbers → State
+freshOf x = record { numbers = x; past = nothing; drained = 0; bucket = B.emptyOf; frames = F.noFrames }
+
+-- ---- one packet more
+
+-- the drain instants up to a packet's arrival
+abbrev pub drainedOf : Rules → Past → ℕ → ℕ
+drainedOf rules past t = instants (27 * elapsedOf past t) (rules .spacing) (rules .share)
+
+-- the packet arrives: it is in the bucket, and in the open frame if there is one
+unfoldable pub arriveOf : Rules → State → ℕ → ℕ → State
+arriveOf rules s t stamp = record {
+  numbers = s .numbers;
+  past = nextOf (s .past) t;
+  drained = drainedOf rules (s .past) t;
+  bucket = B.stepOf (s .bucket) (s .past .packets) (drainedOf rules (s .past) t - s .drained) (rules .limit);
+  frames = F.arriveOf (rules .plan) (s .frames) t stamp;
+}
+
+-- and is a marker
+unfoldable pub markOf : Rules → State → ℕ → State
+markOf rules s t = record { numbers = s .numbers; past = s .past; drained = s .drained; bucket = s .bucket; frames = F.closeOf (rules .plan) (s .frames) t }
+
+unfoldable pub stepOf : Rules → State → Packet → State
+unfolding arriveOf markOf
+stepOf rules s p = pick (marked p) (markOf rules (arriveOf rules s (p .time) (p .stamp)) (p .time)) (arriveOf rules s (p .time) (p .stamp))
+
+abbrev pub rowsOf : Rules → State → Packet → List Row
+rowsOf rules s p = F.rowsOf (rules .plan) (s .frames) (p .time) (p .stamp) (marked p)
+
+-- ---- a list of packets
+
+abbrev pub stateAfter : Rules → State → List Packet → State
+stateAfter rules = fold (stepOf rules)
+
+unfoldable pub rowsAfter : Rules → State → List Packet → List Row
+unfolding stepOf
+rowsAfter rules s [] = []
+rowsAfter rules s (p ∷ ps) = rowsOf rules s p ++ rowsAfter rules (stepOf rules s p) ps
+
+-- the rows' numbers, one row after the other
+unfoldable pub numbers : List Row → List ℤ
+numbers [] = []
+numbers (r ∷ rs) = F.numbersOf r ++ numbers rs

@@ -1,0 +1,384 @@
+// The measurement: a stream's numbers set up, packets fed, the state that goes in and comes back, the
+// verdict, and the figures for the host's graph.
+// It knows the limits, the packets, the bucket and the frames, and puts them together. It must never know
+// a file, a byte or a line of output.
+ghost use mathlib.Core.Path.{_≡_};
+ghost use mathlib.Core.Bool.{_&&_};
+ghost use mathlib.Core.List.{[], _∷_};
+ghost use Prim.Native.Nat.{_-_};
+ghost use Rattle.timing.specs.Step.{setUpOf, frameOf, rulesOf, freshOf, arriveOf, markOf};
+ghost use Rattle.timing.specs.Range.{every, implies as impliesOf, pastRanges, bucketRanges, countRanges, openRanges, keptRanges, inRange};
+ghost use Prim.Native.Nat.{_≤_};
+ghost use lib.ListN.{length};
+ghost use Rattle.packet.specs.Paper.{OneLength, packets};
+ghost use Rattle.timing.specs.Feed.{Arrives, Lays, Laid, Runs, Ran, refusedAs, feedOf, Is};
+use bucket::Bucket;
+use frame::Frames;
+use frame::Plan;
+use packet::Past;
+use packet::Scanned;
+
+// The seven numbers that a stream is set up with, as a record file holds them.
+pub struct StreamNumbers {
+    pub rate: u8,
+    pub schedule: u8,
+    pub class: u8,
+    pub height: u16,
+    pub n: u32,
+    pub maxudp: u16,
+    pub tro: u32,
+}
+
+// What follows from them: the plan of the frames, the drain instants, which lie spacing/share grains
+// apart, and the class limit of the bucket. Worked out once a call.
+pub struct Rules {
+    pub plan: Plan,
+    pub spacing: u64,
+    pub share: u64,
+    pub limit: u64,
+}
+
+// Everything that is known of a history: what came before the next packet, the drain instants up to the
+// last arrival, the bucket and the frames. docs/STATE.md gives each number's range.
+pub struct State {
+    pub numbers: StreamNumbers,
+    pub past: Past,
+    pub drained: u64,
+    pub bucket: Bucket,
+    pub frames: Frames,
+}
+
+// The state after the call's packets; or the paper's number and the place, with the state as it was.
+pub enum Fed {
+    Accepted(State),
+    Refused {
+        number: u8,
+        place: u64,
+        state: State,
+    },
+}
+
+// The fresh state, or the refusal number and no state.
+pub enum SetUp {
+    Fresh(State),
+    Refused(u8),
+}
+
+impl StreamNumbers {
+    pub const GRAINS_PER_NANOSECOND: u64 = 27;
+
+    pub const GRAINS_PER_TICK: u64 = 300000;
+
+    // 0, or the number 1 to 7 by which set-up refuses.
+    pub fn refusal(self) -> u8
+        ensures { λ r. ⌜ r ≡ setUpOf self ⌝ }
+    {
+        limits::refusal(
+            self.rate,
+            self.schedule,
+            self.class,
+            self.height,
+            self.n,
+            self.maxudp,
+            self.tro,
+        )
+    }
+
+    pub fn frame_length(self) -> u64
+        ensures { λ r. ⌜ r ≡ frameOf self ⌝ }
+    {
+        limits::frame_length(self.rate)
+    }
+
+    pub fn rules(self) -> Rules
+        ensures { λ r. ⌜ r ≡ rulesOf self ⌝ }
+    {
+        let frame = self.frame_length();
+        let plan = Plan {
+            period: frame,
+            packets: self.n as u64,
+            tro: limits::tro_grains(frame, self.height, self.tro),
+            num: limits::read_num(self.schedule, frame),
+            den: limits::read_den(self.schedule, self.n),
+            full: limits::vrx_full(self.class, self.maxudp, frame, self.n),
+        };
+        Rules {
+            plan,
+            spacing: 10 * frame,
+            share: 11 * (self.n as u64),
+            limit: limits::c_max(self.class, self.schedule, frame, self.n),
+        }
+    }
+
+    // The state before the first packet.
+    pub fn fresh(self) -> State
+        ensures { λ r. ⌜ r ≡ freshOf self ⌝ }
+    {
+        let numbers = self;
+        State {
+            numbers,
+            past: Past::none(),
+            drained: 0,
+            bucket: Bucket::empty(),
+            frames: Frames::none(),
+        }
+    }
+}
+
+fn all(a: bool, b: bool, c: bool, d: bool, e: bool) -> bool
+    ensures { λ r. ⌜ r ≡ every (a ∷ b ∷ c ∷ d ∷ e ∷ []) ⌝ }
+{
+    both(a, both(b, both(c, both(d, e))))
+}
+
+fn both(a: bool, b: bool) -> bool
+    ensures { λ r. ⌜ r ≡ (a && b) ⌝ }
+{
+    if a { b } else { false }
+}
+
+fn implies(a: bool, b: bool) -> bool
+    ensures { λ r. ⌜ r ≡ impliesOf a b ⌝ }
+{
+    if a { b } else { true }
+}
+
+// last less first, and 0 for a past that no history has.
+fn apart(first: u64, last: u64) -> u64
+    ensures { λ r. ⌜ r ≡ last - first ⌝ }
+{
+    if last < first { 0 } else { last - first }
+}
+
+// The ranges of docs/STATE.md, group by group, in its order.
+impl State {
+    fn past_in_range(self) -> bool
+        ensures { λ r. ⌜ r ≡ every (pastRanges self) ⌝ }
+    {
+        let packets = self.past.packets;
+        let first = self.past.first;
+        let last = self.past.last;
+        all(
+            packets <= 1000000000,
+            implies(packets == 0, first == 0),
+            implies(packets == 0, last == 0),
+            first <= last,
+            apart(first, last) <= 600000000000,
+        )
+    }
+
+    fn bucket_in_range(self) -> bool
+        ensures { λ r. ⌜ r ≡ every (bucketRanges self) ⌝ }
+    {
+        let packets = self.past.packets;
+        let bucket = self.bucket;
+        let network = bucket.network;
+        all(
+            bucket.level <= packets,
+            bucket.start <= packets,
+            bucket.peak <= packets,
+            network.first() <= packets,
+            network.last() <= packets,
+        )
+    }
+
+    fn counts_in_range(self) -> bool
+        ensures { λ r. ⌜ r ≡ every (countRanges self) ⌝ }
+    {
+        let packets = self.past.packets;
+        let begun = self.frames.begun;
+        let marked = self.frames.marked;
+        all(
+            self.drained <= 1000000000,
+            self.frames.closed <= packets,
+            implies(begun, 0 < packets),
+            implies(begun, self.past.first <= marked),
+            implies(begun, marked <= self.past.last),
+        )
+    }
+
+    fn open_in_range(self) -> bool
+        ensures { λ r. ⌜ r ≡ every (openRanges self) ⌝ }
+    {
+        let open = self.frames.current;
+        let numbers = self.numbers;
+        let frame = numbers.frame_length();
+        all(
+            open.held <= self.past.packets,
+            implies(0 < open.held, self.frames.marked <= open.first),
+            implies(0 < open.held, open.first <= self.past.last),
+            open.phase <= 2 * frame,
+            open.reads <= (numbers.n as u64),
+        )
+    }
+
+    fn kept_in_range(self) -> bool
+        ensures { λ r. ⌜ r ≡ every (keptRanges self) ⌝ }
+    {
+        let frames = self.frames;
+        let open = frames.current;
+        let buffer = frames.buffer;
+        let packets = self.past.packets;
+        let numbers = self.numbers;
+        all(
+            open.differs <= open.held,
+            open.top <= open.held,
+            open.late <= open.held,
+            open.deficit <= (numbers.n as u64),
+            both(buffer.frame() <= packets, buffer.place() <= packets),
+        )
+    }
+
+    // False exactly where refusal 9 is given.
+    pub fn in_range(self) -> bool
+        ensures { λ r. ⌜ r ≡ inRange self ⌝ }
+    {
+        let numbers = self.numbers;
+        let refused = numbers.refusal();
+        both(
+            refused == 0,
+            all(
+                self.past_in_range(),
+                self.bucket_in_range(),
+                self.counts_in_range(),
+                self.open_in_range(),
+                self.kept_in_range(),
+            ),
+        )
+    }
+}
+
+// a less b, not below 0.
+fn less(a: u64, b: u64) -> u64
+    ensures { λ r. ⌜ r ≡ a - b ⌝ }
+{
+    if a < b { 0 } else { a - b }
+}
+
+impl State {
+    // The packet arrives: it is in the bucket, and in the open frame if there is one.
+    fn arrive(self, rules: Rules, t: u64, stamp: u32) -> State
+        requires { ⌜ Arrives rules self t ⌝ }
+        ensures { λ r. ⌜ r ≡ arriveOf rules self t stamp ⌝ }
+    {
+        let past = self.past;
+        let bucket = self.bucket;
+        let frames = self.frames;
+        let numbers = self.numbers;
+        let plan = rules.plan;
+        let since = past.elapsed(t);
+        let drained = grain::instants(self.drained, 27 * since, rules.spacing, rules.share);
+        State {
+            numbers,
+            past: past.next(t),
+            drained,
+            bucket: bucket.step(past.packets, less(drained, self.drained), rules.limit),
+            frames: frames.arrive(plan, t, stamp),
+        }
+    }
+
+    // The packet that arrived at t is a marker.
+    fn mark(mut self, rules: Rules, t: u64) -> State
+        requires { ⌜ self .frames .closed ≤ 1000000000 ⌝ }
+        ensures { λ r. ⌜ r ≡ markOf rules self t ⌝ }
+    {
+        let frames = self.frames;
+        let plan = rules.plan;
+        let next = frames.close(plan, t);
+        self.frames = next;
+        self
+    }
+
+    // The row of the frame that a marker closes now, laid into `rows` from `at` on; where the next one goes.
+    fn lay_row(self, rules: Rules, rows: &mut [i64], at: usize) -> usize
+        requires { ⌜ Lays rules self at (length (now rows)) ⌝ }
+        ensures { λ r. ⌜ Laid rules self at (now (rows .entry)) r (now (rows .exit)) ⌝ }
+    {
+        let frames = self.frames;
+        if frames.begun {
+            let plan = rules.plan;
+            let row = frames.row(plan);
+            row.put(rows, at);
+            return at + frame::ROW;
+        }
+        at
+    }
+}
+
+impl State {
+    // The packets, which are known to be accepted, one by one; a row is laid where a frame closes. The heavy
+    // step has this one call site, so that the state stays in registers.
+    fn run(
+        self,
+        rules: Rules,
+        arrivals: &[u64],
+        stamps: &[u32],
+        markers: &[u8],
+        rows: &mut [i64],
+    ) -> State
+        requires { ⌜ OneLength (now arrivals) (now stamps) (now markers) × Runs rules self (packets (now arrivals) (now stamps) (now markers)) 0 (length (now rows)) ⌝ }
+        ensures { λ r. ⌜ Ran rules self (packets (now (arrivals .entry)) (now (stamps .entry)) (now (markers .entry))) (now (rows .entry)) r (now (rows .exit)) ⌝ }
+    {
+        let mut s = self;
+        let mut at = 0;
+        let mut i = 0;
+        while i < arrivals.len() {
+            let t = arrivals[i];
+            let marker = markers[i];
+            s = s.arrive(rules, t, stamps[i]);
+            if marker == 1 {
+                at = s.lay_row(rules, rows, at);
+                s = s.mark(rules, t);
+            }
+            i += 1;
+        }
+        s
+    }
+}
+
+// The scan's refusal, with the state as it was.
+fn refused_by(scanned: Scanned, state: State) -> Fed
+    ensures { λ r. ⌜ r ≡ refusedAs scanned state ⌝ }
+{
+    match scanned {
+        Scanned::Fine(_) => Fed::Accepted(state),
+        Scanned::Refused(r) => Fed::Refused {
+            number: r.number,
+            place: r.place,
+            state,
+        },
+    }
+}
+
+impl State {
+    // A call's packets. Refused, by 9, 10, 11 to 14 or 15 in that order, it accepts none of them, and state
+    // and rows are as they were. Accepted, ten numbers are written for each frame closed, from the start of
+    // `rows` on, and the rest of `rows` stays.
+    pub fn feed(mut self, arrivals: &[u64], stamps: &[u32], markers: &[u8], rows: &mut [i64]) -> Fed
+        ensures { λ r. ⌜ Is (feedOf self (now (rows .entry)) (now (arrivals .entry)) (now (stamps .entry)) (now (markers .entry))) r (now (rows .exit)) ⌝ }
+    {
+        if !self.in_range() {
+            return Fed::Refused {
+                number: 9,
+                place: 0,
+                state: self,
+            };
+        }
+        let past = self.past;
+        let scanned = past.scan(self.frames.begun, arrivals, stamps, markers);
+        let Scanned::Fine(closed) = scanned else {
+            return refused_by(scanned, self);
+        };
+        if rows.len() / frame::ROW < closed {
+            return Fed::Refused {
+                number: 15,
+                place: past.packets,
+                state: self,
+            };
+        }
+        let numbers = self.numbers;
+        let rules = numbers.rules();
+        self = self.run(rules, arrivals, stamps, markers, rows);
+        Fed::Accepted(self)
+    }
+}
