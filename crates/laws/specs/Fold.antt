@@ -33,11 +33,13 @@ module _ {S A : Type 0} (step : S → A → S) where
   unfolding fold
   fold-take s l d i h = rw (take-suc l i d) (fold-cut s (take i l) (getD l i d ∷ []))
 
-  -- Z i is the state after i elements of l, if it is so at 0 and each step goes from one to the next: so at the end
-  pub fold-states : (l : List A) (d : A) (Z : ℕ → S) → ((i : ℕ) → i < length l → step (Z i) (getD l i d) ≡ Z (suc i)) → fold (Z 0) l ≡ Z (length l)
-  unfolding fold
-  fold-states l d Z up = rw (take-length l) at (go (length l) (omega arith))
-    where
-      go : (i : ℕ) → i ≤ length l → fold (Z 0) (take i l) ≡ Z i
-      go zero h = refl
-      go (suc i) h = fold-take (Z 0) l d i h ∙ rw (go i (omega arith)) (up i h)
+  -- Z i is the state after the first i elements of l, if each step goes from one to the next
+  module _ (l : List A) (d : A) (Z : ℕ → S) (up : (i : ℕ) → i < length l → step (Z i) (getD l i d) ≡ Z (suc i)) where
+    pub fold-up-to : (i : ℕ) → i ≤ length l → fold (Z 0) (take i l) ≡ Z i
+    unfolding fold
+    fold-up-to zero h = refl
+    fold-up-to (suc i) h = fold-take (Z 0) l d i h ∙ rw (fold-up-to i (omega arith)) (up i h)
+
+    -- so at the end
+    pub fold-states : fold (Z 0) l ≡ Z (length l)
+    fold-states = rw (take-length l) at (fold-up-to (length l) (omega arith))

@@ -1,3 +1,7 @@
 pub mod Step
 pub mod Range
 pub mod Feed
+pub mod Answers
+pub mod History
+pub mod Demands
+pub mod Laws

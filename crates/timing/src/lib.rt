@@ -11,8 +11,13 @@ ghost use Rattle.timing.specs.Range.{every, implies as impliesOf, pastRa
 ghost use Prim.Native.Nat.{_≤_};
 ghost use lib.ListN.{length};
 ghost use Rattle.packet.specs.Paper.{OneLength, packets};
+ghost use lib.Dec.{T};
+ghost use lib.Ieee.{binary64, inFloat};
+ghost use Rattle.timing.specs.Answers.{setUpAs, verdictOf, microsecondsOf, graphOf};
 ghost use Rattle.timing.specs.Feed.{Arrives, Lays, Laid, Runs, Ran, refusedAs, feedOf, Is};
 use bucket::Bucket;
+use bucket::Network;
+use frame::Buffer;
 use frame::Frames;
 use frame::Plan;
 use packet::Past;
@@ -56,6 +61,31 @@ pub enum Fed {
         place: u64,
         state: State,
     },
+}
+
+// The network answer and the buffer answer.
+pub struct Verdict {
+    pub network: Network,
+    pub buffer: Buffer,
+}
+
+// The verdict of a state in range; 9 for any other.
+pub enum Judged {
+    Given(Verdict),
+    Refused(u8),
+}
+
+// FPT, margin and VL in microseconds.
+pub struct Graph {
+    pub fpt: f64,
+    pub margin: f64,
+    pub latency: f64,
+}
+
+// The three figures, or 16 and no doubles.
+pub enum Drawn {
+    Figures(Graph),
+    Refused(u8),
 }
 
 // The fresh state, or the refusal number and no state.
@@ -107,6 +137,17 @@ impl StreamNumbers {
             spacing: 10 * frame,
             share: 11 * (self.n as u64),
             limit: limits::c_max(self.class, self.schedule, frame, self.n),
+        }
+    }
+
+    // The fresh state, or the refusal 1 to 7 and no state.
+    pub fn set_up(self) -> SetUp
+        ensures { λ r. ⌜ r ≡ setUpAs self ⌝ }
+    {
+        let number = self.refusal();
+        match number {
+            0 => SetUp::Fresh(self.fresh()),
+            1..=255 => SetUp::Refused(number),
         }
     }
 
@@ -381,4 +422,58 @@ impl State {
         self = self.run(rules, arrivals, stamps, markers, rows);
         Fed::Accepted(self)
     }
+}
+
+impl State {
+    // The two answers, for a state in range. Packets, frames closed and peak are read off the state.
+    pub fn verdict(self) -> Judged
+        ensures { λ r. ⌜ r ≡ verdictOf self ⌝ }
+    {
+        if !self.in_range() {
+            return Judged::Refused(9);
+        }
+        let bucket = self.bucket;
+        let network = bucket.network;
+        let frames = self.frames;
+        let buffer = frames.buffer;
+        Judged::Given(Verdict { network, buffer })
+    }
+}
+
+// Grains as microseconds: the number as a double, with nothing lost, divided once.
+fn microseconds(x: i64) -> f64
+    requires { ⌜ T (inFloat binary64 x) ⌝ }
+    ensures { λ r. ⌜ r ≡ microsecondsOf x ⌝ }
+{
+    (x as f64) / 27000.0
+}
+
+// At most 2^53 in size, so that a double holds it.
+fn is_exact(x: i64) -> bool
+    ensures { λ r. ⌜ r ≡ inFloat binary64 x ⌝ }
+{
+    if x < -9007199254740992 {
+        return false;
+    }
+    x <= 9007199254740992
+}
+
+// The figures for the host's graph, or 16.
+pub fn draw(fpt: i64, margin: i64, latency: i64) -> Drawn
+    ensures { λ r. ⌜ r ≡ graphOf fpt margin latency ⌝ }
+{
+    if !is_exact(fpt) {
+        return Drawn::Refused(16);
+    }
+    if !is_exact(margin) {
+        return Drawn::Refused(16);
+    }
+    if !is_exact(latency) {
+        return Drawn::Refused(16);
+    }
+    Drawn::Figures(Graph {
+        fpt: microseconds(fpt),
+        margin: microseconds(margin),
+        latency: microseconds(latency),
+    })
 }

@@ -1,7 +1,7 @@
 -- Five tests, two at a time.
 use mathlib.Core.Path.{_≡_, _∙_}
 use Rattle.timing.specs.Range.{every}
-use Rattle.timing.proofs.Tests.{and-true}
+use Rattle.timing.specs.Laws.Tests.{and-true}
 use borrow.Author.Needs.{needs}
 use Rattle.timing.proofs.all.Statement.{statement}
 use Rattle.timing.proofs.all.Tie as tie

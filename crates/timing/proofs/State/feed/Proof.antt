@@ -6,7 +6,7 @@ use denote.Ref.{now}
 use Rattle.timing.specs.declared.Rules.{Rules}
 use Rattle.timing.specs.Feed.{Runs, Ran}
 use Rattle.packet.specs.Paper.{packets}
-use Rattle.timing.proofs.Feeding.{fed-9, fed-refused, fed-15, one-length, runs, fed}
+use Rattle.timing.specs.Laws.Feeding.{fed-9, fed-refused, fed-15, one-length, runs, fed}
 use borrow.Author.Needs.{needs}
 use Rattle.timing.proofs.State.feed.Statement.{statement}
 use Rattle.timing.proofs.State.feed.Tie as tie

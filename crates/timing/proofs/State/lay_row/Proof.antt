@@ -1,6 +1,6 @@
 -- Where the lead-in is over the row is made and laid; else nothing is.
 use native.Mathlib.Omega.{arith}
-use Rattle.timing.proofs.Laying.{lays-one, lays-none}
+use Rattle.timing.specs.Laws.Laying.{lays-one, lays-none}
 use borrow.Author.Needs.{needs}
 use Rattle.timing.proofs.State.lay_row.Statement.{statement}
 use Rattle.timing.proofs.State.lay_row.Tie as tie

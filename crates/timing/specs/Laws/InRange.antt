@@ -14,7 +14,7 @@ use Rattle.timing.specs.declared.State.{State}
 use Rattle.timing.specs.declared.StreamNumbers.{StreamNumbers}
 use Rattle.timing.specs.Step.{setUpOf, frameOf, rulesOf, freshOf}
 use Rattle.timing.specs.Range.{every, implies, pastRanges, bucketRanges, countRanges, openRanges, keptRanges, inRange, Sound}
-use Rattle.timing.proofs.Tests.{and-left, and-right, and-both, use-implies, make-implies, Five, five-of, of-five}
+use Rattle.timing.specs.Laws.Tests.{and-left, and-right, and-both, use-implies, make-implies, Five, five-of, of-five}
 
 module _ (s : State) where
   -- ---- from the tests to the facts

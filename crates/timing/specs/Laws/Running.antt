@@ -22,8 +22,8 @@ use Rattle.timing.specs.declared.State.{State}
 use Rattle.timing.specs.Step.{rulesOf, arriveOf, markOf, stepOf, rowsOf, stateAfter, rowsAfter, numbers}
 use Rattle.timing.specs.Range.{Sound}
 use Rattle.timing.specs.Feed.{Arrives, Lays, Laid, closing, Passes, Runs, Ran}
-use Rattle.timing.proofs.Planning.{planned}
-use Rattle.timing.proofs.Staying.{arrives, few-closed, sound-step, rows-made}
+use Rattle.timing.specs.Laws.Planning.{planned}
+use Rattle.timing.specs.Laws.Staying.{arrives, few-closed, sound-step, rows-made}
 
 -- the numbers of rows put together
 pub numbers-append : (l m : List Row) → numbers (l ++ m) ≡ numbers l ++ numbers m

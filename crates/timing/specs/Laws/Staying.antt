@@ -23,7 +23,7 @@ use Rattle.timing.specs.declared.State.{State}
 use Rattle.timing.specs.Step.{rulesOf, arriveOf, markOf, stepOf, drainedOf}
 use Rattle.timing.specs.Range.{Sound}
 use Rattle.timing.specs.Feed.{Arrives, Lays}
-use Rattle.timing.proofs.Planning.{planned, spacing-some, reach-fits, drains-few, guess-fits}
+use Rattle.timing.specs.Laws.Planning.{planned, spacing-some, reach-fits, drains-few, guess-fits}
 
 -- the bucket names no more than the packets
 judged-first : (v : Network) (above : Bool) (first last m : ℕ) → networkFirst v ≤ m → first ≤ m → networkFirst (B.judged v above first last) ≤ m

@@ -1,0 +1,42 @@
+-- Set-up, the verdict and the graph: what each answers, for every input.
+use mathlib.Core.Bool.{Bool, true, false}
+use Prim.Native.Nat.{ℕ}
+use lib.Dec.{eqb}
+use lib.IntN.{ℤ, pos}
+use lib.Ieee.{Float, binary64, ofInt, div, inFloat}
+use Rattle.laws.specs.Choose.{pick}
+use Rattle.timing.specs.declared.StreamNumbers.{StreamNumbers}
+use Rattle.timing.specs.declared.State.{State}
+use Rattle.timing.specs.declared.SetUp.{SetUp}
+use Rattle.timing.specs.declared.SetUp.the-variants.{Fresh, Refused}
+use Rattle.timing.specs.declared.Verdict.{Verdict}
+use Rattle.timing.specs.declared.Judged.{Judged}
+use Rattle.timing.specs.declared.Judged.the-variants.{Given, Refused as Not-Judged}
+use Rattle.timing.specs.declared.Graph.{Graph}
+use Rattle.timing.specs.declared.Drawn.{Drawn}
+use Rattle.timing.specs.declared.Drawn.the-variants.{Figures, Refused as Not-Drawn}
+use Rattle.timing.specs.Step.{setUpOf, freshOf}
+use Rattle.timing.specs.Range.{inRange}
+
+-- "A refused set-up returns its number and no state."
+unfoldable pub setUpAs : StreamNumbers → SetUp
+setUpAs x = pick (eqb (setUpOf x) 0) (Fresh (freshOf x)) (Refused (setUpOf x))
+
+-- "The verdict holds the network answer and the buffer answer."
+unfoldable pub verdictOf : State → Judged
+verdictOf s = pick (inRange s) (Given (record { network = s .bucket .network; buffer = s .frames .buffer })) (Not-Judged 9)
+
+-- "FPT, margin and VL as microseconds, each the grains as a double (nothing lost) divided once by 27000."
+unfoldable pub microsecondsOf : ℤ → Float
+microsecondsOf x = div binary64 (ofInt binary64 x) (ofInt binary64 (pos 27000))
+
+-- "16 a figure for the graph above 2^53 in size; no doubles are given"
+unfoldable pub graphOf : ℤ → ℤ → ℤ → Drawn
+graphOf fpt margin latency =
+    pick (inFloat binary64 fpt)
+    (pick (inFloat binary64 margin)
+    (pick (inFloat binary64 latency)
+    (Figures (record { fpt = microsecondsOf fpt; margin = microsecondsOf margin; latency = microsecondsOf latency }))
+    (Not-Drawn 16))
+    (Not-Drawn 16))
+    (Not-Drawn 16)

@@ -1,0 +1,11 @@
+-- The proofs behind Demands.antt, and the laws that the functions' own proofs cite. Nothing here need be read to believe the measurement.
+pub mod Tests
+pub mod Planning
+pub mod InRange
+pub mod Laying
+pub mod Staying
+pub mod Running
+pub mod Scanning
+pub mod Feeding
+pub mod Declared
+pub mod Dealing

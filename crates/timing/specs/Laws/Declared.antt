@@ -1,0 +1,114 @@
+-- A state reached from set-up is the declared state of its history, and its rows are the declared rows: the step goes from place to place.
+use mathlib.Core.Path.{_≡_, refl, sym, ap, _∙_, subst}
+use mathlib.Core.Bool.{Bool, true, false}
+use mathlib.Core.List.{List, [], _∷_, _++_, append-assoc, append-nil}
+use Prim.Native.Nat.{ℕ, zero, suc, _+_, _-_, _*_, _<_, _≤_}
+use native.Mathlib.Omega.{arith}
+use native.Mathlib.Nat.{sub-zero}
+use lib.Dec.{eqb·suc-zero}
+use lib.ListN.{length, take, getD}
+use lib.Seq.{take-suc, take-length}
+use Rattle.laws.specs.Choose.{pick}
+use Rattle.laws.specs.Fold.{fold, fold-up-to, fold-states}
+use Rattle.grain.specs.Paper.{instants}
+use Rattle.packet.specs.Paper.{Packet, nought, marked, at, pastAt}
+use Rattle.packet.specs.Step.{firstOf, elapsedOf, nextOf}
+use Rattle.packet.proofs.Declared.{next-at}
+use Rattle.bucket.specs.Paper as BP
+use Rattle.bucket.specs.Step as B
+use Rattle.bucket.proofs.ByPlace as BB
+use Rattle.frame.specs.declared.Row.{Row}
+use Rattle.frame.specs.declared.Frames.{Frames}
+use Rattle.frame.specs.Paper as FP
+use Rattle.frame.specs.Step as FS
+use Rattle.frame.specs.ByPlace as F
+use Rattle.frame.proofs.Stepping as FF
+use Rattle.timing.specs.declared.StreamNumbers.{StreamNumbers}
+use Rattle.timing.specs.declared.Rules.{Rules}
+use Rattle.timing.specs.declared.State.{State}
+use Rattle.timing.specs.Step.{frameOf, rulesOf, freshOf, drainedOf, arriveOf, markOf, stepOf, rowsOf, stateAfter, rowsAfter}
+use Rattle.timing.specs.History.{bucketHistory, frameHistory, drainedAt, stateAt, rowsTo}
+
+-- the step, with the frames' own step in it
+step-is : (rules : Rules) (s : State) (p : Packet) → stepOf rules s p ≡ record {
+  numbers = s .numbers;
+  past = nextOf (s .past) (p .time);
+  drained = drainedOf rules (s .past) (p .time);
+  bucket = B.stepOf (s .bucket) (s .past .packets) (drainedOf rules (s .past) (p .time) - s .drained) (rules .limit);
+  frames = FS.stepOf (rules .plan) (s .frames) (p .time) (p .stamp) (marked p);
+}
+unfolding stepOf arriveOf markOf FS.stepOf
+step-is rules s p = go (marked p)
+  where
+    go : (m : Bool) → pick m (markOf rules (arriveOf rules s (p .time) (p .stamp)) (p .time)) (arriveOf rules s (p .time) (p .stamp)) ≡ record {
+      numbers = s .numbers;
+      past = nextOf (s .past) (p .time);
+      drained = drainedOf rules (s .past) (p .time);
+      bucket = B.stepOf (s .bucket) (s .past .packets) (drainedOf rules (s .past) (p .time) - s .drained) (rules .limit);
+      frames = pick m (FS.closeOf (rules .plan) (FS.arriveOf (rules .plan) (s .frames) (p .time) (p .stamp)) (p .time)) (FS.arriveOf (rules .plan) (s .frames) (p .time) (p .stamp));
+    }
+    go true = refl
+    go false = refl
+
+module _ (x : StreamNumbers) (l : List Packet) where
+  -- nanoseconds since the first packet, and grains
+  elapsed-is : (i : ℕ) → 27 * elapsedOf (pastAt l i) (at l i .time) ≡ 27 * at l i .time - 27 * at l 0 .time
+  elapsed-is zero = omega arith
+  elapsed-is (suc i) = rw (eqb·suc-zero i) (omega arith)
+
+  drained-is : (i : ℕ) → drainedOf (rulesOf x) (pastAt l i) (at l i .time) ≡ BP.drains (bucketHistory x l) i
+  unfolding rulesOf
+  drained-is i = ap (λ (e : ℕ). instants e (10 * frameOf x) (11 * x .n)) (elapsed-is i)
+
+  drains-since : (i : ℕ) → BP.drains (bucketHistory x l) i - drainedAt x l i ≡ B.drainsSince (BP.drains (bucketHistory x l)) i
+  drains-since zero = sub-zero (BP.drains (bucketHistory x l) 0)
+  drains-since (suc i) = refl
+
+  pub step-declared : (i : ℕ) → stepOf (rulesOf x) (stateAt x l i) (at l i) ≡ stateAt x l (suc i)
+  unfolding stateAt
+  step-declared i =
+      step-is (rulesOf x) (stateAt x l i) (at l i) ∙ (λ j. record {
+        numbers = x;
+        past = next-at l i j;
+        drained = drained-is i j;
+        bucket = (ap (λ (d : ℕ). B.stepOf (B.bucketAt (BP.drains (bucketHistory x l)) (rulesOf x .limit) i) i d (rulesOf x .limit))
+            (ap (λ (d : ℕ). d - drainedAt x l i) (drained-is i) ∙ drains-since i) ∙ BB.step-by-place (BP.drains (bucketHistory x l)) (rulesOf x .limit) i) j;
+        frames = FF.frames-step (rulesOf x .plan) (frameHistory x l) i j;
+      })
+
+  fresh-declared : freshOf x ≡ stateAt x l 0
+  unfolding stateAt B.bucketAt
+  fresh-declared = λ j. record { numbers = x; past = pastAt l 0; drained = 0; bucket = B.emptyOf; frames = sym (FF.frames-first (rulesOf x .plan) (frameHistory x l)) j }
+
+  -- "A state reached from set-up is the declared state of its history."
+  pub state-declared : stateAfter (rulesOf x) (freshOf x) l ≡ stateAt x l (length l)
+  state-declared =
+      ap (λ (s : State). stateAfter (rulesOf x) s l) fresh-declared ∙ fold-states (stepOf (rulesOf x)) l nought (stateAt x l) (λ i h. step-declared i)
+
+-- rows of a list cut in two
+pub rows-cut : (rules : Rules) (s : State) (l m : List Packet) → rowsAfter rules s (l ++ m) ≡ rowsAfter rules s l ++ rowsAfter rules (stateAfter rules s l) m
+unfolding rowsAfter fold
+rows-cut rules s [] m = refl
+rows-cut rules s (p ∷ l) m =
+    ap (λ (r : List Row). rowsOf rules s p ++ r) (rows-cut rules (stepOf rules s p) l m)
+    ∙ sym (append-assoc (rowsOf rules s p) (rowsAfter rules (stepOf rules s p) l) (rowsAfter rules (stateAfter rules (stepOf rules s p) l) m))
+
+module _ (x : StreamNumbers) (l : List Packet) where
+  row-declared : (i : ℕ) → rowsOf (rulesOf x) (stateAt x l i) (at l i) ≡ F.rowsAt (rulesOf x .plan) (frameHistory x l) i
+  unfolding stateAt
+  row-declared i = FF.rows-step (rulesOf x .plan) (frameHistory x l) i
+
+  state-take : (i : ℕ) → i ≤ length l → stateAfter (rulesOf x) (stateAt x l 0) (take i l) ≡ stateAt x l i
+  state-take = fold-up-to (stepOf (rulesOf x)) l nought (stateAt x l) (λ i h. step-declared x l i)
+
+  rows-take : (i : ℕ) → i ≤ length l → rowsAfter (rulesOf x) (stateAt x l 0) (take i l) ≡ rowsTo x l i
+  unfolding rowsAfter rowsTo
+  rows-take zero h = refl
+  rows-take (suc i) h =
+      ap (rowsAfter (rulesOf x) (stateAt x l 0)) (take-suc l i nought h) ∙ rows-cut (rulesOf x) (stateAt x l 0) (take i l) (at l i ∷ [])
+      ∙ rw (rows-take i (omega arith), state-take i (omega arith), row-declared i) (ap (λ (r : List Row). rowsTo x l i ++ r) (append-nil (F.rowsAt (rulesOf x .plan) (frameHistory x l) i)))
+
+  -- and the rows written are those of the frames that close, in order
+  pub rows-declared : rowsAfter (rulesOf x) (freshOf x) l ≡ rowsTo x l (length l)
+  rows-declared =
+      ap (λ (s : State). rowsAfter (rulesOf x) s l) (fresh-declared x l) ∙ ap (rowsAfter (rulesOf x) (stateAt x l 0)) (sym (take-length l)) ∙ rows-take (length l) (omega arith)
