@@ -1,7 +1,7 @@
 -- Feeding a call's packets: what each part of the code asks and gives, and the whole call, refusals included.
 use mathlib.Core.Path.{_≡_}
 use mathlib.Core.Bool.{Bool, true, false}
-use mathlib.Core.List.{List, [], _∷_}
+use mathlib.Core.List.{List, [], _∷_, _++_}
 use Prim.Native.Nat.{ℕ, zero, suc, _+_, _*_, _≤_, _<_}
 use lib.Dec.{leb}
 use lib.IntN.{ℤ}
@@ -12,7 +12,7 @@ use Rattle.packet.specs.declared.Past.{Past}
 use Rattle.packet.specs.declared.Scanned.{Scanned}
 use Rattle.packet.specs.declared.Scanned.the-variants.{Fine, Refused as Scan-Refused}
 use Rattle.packet.specs.Paper.{Packet, packets}
-use Rattle.packet.specs.Step.{elapsedOf, nextOf, numberOf, scannedOf}
+use Rattle.packet.specs.Step.{elapsedOf, nextOf, numberOf, scanOf, scannedOf}
 use Rattle.frame.specs.declared.Row.{Row}
 use Rattle.frame.specs.Step.{rowOf}
 use Rattle.frame.specs.Range.{Planned, Pushable, Rowable}
@@ -95,6 +95,10 @@ module _ (s : State) (rows : List ℤ) where
   byScan (Fine closed) l = roomFor closed l
   byScan (Scan-Refused r) l = refusedBy (r .number) (r .place)
 
+  -- the answer to packets lent in slices of one length
+  unfoldable pub feedAll : List Packet → Outcome
+  feedAll l = pick (inRange s) (byScan (scanOf (s .past) (s .frames .begun) 0 l) l) (refusedBy 9 0)
+
   -- "Order: 9, 10, then packet by packet 11 to 14, then 15."
   unfoldable pub feedOf : List ℕ → List ℕ → List ℕ → Outcome
   feedOf ts ss ms =
@@ -109,3 +113,27 @@ refusedAs (Scan-Refused r) s = Refused (r .number) (r .place) s
 pub record Is (o : Outcome) (answer : Fed) (rows : List ℤ) : Type 0 where
   pub answer-is : answer ≡ o .answer
   pub rows-are : rows ≡ o .rows
+
+-- ---- call after call
+
+-- one call: its packets, and the row numbers that it is lent
+pub record Call : Type 0 where
+  pub packets : List Packet
+  pub rows : List ℤ
+
+-- the packets of the calls, in order
+unfoldable pub allOf : List Call → List Packet
+allOf [] = []
+allOf (c ∷ cs) = c .packets ++ allOf cs
+
+-- each call is accepted, from the state that the one before it gave; `out` is what they write, one after the other
+pub data Deals : State → List Call → State → List ℤ → Type 0 where
+  none : {s : State} → Deals s [] s []
+  call : {s t u : State} {c : Call} {cs : List Call} (out more : List ℤ) → feedAll s (c .rows) (c .packets) ≡ record { answer = Accepted t; rows = laid 0 out (c .rows) }
+      → Deals t cs u more → Deals s (c ∷ cs) u (out ++ more)
+
+-- each call has room for the rows of the frames that it closes
+unfoldable pub Rooms : State → List Call → Type 0
+Rooms s [] = Unit
+Rooms s (c ∷ cs) =
+    (length (rowsAfter (rulesOf (s .numbers)) s (c .packets)) * 10 ≤ length (c .rows)) × Rooms (stateAfter (rulesOf (s .numbers)) s (c .packets)) cs

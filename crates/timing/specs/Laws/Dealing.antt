@@ -1,33 +1,94 @@
--- A list dealt out over any calls: the states and rows of the calls, one after the other, are those of one call with the whole list.
+-- A list dealt out over any calls: each call is accepted, and states and rows are those of one call with the whole list. The idea: an accepted list is
+-- one whose packets all pass, and passing may be cut anywhere.
 use mathlib.Core.Path.{_≡_, refl, sym, ap, _∙_, subst}
-use mathlib.Core.Bool.{Bool, true, false}
-use mathlib.Core.List.{List, [], _∷_, _++_, flatten, append-nil}
+use mathlib.Core.Bool.{Bool, true, false, _||_}
+use mathlib.Core.List.{List, [], _∷_, _++_}
 use Prim.Native.Nat.{ℕ, zero, suc, _+_, _*_, _≤_}
 use native.Mathlib.Omega.{arith}
+use lib.Dec.{leb}
 use lib.IntN.{ℤ}
-use lib.ListN.{length}
-use borrow.Author.Tests.{le-leb}
+use lib.ListN.{length, length-append}
+use borrow.Author.Tests.{le-leb, eq-eqb}
 use Rattle.laws.specs.Fold.{fold, fold-cut}
+use Rattle.laws.specs.Lay.{laid}
 use Rattle.packet.specs.declared.Past.{Past}
 use Rattle.packet.specs.declared.Scanned.{Scanned}
-use Rattle.packet.specs.declared.Scanned.the-variants.{Fine, Refused as Scan-Refused}
-use Rattle.packet.specs.Paper.{Packet}
-use Rattle.packet.specs.Step.{scanOf}
+use Rattle.packet.specs.declared.Scanned.the-variants.{Fine}
+use Rattle.packet.specs.Paper.{Packet, marked}
+use Rattle.packet.specs.Step.{numberOf, nextOf, closes, scanOf}
 use Rattle.frame.specs.declared.Row.{Row}
 use Rattle.timing.specs.declared.Rules.{Rules}
 use Rattle.timing.specs.declared.State.{State}
-use Rattle.timing.specs.Step.{rulesOf, stepOf, stateAfter, rowsAfter, numbers}
-use Rattle.timing.specs.Laws.Running.{numbers-append, step-numbers}
+use Rattle.timing.specs.Step.{rulesOf, stepOf, rowsOf, stateAfter, rowsAfter, numbers}
+use Rattle.timing.specs.Range.{inRange, Sound}
+use Rattle.timing.specs.Feed.{Passes, acceptedAs, feedAll, Call, allOf, Deals, none, call, Rooms}
+use Rattle.timing.specs.Laws.InRange.{of-sound}
+use Rattle.timing.specs.Laws.Staying.{sound-step}
+use Rattle.timing.specs.Laws.Running.{numbers-append, step-numbers, step-past}
+use Rattle.timing.specs.Laws.Scanning.{begun-step, rows-count}
 use Rattle.timing.specs.Laws.Declared.{rows-cut}
 
--- the rows of call after call
-unfoldable pub rowsOver : Rules → State → List (List Packet) → List Row
-unfolding rowsAfter fold
-rowsOver rules s [] = []
-rowsOver rules s (c ∷ cs) = rowsAfter rules s c ++ rowsOver rules (stateAfter rules s c) cs
+-- the stream numbers stay
+numbers-after : (rules : Rules) (s : State) (l : List Packet) → (stateAfter rules s l) .numbers ≡ s .numbers
+unfolding fold
+numbers-after rules s [] = refl
+numbers-after rules s (p ∷ l) = numbers-after rules (stepOf rules s p) l ∙ step-numbers rules s p
 
-pub rows-dealt : (rules : Rules) (s : State) (calls : List (List Packet)) → rowsOver rules s calls ≡ rowsAfter rules s (flatten calls)
-unfolding rowsOver flatten rowsAfter
-rows-dealt rules s [] = refl
-rows-dealt rules s (c ∷ cs) =
-    ap (λ (r : List Row). rowsAfter rules s c ++ r) (rows-dealt rules (stateAfter rules s c) cs) ∙ sym (rows-cut rules s c (flatten cs))
+-- packets that pass keep the state in range
+pub sound-after : (l : List Packet) (s : State) → Sound s → Passes (s .past) l → Sound (stateAfter (rulesOf (s .numbers)) s l)
+unfolding fold Passes
+sound-after [] s x p = x
+sound-after (q ∷ l) s x p =
+    let rules = rulesOf (s .numbers) in
+    let same : rulesOf ((stepOf rules s q) .numbers) ≡ rules = ap rulesOf (step-numbers rules s q) in
+    subst (λ (r : Rules). Sound (stateAfter r (stepOf rules s q) l)) same
+    (sound-after l (stepOf rules s q) (sound-step s q x (p .0)) (subst (λ (y : Past). Passes y l) (sym (step-past rules s q)) (p .1)))
+
+-- packets that pass are scanned with nothing to refuse
+passes-scan : (l : List Packet) (rules : Rules) (s : State) (k : ℕ) → Passes (s .past) l → scanOf (s .past) (s .frames .begun) k l ≡ Fine (k + length (rowsAfter rules s l))
+unfolding Passes scanOf rowsAfter
+passes-scan [] rules s k p = ap Fine (omega arith)
+passes-scan (q ∷ l) rules s k p =
+    let next = subst (λ (y : Past). Passes y l) (sym (step-past rules s q)) (p .1) in
+    let ih = passes-scan l rules (stepOf rules s q) (k + closes (s .frames .begun) q) next in
+    let here = subst (λ (y : Past). scanOf y ((stepOf rules s q) .frames .begun) (k + closes (s .frames .begun) q) l ≡ Fine (k + closes (s .frames .begun) q + length (rowsAfter rules (stepOf rules s q) l))) (step-past rules s q) ih in
+    let there = subst (λ (b : Bool). scanOf (nextOf (s .past) (q .time)) b (k + closes (s .frames .begun) q) l ≡ Fine (k + closes (s .frames .begun) q + length (rowsAfter rules (stepOf rules s q) l))) (begun-step rules s q) here in
+    let count : k + closes (s .frames .begun) q + length (rowsAfter rules (stepOf rules s q) l) ≡ k + length (rowsOf rules s q ++ rowsAfter rules (stepOf rules s q) l) =
+    omega (arith, length-append (rowsOf rules s q) (rowsAfter rules (stepOf rules s q) l), rows-count rules s q) in
+    rw (eq-eqb (numberOf (s .past) q) 0 (p .0)) (there ∙ ap Fine count)
+
+-- one call of packets that pass, with room
+accepts : (s : State) (rows : List ℤ) (l : List Packet) → Sound s → Passes (s .past) l → length (rowsAfter (rulesOf (s .numbers)) s l) * 10 ≤ length rows
+    → feedAll s rows l ≡ acceptedAs s rows l
+unfolding feedAll
+accepts s rows l x p room =
+    rw (of-sound s x, passes-scan l (rulesOf (s .numbers)) s 0 p) (rw (le-leb ((0 + length (rowsAfter (rulesOf (s .numbers)) s l)) * 10) (length rows) (omega arith)))
+
+-- passing may be cut
+passes-cut : (rules : Rules) (s : State) (l m : List Packet) → Passes (s .past) (l ++ m) → Passes (s .past) l × Passes ((stateAfter rules s l) .past) m
+unfolding Passes fold
+passes-cut rules s [] m p = (tt, p)
+passes-cut rules s (q ∷ l) m p =
+    let next = subst (λ (y : Past). Passes y (l ++ m)) (sym (step-past rules s q)) (p .1) in
+    let ih = passes-cut rules (stepOf rules s q) l m next in
+    ((p .0, subst (λ (y : Past). Passes y l) (step-past rules s q) (ih .0)), ih .1)
+
+-- the list dealt out
+pub deals : (calls : List Call) (s : State) → Sound s → Passes (s .past) (allOf calls) → Rooms s calls
+    → Deals s calls (stateAfter (rulesOf (s .numbers)) s (allOf calls)) (numbers (rowsAfter (rulesOf (s .numbers)) s (allOf calls)))
+unfolding allOf Rooms fold rowsAfter numbers
+deals [] s x p r = none
+deals (c ∷ cs) s x p r =
+    let rules = rulesOf (s .numbers) in
+    let l = c .packets in
+    let m = allOf cs in
+    let t = stateAfter rules s l in
+    let cut = passes-cut rules s l m p in
+    let same : rulesOf (t .numbers) ≡ rules = ap rulesOf (numbers-after rules s l) in
+    let rest = subst (λ (q : Rules). Deals t cs (stateAfter q t m) (numbers (rowsAfter q t m))) same (deals cs t (sound-after l s x (cut .0)) (cut .1) (r .1)) in
+    let all = call (numbers (rowsAfter rules s l)) (numbers (rowsAfter rules t m)) (accepts s (c .rows) l x (cut .0) (r .0)) rest in
+    let states : stateAfter rules t m ≡ stateAfter rules s (l ++ m) = sym (fold-cut (stepOf rules) s l m) in
+    let rows : numbers (rowsAfter rules s l) ++ numbers (rowsAfter rules t m) ≡ numbers (rowsAfter rules s (l ++ m)) =
+    sym (numbers-append (rowsAfter rules s l) (rowsAfter rules t m)) ∙ ap numbers (sym (rows-cut rules s l m)) in
+    subst (λ (u : State). Deals s (c ∷ cs) u (numbers (rowsAfter rules s (l ++ m)))) states
+    (subst (λ (o : List ℤ). Deals s (c ∷ cs) (stateAfter rules t m) o) rows all)

@@ -5,15 +5,18 @@ use mathlib.Core.List.{List, [], _∷_, _++_, append-assoc, append-nil}
 use Prim.Native.Nat.{ℕ, zero, suc, _+_, _-_, _*_, _<_, _≤_}
 use native.Mathlib.Omega.{arith}
 use native.Mathlib.Nat.{sub-zero}
-use lib.Dec.{eqb·suc-zero}
+use lib.Dec.{ltb, leb, eqb·suc-zero}
 use lib.ListN.{length, take, getD}
 use lib.Seq.{take-suc, take-length}
 use Rattle.laws.specs.Choose.{pick}
 use Rattle.laws.specs.Fold.{fold, fold-up-to, fold-states}
 use Rattle.grain.specs.Paper.{instants}
-use Rattle.packet.specs.Paper.{Packet, nought, marked, at, pastAt}
+use borrow.Author.Tests.{ltb-false}
+use Rattle.laws.specs.Climb.{Climbs}
+use Rattle.packet.specs.declared.Scanned.the-variants.{Fine}
+use Rattle.packet.specs.Paper.{Packet, nought, marked, at, earlierAt, refusalAt, declared, pastAt}
 use Rattle.packet.specs.Step.{firstOf, elapsedOf, nextOf}
-use Rattle.packet.proofs.Declared.{next-at}
+use Rattle.packet.proofs.Declared.{next-at, fine-everywhere}
 use Rattle.bucket.specs.Paper as BP
 use Rattle.bucket.specs.Step as B
 use Rattle.bucket.proofs.ByPlace as BB
@@ -112,3 +115,15 @@ module _ (x : StreamNumbers) (l : List Packet) where
   pub rows-declared : rowsAfter (rulesOf x) (freshOf x) l ≡ rowsTo x l (length l)
   rows-declared =
       ap (λ (s : State). rowsAfter (rulesOf x) s l) (fresh-declared x l) ∙ ap (rowsAfter (rulesOf x) (stateAt x l 0)) (sym (take-length l)) ∙ rows-take (length l) (omega arith)
+
+-- an accepted history's arrivals never fall
+not-earlier : (a b c d : Bool) → _≡_ {A = ℕ} (pick a 11 (pick b 12 (pick c 13 (pick d 14 0)))) 0 → b ≡ false
+not-earlier true b c d e = absurd (omega arith)
+not-earlier false true c d e = absurd (omega arith)
+not-earlier false false c d e = refl
+
+pub arrivals-climb : (l : List Packet) (n : ℕ) → declared l ≡ Fine n → Climbs (λ i. at l i .time) (length l)
+unfolding refusalAt
+arrivals-climb l n e i h =
+    ltb-false (at l (suc i) .time) (at l i .time) (not-earlier (ltb 1 (at l (suc i) .marker)) (earlierAt l (suc i)) (ltb 600000000000 (at l (suc i) .time - at l 0 .time)) (leb 1000000000 (suc i))
+    (fine-everywhere l n (suc i) e h))

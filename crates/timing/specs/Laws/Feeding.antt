@@ -14,14 +14,17 @@ use Rattle.packet.specs.declared.Scanned.{Scanned}
 use Rattle.packet.specs.declared.Scanned.the-variants.{Fine, Refused as Scan-Refused}
 use Rattle.packet.specs.Paper.{Packet, OneLength, packets}
 use Rattle.packet.specs.Step.{scanOf, scannedOf}
-use Rattle.packet.proofs.Turn.{scanned-fine}
+use Rattle.packet.proofs.Turn.{scanned-fine, lengths-same}
+use Rattle.laws.specs.Choose.{pick}
+use Rattle.laws.specs.Fold.{fold}
+use Rattle.laws.specs.Lay.{laid}
 use Rattle.timing.specs.declared.State.{State}
 use Rattle.timing.specs.declared.Rules.{Rules}
 use Rattle.timing.specs.declared.Fed.{Fed}
 use Rattle.timing.specs.declared.Fed.the-variants.{Accepted, Refused}
-use Rattle.timing.specs.Step.{rulesOf, rowsAfter, numbers}
+use Rattle.timing.specs.Step.{rulesOf, stateAfter, rowsAfter, numbers}
 use Rattle.timing.specs.Range.{inRange}
-use Rattle.timing.specs.Feed.{Runs, Ran, Outcome, refusedBy, acceptedAs, roomFor, byScan, feedOf, refusedAs, Is}
+use Rattle.timing.specs.Feed.{Passes, Runs, Ran, Outcome, refusedBy, acceptedAs, roomFor, byScan, feedAll, feedOf, refusedAs, Is}
 use Rattle.timing.specs.Laws.InRange.{sound-of}
 use Rattle.timing.specs.Laws.Scanning.{scan-runs, numbers-length}
 
@@ -79,3 +82,59 @@ module _ (s : State) (rows : List ℤ) (ts ss ms : List ℕ) where
             let r = subst (λ (x : Rules). Ran x s (packets ts ss ms) rows t after) eq ran in
             let o = is {q = acceptedAs s rows (packets ts ss ms)} (sym (rw (le-leb (n * 10) (length rows) (enough l))) ∙ room-for) in
             record { answer-is = ap Accepted (r .state-is) ∙ o .answer-is; rows-are = r .rows-are ∙ o .rows-are }
+
+-- ---- what an answer tells
+
+-- a refusal leaves state and rows
+refused-room : (s t : State) (rows : List ℤ) (n k p : ℕ) (l : List Packet) → (roomFor s rows n l) .answer ≡ Refused k p t → (t ≡ s) × ((roomFor s rows n l) .rows ≡ rows)
+refused-room s t rows n k p l = go (leb (n * 10) (length rows))
+  where
+    go : (b : Bool) → (pick b (acceptedAs s rows l) (refusedBy s rows 15 (s .past .packets))) .answer ≡ Refused k p t
+        → (t ≡ s) × ((pick b (acceptedAs s rows l) (refusedBy s rows 15 (s .past .packets))) .rows ≡ rows)
+    go true e = let z : _≡_ {A = ℕ} 0 1 = cc in absurd (omega arith)
+    go false e = (cc, refl)
+
+refused-scan : (s t : State) (rows : List ℤ) (x : Scanned) (k p : ℕ) (l : List Packet) → (byScan s rows x l) .answer ≡ Refused k p t → (t ≡ s) × ((byScan s rows x l) .rows ≡ rows)
+refused-scan s t rows (Fine n) k p l e = refused-room s t rows n k p l e
+refused-scan s t rows (Scan-Refused r) k p l e = (cc, refl)
+
+pub refused-stays : (s t : State) (rows : List ℤ) (ts ss ms : List ℕ) (k p : ℕ) → (feedOf s rows ts ss ms) .answer ≡ Refused k p t
+    → (t ≡ s) × ((feedOf s rows ts ss ms) .rows ≡ rows)
+unfolding feedOf
+refused-stays s t rows ts ss ms k p = go (inRange s)
+  where
+    go : (b : Bool) → (pick b (byScan s rows (scannedOf (s .past) (s .frames .begun) ts ss ms) (packets ts ss ms)) (refusedBy s rows 9 0)) .answer ≡ Refused k p t
+        → (t ≡ s) × ((pick b (byScan s rows (scannedOf (s .past) (s .frames .begun) ts ss ms) (packets ts ss ms)) (refusedBy s rows 9 0)) .rows ≡ rows)
+    go true e = refused-scan s t rows (scannedOf (s .past) (s .frames .begun) ts ss ms) k p (packets ts ss ms) e
+    go false e = (cc, refl)
+
+-- an acceptance comes from a state in range, packets that pass and the declared end state
+pub record From (s t : State) (l : List Packet) : Type 0 where
+  pub in-range : inRange s ≡ true
+  pub passes : Passes (s .past) l
+  pub state : t ≡ stateAfter (rulesOf (s .numbers)) s l
+
+accepted-room : (s t : State) (rows : List ℤ) (n : ℕ) (l : List Packet) → (roomFor s rows n l) .answer ≡ Accepted t → t ≡ stateAfter (rulesOf (s .numbers)) s l
+accepted-room s t rows n l = go (leb (n * 10) (length rows))
+  where
+    go : (b : Bool) → (pick b (acceptedAs s rows l) (refusedBy s rows 15 (s .past .packets))) .answer ≡ Accepted t → t ≡ stateAfter (rulesOf (s .numbers)) s l
+    go true e = cc
+    go false e = let z : _≡_ {A = ℕ} 0 1 = cc in absurd (omega arith)
+
+pub accepted-from : (s t : State) (rows : List ℤ) (l : List Packet) → (feedAll s rows l) .answer ≡ Accepted t → From s t l
+unfolding feedAll
+accepted-from s t rows l = go (inRange s) refl (scanOf (s .past) (s .frames .begun) 0 l) refl
+  where
+    go : (b : Bool) → inRange s ≡ b → (x : Scanned) → scanOf (s .past) (s .frames .begun) 0 l ≡ x → (pick b (byScan s rows x l) (refusedBy s rows 9 0)) .answer ≡ Accepted t → From s t l
+    go true e (Fine n) f g = record { in-range = e; passes = scan-runs l (rulesOf (s .numbers)) s 0 n f .0; state = accepted-room s t rows n l g }
+    go true e (Scan-Refused r) f g = let z : _≡_ {A = ℕ} 0 1 = cc in absurd (omega arith)
+    go false e x f g = let z : _≡_ {A = ℕ} 0 1 = cc in absurd (omega arith)
+
+pub nothing-fed : (s : State) (rows : List ℤ) → inRange s ≡ true → feedAll s rows [] ≡ record { answer = Accepted s; rows = rows }
+unfolding feedAll scanOf fold rowsAfter numbers laid
+nothing-fed s rows e = rw e (rw (le-leb 0 (length rows) (omega arith)))
+
+-- slices of one length are their packets
+pub feed-slices : (s : State) (rows : List ℤ) (ts ss ms : List ℕ) → OneLength ts ss ms → feedOf s rows ts ss ms ≡ feedAll s rows (packets ts ss ms)
+unfolding feedOf feedAll
+feed-slices s rows ts ss ms o = rw (lengths-same (s .past) (s .frames .begun) ts ss ms o)

@@ -35,7 +35,7 @@ or-false : (b : Bool) → b ≡ (b || false)
 or-false true = refl
 or-false false = refl
 
-begun-step : (rules : Rules) (s : State) (p : Packet) → (stepOf rules s p) .frames .begun ≡ (s .frames .begun || marked p)
+pub begun-step : (rules : Rules) (s : State) (p : Packet) → (stepOf rules s p) .frames .begun ≡ (s .frames .begun || marked p)
 unfolding stepOf arriveOf markOf F.arriveOf F.closeOf
 begun-step rules s p = go (marked p)
   where
@@ -43,7 +43,7 @@ begun-step rules s p = go (marked p)
     go true = or-true (s .frames .begun)
     go false = or-false (s .frames .begun)
 
-rows-count : (rules : Rules) (s : State) (p : Packet) → length (rowsOf rules s p) ≡ closes (s .frames .begun) p
+pub rows-count : (rules : Rules) (s : State) (p : Packet) → length (rowsOf rules s p) ≡ closes (s .frames .begun) p
 unfolding F.rowsOf
 rows-count rules s p = go _ (marked p) (s .frames .begun)
   where
