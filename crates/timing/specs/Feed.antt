@@ -20,7 +20,7 @@ use Rattle.timing.specs.declared.Rules.{Rules}
 use Rattle.timing.specs.declared.State.{State}
 use Rattle.timing.specs.declared.Fed.{Fed}
 use Rattle.timing.specs.declared.Fed.the-variants.{Accepted, Refused}
-use Rattle.timing.specs.Step.{rulesOf, stateAfter, rowsAfter, numbers}
+use Rattle.timing.specs.Step.{rulesOf, freshOf, stateAfter, rowsAfter, numbers}
 use Rattle.timing.specs.Range.{inRange, Sound}
 
 -- ---- what the parts ask and give
