@@ -4,4 +4,3 @@ pub mod Steps
 pub mod Accepted
 pub mod Facts
 pub mod Figures
-pub mod Cases

@@ -1,0 +1,131 @@
+-- "Both sides of each limit": the twelve cases of document 01 as one list under one claim, that what the definitions give is what the paper gives.
+-- Each case stands under its words. Numbers of any kind are written as integers, one list a side.
+use mathlib.Core.Path.{_≡_, refl}
+use mathlib.Core.List.{List, [], _∷_, _++_, map}
+use Prim.Native.Nat.{ℕ, _*_}
+use lib.IntN.{ℤ, pos, negℤ}
+use Rattle.laws.specs.Count.{count}
+use Rattle.laws.specs.Fold.{fold}
+use Rattle.grain.specs.Paper.{nearest, phase, firstPacketTime, encoded, latency}
+use Rattle.limits.specs.Fraction.{int}
+use Rattle.limits.specs.Paper.{frameLength, activeRatio, classOf, cMax, vrxFull, defaultTro, troGrains, troFits, firstNo, setUpRefusal}
+use Rattle.packet.specs.Paper.{Packet}
+use Rattle.packet.specs.Step.{refusalOf}
+use Rattle.bucket.specs.Paper.{networkNumber, networkFirst, networkLast}
+use Rattle.bucket.specs.Step as B
+use Rattle.frame.specs.Paper.{since, levelOf, bufferNumber, bufferFrame, bufferPlace}
+use Rattle.frame.specs.Step as F
+use Rattle.bigendian.specs.Number.{numberOf}
+use Rattle.record.specs.declared.Numbers.{Numbers}
+use Rattle.record.specs.Paper.{kindLength, formatRefusal, packetsBy, readingOf, File, file, refused, fileOf}
+use Rattle.timing.specs.declared.StreamNumbers.{StreamNumbers}
+use Rattle.timing.specs.declared.State.{State}
+use Rattle.timing.specs.Step.{rulesOf, freshOf, arriveOf, markOf, stepOf, stateAfter, rowsAfter, numbers}
+use Rattle.timing.specs.History.{frameHistory}
+
+pub record Case : Type 0 where
+  pub got : List ℤ
+  pub want : List ℤ
+
+infix 4 _gives_
+abbrev pub _gives_ : List ℤ → List ℤ → Case
+a gives b = record { got = a; want = b }
+
+-- one number
+abbrev one : ℕ → List ℤ
+one n = pos n ∷ []
+
+-- ---- what is measured of a stream
+
+abbrev packet : ℕ → ℕ → ℕ → Packet
+packet t stamp marker = record { time = t; stamp = stamp; marker = marker }
+
+-- rate 6 gapped narrow, height 1080, 1460, with n and TRO
+abbrev rate6 : ℕ → ℕ → StreamNumbers
+rate6 n tro = record { rate = 6; schedule = 0; class = 1; height = 1080; n = n; maxudp = 1460; tro = tro }
+
+-- the nine numbers of the C call: packets, frames, peak; network, first, last; buffer, frame, place
+abbrev nine : State → List ℤ
+nine s =
+    pos (s .past .packets) ∷ pos (s .frames .closed) ∷ pos (s .bucket .peak)
+    ∷ pos (networkNumber (s .bucket .network)) ∷ pos (networkFirst (s .bucket .network)) ∷ pos (networkLast (s .bucket .network))
+    ∷ pos (bufferNumber (s .frames .buffer)) ∷ pos (bufferFrame (s .frames .buffer)) ∷ pos (bufferPlace (s .frames .buffer)) ∷ []
+
+abbrev network : State → List ℤ
+network s = pos (networkNumber (s .bucket .network)) ∷ pos (networkFirst (s .bucket .network)) ∷ pos (networkLast (s .bucket .network)) ∷ []
+
+abbrev after : StreamNumbers → List Packet → State
+after x l = stateAfter (rulesOf x) (freshOf x) l
+
+abbrev rows : StreamNumbers → List Packet → List ℤ
+rows x l = numbers (rowsAfter (rulesOf x) (freshOf x) l)
+
+-- a frame whose first packet comes so many nanoseconds after T_CF, at 20 ms, and whose other three come at their reads
+abbrev late-by : ℕ → List Packet
+late-by t = packet 19000000 0 1 ∷ packet t 1800 0 ∷ packet 25500000 1800 0 ∷ packet 30300000 1800 0 ∷ packet 35100000 1800 1 ∷ []
+
+-- the level just after its first packet
+abbrev first-level : List Packet → List ℤ
+first-level l = levelOf (rulesOf (rate6 4 700) .plan) (frameHistory (rate6 4 700) l) 1 0 ∷ []
+
+-- a whole file: the rows and the nine numbers, or the refusal's number and offset
+abbrev streamOf : Numbers → StreamNumbers
+streamOf s = record { rate = s .rate; schedule = s .schedule; class = s .class; height = s .height; n = s .n; maxudp = s .maxudp; tro = s .tro }
+
+abbrev measured : File → List ℤ
+measured (file s l) = rows (streamOf s) l ++ nine (after (streamOf s) l)
+measured (refused number offset) = pos number ∷ pos offset ∷ []
+
+-- "parameters 6, 0, 1, height 1080, n 4, 1460, default TRO and five packets (nanoseconds, timestamp, marker): 19000000 0 1; 20700000 1800 0;
+-- 25500000 1800 0; 30300000 1800 0; 35100000 1800 1"
+abbrev the-file : List ℕ
+the-file =
+    1
+    ∷ 0 ∷ 16 ∷ 1 ∷ 6 ∷ 0 ∷ 1 ∷ 4 ∷ 56 ∷ 0 ∷ 0 ∷ 0 ∷ 4 ∷ 5 ∷ 180 ∷ 255 ∷ 255 ∷ 255 ∷ 255
+    ∷ 0 ∷ 14 ∷ 2 ∷ 0 ∷ 0 ∷ 0 ∷ 0 ∷ 1 ∷ 33 ∷ 234 ∷ 192 ∷ 0 ∷ 0 ∷ 0 ∷ 0 ∷ 1
+    ∷ 0 ∷ 14 ∷ 2 ∷ 0 ∷ 0 ∷ 0 ∷ 0 ∷ 1 ∷ 59 ∷ 219 ∷ 96 ∷ 0 ∷ 0 ∷ 7 ∷ 8 ∷ 0
+    ∷ 0 ∷ 14 ∷ 2 ∷ 0 ∷ 0 ∷ 0 ∷ 0 ∷ 1 ∷ 133 ∷ 25 ∷ 96 ∷ 0 ∷ 0 ∷ 7 ∷ 8 ∷ 0
+    ∷ 0 ∷ 14 ∷ 2 ∷ 0 ∷ 0 ∷ 0 ∷ 0 ∷ 1 ∷ 206 ∷ 87 ∷ 96 ∷ 0 ∷ 0 ∷ 7 ∷ 8 ∷ 0
+    ∷ 0 ∷ 14 ∷ 2 ∷ 0 ∷ 0 ∷ 0 ∷ 0 ∷ 2 ∷ 23 ∷ 149 ∷ 96 ∷ 0 ∷ 0 ∷ 7 ∷ 8 ∷ 1
+    ∷ []
+
+-- ---- the list
+
+unfoldable pub cases : List Case
+cases =
+    -- 1. "Rate 6: TRO 19,999 accepted, 20,000 refused."
+    (one (setUpRefusal 6 0 1 1080 4320 1460 19999) gives one 0)
+    ∷ (one (setUpRefusal 6 0 1 1080 4320 1460 20000) gives one 7)
+    -- 2. "Rate 7: 16,683 accepted, 16,684 refused."
+    ∷ (one (setUpRefusal 7 0 1 1080 4320 1460 16683) gives one 0)
+    ∷ (one (setUpRefusal 7 0 1 1080 4320 1460 16684) gives one 7)
+    -- 3. "Rate 6 narrow: n 4147 gives C_MAX 4, 4148 gives 5."
+    ∷ (one (cMax (classOf 1) 0 (frameLength 6) 4147) gives one 4)
+    ∷ (one (cMax (classOf 1) 0 (frameLength 6) 4148) gives one 5)
+    -- 4. "Rate 6 narrow, 1460: n 4859 gives VRX_FULL 8, 4860 gives 9."
+    ∷ (one (vrxFull (classOf 1) 1460 (frameLength 6) 4859) gives one 8)
+    ∷ (one (vrxFull (classOf 1) 1460 (frameLength 6) 4860) gives one 9)
+    -- 5. "Rate 6: t 10,000,000 gives FPT −270,000,000." 6. "t 9,999,999 gives 269,999,973."
+    ∷ ((firstPacketTime (27 * 10000000) (frameLength 6) ∷ []) gives (negℤ (pos 270000000) ∷ []))
+    ∷ ((firstPacketTime (27 * 9999999) (frameLength 6) ∷ []) gives (pos 269999973 ∷ []))
+    -- 7. "Rate 6, n 4, TRO 700: a first packet 700,000 ns after T_CF is in time, level 1."
+    ∷ (first-level (late-by 20700000) gives one 1)
+    -- 8. "At 700,001 it is late, level 0, and least −1 with the other three in time."
+    ∷ (first-level (late-by 20700001) gives one 0)
+    ∷ (rows (rate6 4 700) (late-by 20700001)
+    gives (pos 0 ∷ pos 0 ∷ pos 0 ∷ pos 18900027 ∷ pos 0 ∷ pos 18900027 ∷ negℤ (pos 27) ∷ pos 45900027 ∷ pos 1 ∷ negℤ (pos 1) ∷ []))
+    -- 9. "Five packets at one instant, C_MAX 4: burst 0 4."
+    ∷ (network (after (rate6 4 700) (packet 5 0 0 ∷ packet 5 0 0 ∷ packet 5 0 0 ∷ packet 5 0 0 ∷ packet 5 0 0 ∷ [])) gives (pos 1 ∷ pos 0 ∷ pos 4 ∷ []))
+    -- 10. "t 47,721,858,844,445 with timestamp 4,294,967,295: VL −1,288,490,188,499,985."
+    ∷ ((latency (27 * 47721858844445) 4294967295 ∷ []) gives (negℤ (pos 1288490188499985) ∷ []))
+    -- 11. "The file above.": its row, and packets 5, frames 1, peak 2, network pass, buffer pass
+    ∷ (measured (fileOf the-file)
+    gives (pos 0 ∷ pos 0 ∷ pos 0 ∷ pos 18900000 ∷ pos 0 ∷ pos 18900000 ∷ pos 1740000 ∷ pos 45900000 ∷ pos 1 ∷ pos 0
+    ∷ pos 5 ∷ pos 1 ∷ pos 2 ∷ pos 0 ∷ pos 0 ∷ pos 0 ∷ pos 1 ∷ pos 0 ∷ pos 0 ∷ []))
+    -- 12. "The empty file: 20.", at offset 0
+    ∷ (measured (fileOf []) gives (pos 20 ∷ pos 0 ∷ []))
+    ∷ []
+
+pub cases-hold : map (λ c. c .got) cases ≡ map (λ c. c .want) cases
+unfolding cases setUpRefusal firstNo troFits frameLength activeRatio classOf cMax vrxFull int troGrains defaultTro nearest phase encoded count fold rulesOf arriveOf markOf stepOf rowsAfter numbers B.stepOf F.openedOf F.countedOf F.kindOf F.wholeRow F.rowOf F.answerOf F.joined F.arriveOf F.closeOf F.rowsOf since readingOf packetsBy formatRefusal kindLength numberOf refusalOf
+cases-hold = refl

@@ -1,0 +1,14 @@
+pub mod Format
+pub mod Items
+pub mod Reading
+pub mod Walking
+pub mod Opening
+pub mod Stores
+pub mod Writing
+pub mod Fields
+pub mod WriteRead
+pub mod ReadWrite
+pub mod RoundTrip
+pub mod Window
+pub mod InPieces
+pub mod Waiting

@@ -1,0 +1,168 @@
+-- Writing what was read: each accepted record is the bytes of its own fields, and the rest follows. By how many bytes there are.
+use mathlib.Core.Path.{_≡_, refl, sym, ap, subst, _∙_}
+use mathlib.Core.Bool.{Bool, true, false, _||_}
+use mathlib.Core.List.{List, [], _∷_, _++_}
+use Prim.Native.Nat.{ℕ, zero, suc, _+_, _≤_, _<_}
+use native.Mathlib.Omega.{arith}
+use native.Mathlib.Decide.{ℕ-discrete}
+use lib.ListN.{length, take, drop, getD, length-drop}
+use lib.Seq.{drop-drop}
+use borrow.Author.Tests.{eqb-true}
+use Rattle.laws.specs.Choose.{pick-either}
+use Rattle.bigendian.specs.Number.{Bytes}
+use Rattle.packet.specs.declared.Past.{Past}
+use Rattle.packet.specs.declared.Scanned.the-variants as scan
+use Rattle.packet.specs.Paper.{Packet, marked, packets, OneLength}
+use Rattle.packet.specs.Step.{nothing, numberOf, nextOf, closes, scanOf}
+use Rattle.packet.proofs.Lent.{packets-length}
+use Rattle.packet.proofs.Turn.{scan-ends, scan-goes, lengths-same}
+use Rattle.record.specs.declared.Numbers.{Numbers}
+use Rattle.record.specs.declared.Written.{Written}
+use Rattle.record.specs.declared.Written.the-variants.{Done}
+use Rattle.record.specs.Write.{fileLength, Writes}
+use Rattle.record.specs.Paper.{versionFits, bodyLength, kindOf, kindLength, numbersAt, packetAt, formatRefusal, setUpOf, parametersRefusal, packetRefusal}
+use Rattle.record.specs.Paper.{Ending, done, stopped, Packets, packetsIn, Reading, readingOf, file, refused, File, endedFile, asFile, fileOf}
+use Rattle.record.specs.Layout.{parameterRecord, packetRecord, recordsOf, bytesIn}
+use Rattle.record.proofs.Writing.{length-file, written-done, writes-done}
+use Rattle.record.proofs.Format.{formed, kind-of-14}
+use Rattle.record.proofs.Reading.{neither, packet-here, parameters-here, packets-end, packets-stop, packets-go}
+use Rattle.record.proofs.Reading.{reading-20, reading-stop, reading-go}
+use Rattle.record.proofs.Fields.{bytes-drop, packet-again, parameters-again}
+
+stopped-done : (n o : ℕ) → stopped n o ≡ done → ⊥
+stopped-done n o e = let z : _≡_ {A = ℕ} 0 1 = cc in omega arith
+
+refused-file : (n o : ℕ) (s : Numbers) (ps : List Packet) → refused n o ≡ file s ps → ⊥
+refused-file n o s ps e = let z : _≡_ {A = ℕ} 0 1 = cc in omega arith
+
+empty : (l : List ℕ) → length l ≡ 0 → l ≡ []
+empty [] e = refl
+empty (b ∷ l) e = absurd (omega arith)
+
+-- packets that were all read are the bytes that they were read from
+pub packets-again : (k : ℕ) (past : Past) (at : ℕ) (l : List ℕ) → length l ≤ k → 1 < at → Bytes l
+    → packetsIn past at l .ending ≡ done → recordsOf (packetsIn past at l .accepted) ≡ l
+unfolding recordsOf
+packets-again zero past at l h o b e = rw (packets-end past at l (omega arith)) (sym (empty l (omega arith)))
+packets-again (suc k) past at l h o b e =
+    go (ℕ-discrete (length l) 0) (ℕ-discrete (packetRefusal past at l) 0)
+    (packets-again k (nextOf past (packetAt l .time)) (at + 16) (drop 16 l))
+  where
+    next : Packets
+    next = packetsIn (nextOf past (packetAt l .time)) (at + 16) (drop 16 l)
+
+    go : Dec (length l ≡ 0) → Dec (packetRefusal past at l ≡ 0)
+        → (length (drop 16 l) ≤ k → 1 < at + 16 → Bytes (drop 16 l) → next .ending ≡ done → recordsOf (next .accepted) ≡ drop 16 l)
+        → recordsOf (packetsIn past at l .accepted) ≡ l
+    go (yes z) d rest = rw (packets-end past at l z) (sym (empty l z))
+    go (no n) (no r) rest =
+        absurd (stopped-done _ _ (sym (ap (λ p. p .ending) (packets-stop past at l _ (omega arith) refl (omega arith))) ∙ e))
+    go (no n) (yes r) rest =
+        let here = packet-here at l (λ z. omega arith) (neither _ _ r .0) in
+        let goes = packets-go past at l o r in
+        let kind = kind-of-14 (kindOf l) (sym (formed at l (neither _ _ r .0) .length-fits) ∙ here .body-14) in
+        rw (goes, rest (rw length-drop (omega arith)) (omega arith) (bytes-drop 16 l b) (sym (ap (λ p. p .ending) goes) ∙ e))
+        (packet-again l b (here .sixteen) (here .body-14) kind)
+
+-- and the scan refuses none of them
+pub packets-scan : (k : ℕ) (past : Past) (begun : Bool) (closed at : ℕ) (l : List ℕ) → length l ≤ k → 1 < at
+    → packetsIn past at l .ending ≡ done → (n : ℕ) × (scanOf past begun closed (packetsIn past at l .accepted) ≡ scan.Fine n)
+packets-scan zero past begun closed at l h o e =
+    (closed, scan-ends past begun closed (ap (λ p. p .accepted) (packets-end past at l (omega arith))))
+packets-scan (suc k) past begun closed at l h o e =
+    go (ℕ-discrete (length l) 0) (ℕ-discrete (packetRefusal past at l) 0)
+    (packets-scan k (nextOf past p-time) (begun || marked (packetAt l)) (closed + closes begun (packetAt l)) (at + 16) (drop 16 l))
+  where
+    p-time : ℕ
+    p-time = packetAt l .time
+
+    next : Packets
+    next = packetsIn (nextOf past p-time) (at + 16) (drop 16 l)
+
+    go : Dec (length l ≡ 0) → Dec (packetRefusal past at l ≡ 0)
+        → (length (drop 16 l) ≤ k → 1 < at + 16 → next .ending ≡ done
+        → (n : ℕ) × (scanOf (nextOf past p-time) (begun || marked (packetAt l)) (closed + closes begun (packetAt l)) (next .accepted) ≡ scan.Fine n))
+        → (n : ℕ) × (scanOf past begun closed (packetsIn past at l .accepted) ≡ scan.Fine n)
+    go (yes z) d rest = (closed, scan-ends past begun closed (ap (λ p. p .accepted) (packets-end past at l z)))
+    go (no n) (no r) rest =
+        absurd (stopped-done _ _ (sym (ap (λ p. p .ending) (packets-stop past at l _ (omega arith) refl (omega arith))) ∙ e))
+    go (no n) (yes r) rest =
+        let goes = packets-go past at l o r in
+        let more = rest (rw length-drop (omega arith)) (omega arith) (sym (ap (λ p. p .ending) goes) ∙ e) in
+        (more .0, scan-goes past begun closed (ap (λ p. p .accepted) goes) (neither (formatRefusal at l) (numberOf past (packetAt l)) r .1) ∙ more .1)
+
+version-again : (s : List ℕ) → getD s 0 0 ≡ 1 → 1 ∷ drop 1 s ≡ s
+version-again [] e = absurd (omega arith)
+version-again (b ∷ s) e = rw e
+
+-- and so is a whole file
+module _ (s : List ℕ) (b : Bytes s) where
+  head-again : versionFits s ≡ true → parametersRefusal (drop 1 s) ≡ 0 → 1 ∷ (parameterRecord (numbersAt (drop 1 s)) ++ drop 19 s) ≡ s
+  head-again v e =
+      let l = drop 1 s in
+      let here = parameters-here l (neither _ _ e .0) in
+      let again = parameters-again l (bytes-drop 1 s b) (here .eighteen) (here .body-16) (here .kind-is-1) in
+      rw (← drop-drop 18 1 s, again) (version-again s (eqb-true (getD s 0 0) 1 v))
+
+  pub file-again : (numbers : Numbers) (ps : List Packet) → fileOf s ≡ file numbers ps → bytesIn numbers ps ≡ s
+  unfolding bytesIn
+  file-again numbers ps e = go (versionFits s) refl (ℕ-discrete (parametersRefusal (drop 1 s)) 0)
+    where
+      r : Packets
+      r = packetsIn nothing 19 (drop 19 s)
+
+      ends : (d : Ending) → r .ending ≡ d → endedFile (numbersAt (drop 1 s)) (r .accepted) d ≡ file numbers ps
+          → versionFits s ≡ true → parametersRefusal (drop 1 s) ≡ 0 → bytesIn numbers ps ≡ s
+      ends (stopped n o) q f v z = absurd (refused-file n o numbers ps f)
+      ends done q f v z =
+          let e-numbers : numbersAt (drop 1 s) ≡ numbers = cc in
+          let e-packets : r .accepted ≡ ps = cc in
+          rw (← e-numbers, ← e-packets, packets-again (length (drop 19 s)) nothing 19 (drop 19 s) (omega arith) (omega arith) (bytes-drop 19 s b) q)
+          (head-again v z)
+
+      go : (t : Bool) → versionFits s ≡ t → Dec (parametersRefusal (drop 1 s) ≡ 0) → bytesIn numbers ps ≡ s
+      go false v d = absurd (refused-file 20 0 numbers ps (sym (ap asFile (reading-20 s v)) ∙ e))
+      go true v (no n) =
+          absurd (refused-file _ 1 numbers ps (sym (ap asFile (reading-stop s _ v refl (omega arith))) ∙ e))
+      go true v (yes z) = ends (r .ending) refl (sym (ap asFile (reading-go s v z)) ∙ e) v z
+
+  -- its stream numbers and its packets are accepted
+  pub file-accepted : (numbers : Numbers) (ps : List Packet) → fileOf s ≡ file numbers ps
+      → (n : ℕ) × (setUpOf numbers ≡ 0) × (scanOf nothing false 0 ps ≡ scan.Fine n)
+  file-accepted numbers ps e = go (versionFits s) refl (ℕ-discrete (parametersRefusal (drop 1 s)) 0)
+    where
+      r : Packets
+      r = packetsIn nothing 19 (drop 19 s)
+
+      ends : (d : Ending) → r .ending ≡ d → endedFile (numbersAt (drop 1 s)) (r .accepted) d ≡ file numbers ps
+          → parametersRefusal (drop 1 s) ≡ 0 → (n : ℕ) × (setUpOf numbers ≡ 0) × (scanOf nothing false 0 ps ≡ scan.Fine n)
+      ends (stopped n o) q f z = absurd (refused-file n o numbers ps f)
+      ends done q f z =
+          let e-numbers : numbersAt (drop 1 s) ≡ numbers = cc in
+          let e-packets : r .accepted ≡ ps = cc in
+          let scans = packets-scan (length (drop 19 s)) nothing false 0 19 (drop 19 s) (omega arith) (omega arith) q in
+          let fine = neither (formatRefusal 1 (drop 1 s)) (setUpOf (numbersAt (drop 1 s))) z .1 in
+          (scans .0, sym (ap setUpOf e-numbers) ∙ fine, sym (ap (scanOf nothing false 0) e-packets) ∙ scans .1)
+
+      go : (t : Bool) → versionFits s ≡ t → Dec (parametersRefusal (drop 1 s) ≡ 0)
+          → (n : ℕ) × (setUpOf numbers ≡ 0) × (scanOf nothing false 0 ps ≡ scan.Fine n)
+      go false v d = absurd (refused-file 20 0 numbers ps (sym (ap asFile (reading-20 s v)) ∙ e))
+      go true v (no n) =
+          absurd (refused-file _ 1 numbers ps (sym (ap asFile (reading-stop s _ v refl (omega arith))) ∙ e))
+      go true v (yes z) = ends (r .ending) refl (sym (ap asFile (reading-go s v z)) ∙ e) z
+
+  -- the writer, given room for the file, writes it again
+  pub writer-again : (numbers : Numbers) (ts ss ms out after : List ℕ) (w : Written) → OneLength ts ss ms
+      → fileOf s ≡ file numbers (packets ts ss ms) → length s ≤ length out → Writes numbers ts ss ms out w after
+      → (w ≡ Done (length s)) × (take (length s) after ≡ s)
+  writer-again numbers ts ss ms out after w same e room h =
+      let ps = packets ts ss ms in
+      let again = file-again numbers ps e in
+      let fine = file-accepted numbers ps e in
+      let size : fileLength (length ts) ≡ length s =
+      sym (length-file numbers ps ∙ ap fileLength (packets-length ts ss ms same)) ∙ ap length again in
+      let scanned = lengths-same nothing false ts ss ms same ∙ fine .2 in
+      let done-so : w ≡ Done (length s) =
+      h .answered ∙ written-done numbers ts ss ms out (fine .1) scanned (omega arith) ∙ ap Done size in
+      let wrote = subst (λ v. Writes numbers ts ss ms out v after) done-so h in
+      (done-so, writes-done numbers ts ss ms out after (length s) wrote ∙ again)

@@ -1,0 +1,139 @@
+-- The packets of a file, one record at a time: none is left, or the first is accepted and the others follow, or it is refused.
+-- By the number of records still allowed, of which as many as there are bytes is always enough.
+use mathlib.Core.Path.{_≡_, refl, sym, ap, _∙_}
+use mathlib.Core.Bool.{Bool, true, false, not}
+use mathlib.Core.List.{List, [], _∷_}
+use Prim.Native.Nat.{ℕ, zero, suc, _+_, _-_, _≤_, _<_}
+use native.Mathlib.Omega.{arith}
+use native.Mathlib.Decide.{ℕ-discrete}
+use lib.Dec.{eqb}
+use lib.ListN.{length, drop, length-drop}
+use lib.Seq.{drop-drop}
+use borrow.Author.Tests.{eq-eqb, ne-eqb, eqb-true, eqb-false, not-true}
+use Rattle.laws.specs.Choose.{pick, pick-either, false-true}
+use Rattle.packet.specs.declared.Past.{Past}
+use Rattle.packet.specs.Step.{nothing, numberOf, nextOf}
+use Rattle.record.specs.Paper.{versionFits, bodyLength, kindOf, kindLength, inPlace, numbersAt, packetAt}
+use Rattle.record.specs.Paper.{formatRefusal, orElse, parametersRefusal, packetRefusal, unread, read, readingOf}
+use Rattle.record.specs.Paper.{done, stopped, Packets, none, more, packetsBy, packetsIn}
+use Rattle.record.proofs.Format.{Formed, formed, kind-1, kind-2}
+
+-- two numbers of which the first goes before: none where both are none, the first where it is one
+pub neither : (a b : ℕ) → orElse a b ≡ 0 → (a ≡ 0) × (b ≡ 0)
+neither a b = pick-either (λ n. n ≡ 0 → (a ≡ 0) × (b ≡ 0)) (eqb a 0) (λ e f. (eqb-true a 0 e, f)) (λ e f. absurd (eqb-false a 0 e f))
+
+pub second : (a b : ℕ) → a ≡ 0 → orElse a b ≡ b
+second a b e = rw (eq-eqb a 0 e)
+
+pub before : (a b : ℕ) → 0 < a → orElse a b ≡ a
+before a b h = rw (ne-eqb a 0 (λ e. omega arith))
+
+-- a record that the format accepts after the parameters is a packet's, of 16 bytes
+pub record PacketHere (l : List ℕ) : Type 0 where
+  pub body-14 : bodyLength l ≡ 14
+  pub kind-not-1 : kindOf l ≡ 1 → ⊥
+  pub sixteen : 16 ≤ length l
+
+place-after : (at kind : ℕ) → (at ≡ 1 → ⊥) → inPlace at kind ≡ true → kind ≡ 1 → ⊥
+place-after at kind n e k = false-true (sym (rw (ne-eqb at 1 n, eq-eqb kind 1 k)) ∙ e)
+
+pub packet-here : (at : ℕ) (l : List ℕ) → (at ≡ 1 → ⊥) → formatRefusal at l ≡ 0 → PacketHere l
+packet-here at l n e =
+    let f = formed at l e in
+    let k = place-after at (kindOf l) n (f .in-place) in
+    let b : bodyLength l ≡ 14 = f .length-fits ∙ kind-2 (kindOf l) (omega (arith, f .some-body, f .length-fits)) k in
+    record { body-14 = b; kind-not-1 = k; sixteen = omega (arith, f .all-there) }
+
+-- and the first record that the format accepts is the parameters', of 18 bytes
+place-first : (kind : ℕ) → inPlace 1 kind ≡ true → kind ≡ 1
+place-first kind e = eqb-true kind 1 e
+
+pub record ParametersHere (l : List ℕ) : Type 0 where
+  pub body-16 : bodyLength l ≡ 16
+  pub kind-is-1 : kindOf l ≡ 1
+  pub eighteen : 18 ≤ length l
+
+pub parameters-here : (l : List ℕ) → formatRefusal 1 l ≡ 0 → ParametersHere l
+parameters-here l e =
+    let f = formed 1 l e in
+    let k = place-first (kindOf l) (f .in-place) in
+    let b : bodyLength l ≡ 16 = f .length-fits ∙ kind-1 (kindOf l) k in
+    record { body-16 = b; kind-is-1 = k; eighteen = omega (arith, f .all-there) }
+
+module _ (past : Past) (at : ℕ) (l : List ℕ) where
+  by-end : (k : ℕ) → length l ≡ 0 → packetsBy k past at l ≡ none done
+  unfolding packetsBy
+  by-end zero e = refl
+  by-end (suc k) e = rw (eq-eqb (length l) 0 e)
+
+  by-stop : (k n : ℕ) → 0 < length l → packetRefusal past at l ≡ n → 0 < n → packetsBy (suc k) past at l ≡ none (stopped n at)
+  unfolding packetsBy
+  by-stop k n h e p = rw (ne-eqb (length l) 0 (λ z. omega arith), e, ne-eqb n 0 (λ z. omega arith))
+
+  by-go : (k : ℕ) → (at ≡ 1 → ⊥) → packetRefusal past at l ≡ 0
+      → packetsBy (suc k) past at l ≡ more (packetAt l) (packetsBy k (nextOf past (packetAt l .time)) (at + 16) (drop 16 l))
+  unfolding packetsBy
+  by-go k n e =
+      let h = packet-here at l n (neither _ _ e .0) in
+      rw (ne-eqb (length l) 0 (λ z. omega (arith, h .sixteen)), eq-eqb (packetRefusal past at l) 0 e, h .body-14)
+
+-- as many records as there are bytes are enough
+by-same : (j k : ℕ) (past : Past) (at : ℕ) (l : List ℕ) → 1 < at → length l ≤ j → length l ≤ k
+    → packetsBy j past at l ≡ packetsBy k past at l
+by-same zero k past at l h a b = by-end past at l 0 (omega arith) ∙ sym (by-end past at l k (omega arith))
+by-same (suc j) zero past at l h a b = by-end past at l (suc j) (omega arith) ∙ sym (by-end past at l 0 (omega arith))
+by-same (suc j) (suc k) past at l h a b =
+    go (ℕ-discrete (length l) 0) (ℕ-discrete (packetRefusal past at l) 0)
+    (by-same j k (nextOf past (packetAt l .time)) (at + 16) (drop 16 l) (omega arith))
+  where
+    go : Dec (length l ≡ 0) → Dec (packetRefusal past at l ≡ 0)
+        → (length (drop 16 l) ≤ j → length (drop 16 l) ≤ k
+        → packetsBy j (nextOf past (packetAt l .time)) (at + 16) (drop 16 l)
+        ≡ packetsBy k (nextOf past (packetAt l .time)) (at + 16) (drop 16 l))
+        → packetsBy (suc j) past at l ≡ packetsBy (suc k) past at l
+    go (yes e) d rest = by-end past at l (suc j) e ∙ sym (by-end past at l (suc k) e)
+    go (no n) (no r) rest =
+        by-stop past at l j _ (omega arith) refl (omega arith) ∙ sym (by-stop past at l k _ (omega arith) refl (omega arith))
+    go (no n) (yes e) rest =
+        let less : (i : ℕ) → length l ≤ suc i → length (drop 16 l) ≤ i = λ i m. rw length-drop (omega arith) in
+        by-go past at l j (λ z. omega arith) e
+        ∙ ap (more (packetAt l)) (rest (less j a) (less k b))
+        ∙ sym (by-go past at l k (λ z. omega arith) e)
+
+module _ (past : Past) (at : ℕ) (l : List ℕ) where
+  pub packets-end : length l ≡ 0 → packetsIn past at l ≡ none done
+  packets-end e = by-end past at l (length l) e
+
+  pub packets-stop : (n : ℕ) → 0 < length l → packetRefusal past at l ≡ n → 0 < n → packetsIn past at l ≡ none (stopped n at)
+  packets-stop n h e p =
+      let some : length l ≡ suc (length l - 1) = omega arith in
+      ap (λ k. packetsBy k past at l) some ∙ by-stop past at l (length l - 1) n h e p
+
+  pub packets-go : 1 < at → packetRefusal past at l ≡ 0
+      → packetsIn past at l ≡ more (packetAt l) (packetsIn (nextOf past (packetAt l .time)) (at + 16) (drop 16 l))
+  packets-go h e =
+      let here = packet-here at l (λ z. omega arith) (neither _ _ e .0) in
+      let some : length l ≡ suc (length l - 1) = omega (arith, here .sixteen) in
+      ap (λ k. packetsBy k past at l) some
+      ∙ by-go past at l (length l - 1) (λ z. omega arith) e
+      ∙ ap (more (packetAt l))
+      (by-same (length l - 1) (length (drop 16 l)) (nextOf past (packetAt l .time)) (at + 16) (drop 16 l) (omega arith)
+      (rw length-drop (omega (arith, here .sixteen))) (omega arith))
+
+-- the file from its first byte
+
+module _ (s : List ℕ) where
+  pub reading-20 : versionFits s ≡ false → readingOf s ≡ unread 20 0
+  unfolding readingOf
+  reading-20 v = rw v
+
+  pub reading-stop : (n : ℕ) → versionFits s ≡ true → parametersRefusal (drop 1 s) ≡ n → 0 < n → readingOf s ≡ unread n 1
+  unfolding readingOf
+  reading-stop n v e p = rw (v, e, ne-eqb n 0 (λ z. omega arith))
+
+  pub reading-go : versionFits s ≡ true → parametersRefusal (drop 1 s) ≡ 0
+      → readingOf s ≡ read (numbersAt (drop 1 s)) (packetsIn nothing 19 (drop 19 s))
+  unfolding readingOf
+  reading-go v e =
+      let here = parameters-here (drop 1 s) (neither _ _ e .0) in
+      rw (v, eq-eqb (parametersRefusal (drop 1 s)) 0 e, here .body-16, drop-drop 18 1 s)

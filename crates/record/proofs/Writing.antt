@@ -1,0 +1,164 @@
+-- The writer's answers, one law for each way out, and what it leaves in the lent bytes: the file, and beyond it what was there.
+use mathlib.Core.Path.{_≡_, refl, sym, ap, subst, _∙_}
+use mathlib.Core.Bool.{Bool, true, false}
+use mathlib.Core.List.{List, [], _∷_, _++_}
+use Prim.Native.Nat.{ℕ, suc, _+_, _*_, _≤_, _<_}
+use native.Mathlib.Omega.{arith}
+use native.Mathlib.Nat.{zero-add}
+use native.Mathlib.Decide.{decLe}
+use lib.ListN.{length, take, drop, getD, length-append}
+use lib.Seq.{sets, sets-eq, take-at}
+use lib.Dec.{leb, eqb}
+use borrow.Author.Tests.{eq-eqb, ne-eqb, le-leb, lt-leb, leb-true, eqb-true}
+use Rattle.laws.specs.Choose.{pick, pick-either}
+use Rattle.packet.specs.declared.Past.{Past}
+use Rattle.packet.specs.declared.Refusal.{Refusal}
+use Rattle.packet.specs.declared.Scanned.{Scanned}
+use Rattle.packet.specs.declared.Scanned.the-variants as scan
+use Rattle.packet.specs.Paper.{Packet, packets, OneLength, pastAt, at}
+use Rattle.packet.specs.Step.{nothing, scannedOf}
+use Rattle.packet.proofs.Refusals.{accepted}
+use Rattle.packet.proofs.Lent.{packets-length}
+use Rattle.packet.proofs.Turn.{scanned-fine}
+use Rattle.packet.proofs.Declared.{refusal-at, scan-declared, fine-everywhere}
+use Rattle.bigendian.proofs.Width.{length-bytes, sets-join}
+use Rattle.record.specs.declared.Numbers.{Numbers}
+use Rattle.record.specs.declared.Written.{Written}
+use Rattle.record.specs.declared.Written.the-variants.{Done, Refused}
+use Rattle.record.specs.Paper.{setUpOf}
+use Rattle.record.specs.Layout.{laid, packetRecord, headOf, recordsOf, bytesIn, PacketsHeld}
+use Rattle.record.specs.Write.{fileLength, scanning, writtenOf, leftBy, Writes, Fitting}
+use Rattle.record.proofs.Stores.{length-packet}
+
+pub length-head : (s : Numbers) → length (headOf s) ≡ 19
+unfolding laid
+length-head s = simp (length-append, length-bytes)
+
+pub length-records : (ps : List Packet) → length (recordsOf ps) ≡ 16 * length ps
+unfolding recordsOf
+length-records [] = refl
+length-records (p ∷ ps) =
+    rw (length-append (packetRecord p) (recordsOf ps), length-packet p, length-records ps) (omega arith)
+
+pub length-file : (s : Numbers) (ps : List Packet) → length (bytesIn s ps) ≡ fileLength (length ps)
+unfolding bytesIn
+length-file s ps = rw (length-append (headOf s) (recordsOf ps), length-head s, length-records ps)
+
+one-run : (s : Numbers) (ps : List Packet) (d : List ℕ) → sets (sets d 0 (headOf s)) 19 (recordsOf ps) ≡ sets d 0 (bytesIn s ps)
+unfolding bytesIn
+one-run s ps d = sym (sets-join (headOf s) (recordsOf ps) d 0 ∙ rw (length-head s))
+
+-- the head stored, and the records after it, are the file stored: it stands in front of what was there
+pub file-stored : (s : Numbers) (ps : List Packet) (d : List ℕ) → fileLength (length ps) ≤ length d
+    → sets (sets d 0 (headOf s)) 19 (recordsOf ps) ≡ bytesIn s ps ++ drop (fileLength (length ps)) d
+file-stored s ps d h =
+    one-run s ps d ∙ sets-eq (bytesIn s ps) d 0 (omega (arith, length-file s ps)) ∙ rw (zero-add (length (bytesIn s ps)), length-file s ps)
+
+-- the scan from the start
+pub scan-of : (ts ss ms : List ℕ) {past : Past} {a : Scanned} → past ≡ nothing → a ≡ scannedOf past false ts ss ms
+    → scannedOf nothing false ts ss ms ≡ a
+scan-of ts ss ms e f = sym (f ∙ ap (λ p. scannedOf p false ts ss ms) e)
+
+module _ (s : Numbers) (ts ss ms : List ℕ) (out : List ℕ) where
+  written-set-up : (n : ℕ) → setUpOf s ≡ n → 0 < n → Refused n 0 ≡ writtenOf s ts ss ms (length out)
+  unfolding writtenOf
+  written-set-up n e p = rw (e, ne-eqb n 0 (λ z. omega arith))
+
+  pub refuses-set-up : (n : ℕ) → setUpOf s ≡ n → 0 < n → Writes s ts ss ms out (Refused n 0) out
+  refuses-set-up n e p = record { answered = written-set-up n e p; left = refl }
+
+  module _ (fine : setUpOf s ≡ 0) where
+    scanned : {a : Scanned} → scannedOf nothing false ts ss ms ≡ a
+        → writtenOf s ts ss ms (length out) ≡ scanning a (fileLength (length ts)) (length out)
+    unfolding writtenOf
+    scanned e = rw (eq-eqb (setUpOf s) 0 fine, e)
+
+    pub refuses-scan : {r : Refusal} {w : Written} → scannedOf nothing false ts ss ms ≡ scan.Refused r → w ≡ Refused (r .number) (r .place)
+        → Writes s ts ss ms out w out
+    refuses-scan e f = record { answered = f ∙ sym (scanned e); left = rw f refl }
+
+    module _ {closed : ℕ} (e : scannedOf nothing false ts ss ms ≡ scan.Fine closed) where
+      pub refuses-24 : length out < fileLength (length ts) → Writes s ts ss ms out (Refused 24 0) out
+      refuses-24 h = record {
+        answered = sym (scanned e ∙ rw (lt-leb (fileLength (length ts)) (length out) h));
+        left = refl;
+      }
+
+      pub written-done : fileLength (length ts) ≤ length out → writtenOf s ts ss ms (length out) ≡ Done (fileLength (length ts))
+      written-done h = scanned e ∙ rw (le-leb (fileLength (length ts)) (length out) h)
+
+      pub same-slices : OneLength ts ss ms
+      same-slices = scanned-fine nothing false ts ss ms closed e .0
+
+      as-many : length (packets ts ss ms) ≡ length ts
+      as-many = packets-length ts ss ms same-slices
+
+      -- 14 leaves at most 1,000,000,000 packets
+      pub few-packets : length ts ≤ 1000000000
+      few-packets = go (decLe (length ts) 1000000000)
+        where
+          go : Dec (length ts ≤ 1000000000) → length ts ≤ 1000000000
+          go (yes h) = h
+          go (no n) =
+              let l = packets ts ss ms in
+              let all = sym (scan-declared l) ∙ scanned-fine nothing false ts ss ms closed e .1 in
+              let here = fine-everywhere l closed 1000000000 all (omega (arith, as-many)) in
+              absurd (omega (arith, accepted _ _ _ (refusal-at l 1000000000 ∙ here) .few))
+
+      pub writes-file : {after : List ℕ} → fileLength (length ts) ≤ length out
+          → after ≡ sets (sets out 0 (headOf s)) 19 (recordsOf (packets ts ss ms))
+          → Writes s ts ss ms out (Done (fileLength (length ts))) after
+      writes-file h f = record {
+        answered = sym (written-done h);
+        left = f ∙ rw as-many at (file-stored s (packets ts ss ms) out (rw as-many h));
+      }
+
+-- what an answer of done says
+
+done-refused : (n m o : ℕ) → Done n ≡ Refused m o → ⊥
+done-refused n m o e = let z : _≡_ {A = ℕ} 0 1 = cc in omega arith
+
+fitting-done : (needed room n : ℕ) → Done n ≡ pick (leb needed room) (Done needed) (Refused 24 0) → (needed ≤ room) × (n ≡ needed)
+fitting-done needed room n =
+    pick-either (λ w. Done n ≡ w → (needed ≤ room) × (n ≡ needed)) (leb needed room)
+    (λ t e. (leb-true needed room t, cc)) (λ t e. absurd (done-refused n 24 0 e))
+
+pub record WasWritten (s : Numbers) (ts ss ms out : List ℕ) (n : ℕ) : Type 0 where
+  pub set-up : setUpOf s ≡ 0
+  pub closed : ℕ
+  pub scan-fine : scannedOf nothing false ts ss ms ≡ scan.Fine closed
+  pub room : fileLength (length ts) ≤ length out
+  pub size : n ≡ fileLength (length ts)
+
+pub was-written : (s : Numbers) (ts ss ms out : List ℕ) (n : ℕ) → Done n ≡ writtenOf s ts ss ms (length out) → WasWritten s ts ss ms out n
+unfolding writtenOf
+was-written s ts ss ms out n =
+    pick-either (λ w. Done n ≡ w → WasWritten s ts ss ms out n) (eqb (setUpOf s) 0)
+    (λ t e. go (scannedOf nothing false ts ss ms) refl (eqb-true (setUpOf s) 0 t) e) (λ t e. absurd (done-refused n _ 0 e))
+  where
+    go : (a : Scanned) → scannedOf nothing false ts ss ms ≡ a → setUpOf s ≡ 0
+        → Done n ≡ scanning a (fileLength (length ts)) (length out) → WasWritten s ts ss ms out n
+    go (scan.Fine k) f u e =
+        let d = fitting-done (fileLength (length ts)) (length out) n e in
+        record { set-up = u; closed = k; scan-fine = f; room = d .0; size = d .1 }
+    go (scan.Refused r) f u e = absurd (done-refused n _ _ e)
+
+-- then the file stands in front
+pub writes-done : (s : Numbers) (ts ss ms out after : List ℕ) (n : ℕ) → Writes s ts ss ms out (Done n) after
+    → take n after ≡ bytesIn s (packets ts ss ms)
+writes-done s ts ss ms out after n w =
+    let was = was-written s ts ss ms out n (w .answered) in
+    let same = scanned-fine nothing false ts ss ms (was .closed) (was .scan-fine) .0 in
+    let file = bytesIn s (packets ts ss ms) in
+    let long : length file ≡ n =
+    length-file s (packets ts ss ms) ∙ ap fileLength (packets-length ts ss ms same) ∙ sym (was .size) in
+    ap (take n) (w .left) ∙ take-at file (drop n out) n long
+
+-- what lent slices hold, their packets hold
+pub packets-held : (ts ss ms : List ℕ) → ((i : ℕ) → getD ts i 0 < 18446744073709551616) → ((i : ℕ) → getD ss i 0 < 4294967296)
+    → PacketsHeld (packets ts ss ms)
+unfolding packets
+packets-held [] ss ms ht hs = tt
+packets-held (t ∷ ts) [] ms ht hs = tt
+packets-held (t ∷ ts) (s ∷ ss) [] ht hs = tt
+packets-held (t ∷ ts) (s ∷ ss) (m ∷ ms) ht hs = (ht 0, hs 0, packets-held ts ss ms (λ i. ht (suc i)) (λ i. hs (suc i)))

@@ -1,0 +1,101 @@
+-- The packets of a file. The invariant: what is left, read from where the cursor is into the tally so far, finishes as the whole does.
+-- Each turn is a law of one answer; a record takes 16 bytes, so the walk ends.
+use Prim.Native.Nat.{_-_, _≤_, _<_}
+use mathlib.Core.Path.{_≡_, refl, sym, ap, _∙_}
+use native.Mathlib.Omega.{arith}
+use lib.ListN.{length, drop}
+use borrow.Author.Needs.{needs}
+use Rattle.packet.specs.Step.{nothing}
+use Rattle.packet.proofs.Refusals.{accepted}
+use Rattle.record.specs.Paper.{packetsIn}
+use Rattle.record.specs.Walk.{fresh, finish}
+use Rattle.record.proofs.Walking.{stops, goes, refuses, next-at, next-within, tally-keeps}
+use Rattle.record.proofs.check_packets.Statement.{statement}
+use Rattle.record.proofs.check_packets.Tie as tie
+
+abbrev Inv-loop : tie.InvT-loop
+Inv-loop numbers s cursor₀ tally₀ cursor tally =
+    (finish numbers tally (packetsIn (tally .past) (cursor .at) (drop (cursor .at) s))
+    ≡ finish numbers fresh (packetsIn nothing (cursor₀ .at) (drop (cursor₀ .at) s)))
+    × (1 < cursor .at) × (tally .closed ≤ tally .past .packets)
+
+abbrev μ-loop : tie.MeasureT-loop
+μ-loop numbers s cursor₀ tally₀ cursor tally = length s - cursor .at
+
+none-requires : tie.Need-none-requires Inv-loop μ-loop
+none-requires c κs = search needs
+
+loop-holds : tie.Need-loop-holds Inv-loop μ-loop
+loop-holds c = (rw (c .none .ensures), search needs, rw (c .none .ensures) (omega arith))
+
+read-requires : tie.Need-read-requires Inv-loop μ-loop
+read-requires c κs = search needs
+
+enum-known-item : tie.Need-enum-known-item Inv-loop μ-loop
+enum-known-item c = search needs
+
+close-requires : tie.Need-close-requires Inv-loop μ-loop
+close-requires c κs = search needs
+
+returns : tie.Need-returns Inv-loop μ-loop
+returns c =
+    let after-read = c .before .before in
+    let at = after-read .before .loop in
+    c .close .ensures ∙ sym (stops _ _ _ _ _ (at .inv .1) (c .before .match .keys2) (sym (after-read .read .ensures))) ∙ at .inv .0
+
+refusal-requires : tie.Need-refusal-requires Inv-loop μ-loop
+refusal-requires c κs = search needs
+
+returns-2 : tie.Need-returns-2 Inv-loop μ-loop
+returns-2 c =
+    let after-item = c .before .before .before .before in
+    let after-read = after-item .before .before in
+    let at = after-read .before .loop in
+    let here = sym (after-read .read .ensures) ∙ after-item .item .given .1 in
+    sym (refuses _ (at .inv .1) (omega arith) here _ (at .tally) _ (sym (c .before .refusal .ensures)) (omega arith)) ∙ at .inv .0
+
+with-requires : tie.Need-with-requires Inv-loop μ-loop
+with-requires c κs =
+    let at = c .before .before .before .before .before .before .before .loop in
+    record { few = accepted _ _ _ (sym (c .before .refusal .ensures) ∙ c .if1 .left) .few; no-more = at .inv .2 }
+
+loop-less : tie.Need-loop-less Inv-loop μ-loop
+loop-less c =
+    let after-item = c .before .before .before .before .before in
+    let after-read = after-item .before .before in
+    let at = after-read .before .loop in
+    let start = after-read .before .before .before .before in
+    let here = sym (after-read .read .ensures) ∙ after-item .item .given .1 in
+    omega (arith, next-at _ (at .inv .1) (omega (arith, start .good)) here, next-within _ (at .inv .1) (omega (arith, start .good)) here)
+
+loop-again : tie.Need-loop-again Inv-loop μ-loop
+loop-again c =
+    let not-refused = c .before in
+    let after-item = not-refused .before .before .before .before in
+    let after-read = after-item .before .before in
+    let at = after-read .before .loop in
+    let start = after-read .before .before .before .before in
+    let here = sym (after-read .read .ensures) ∙ after-item .item .given .1 in
+    let fine = sym (not-refused .before .refusal .ensures) ∙ not-refused .if1 .left in (
+      rw (c .with .ensures) (sym (goes _ (at .inv .1) (omega (arith, start .good)) here _ (at .tally) fine) ∙ at .inv .0),
+      omega (arith, next-at _ (at .inv .1) (omega (arith, start .good)) here),
+      rw (c .with .ensures) (tally-keeps (at .tally) _ _ (at .inv .2)),
+    )
+
+pub check-packets-spec : {M : Type 1} → statement M
+check-packets-spec =
+    tie.close
+    (tie.spec
+    Inv-loop
+    μ-loop
+    none-requires
+    loop-holds
+    read-requires
+    enum-known-item
+    close-requires
+    returns
+    refusal-requires
+    returns-2
+    with-requires
+    loop-less
+    loop-again)

@@ -1,0 +1,78 @@
+-- The layout of the record file: a record is fields of so many bytes each, one after the other, and a file is its records.
+use mathlib.Core.List.{List, [], _∷_, _++_}
+use Prim.Native.Nat.{ℕ, _+_, _^_, _<_}
+use lib.ListN.{take, drop}
+use Rattle.bigendian.specs.Number.{numberOf, bytesOf}
+use Rattle.packet.specs.Paper.{Packet}
+use Rattle.record.specs.declared.Numbers.{Numbers}
+
+-- the bytes of some fields, by their widths
+unfoldable pub laid : List ℕ → List ℕ → List ℕ
+laid [] vs = []
+laid (w ∷ ws) [] = []
+laid (w ∷ ws) (v ∷ vs) = bytesOf w v ++ laid ws vs
+
+-- the fields at the front of some bytes
+unfoldable pub fields : List ℕ → List ℕ → List ℕ
+fields [] l = []
+fields (w ∷ ws) l = numberOf (take w l) ∷ fields ws (drop w l)
+
+abbrev pub total : List ℕ → ℕ
+total [] = 0
+total (w ∷ ws) = w + total ws
+
+-- each field fits its width
+abbrev pub Fit : List ℕ → List ℕ → Type 0
+Fit [] [] = Unit
+Fit [] (v ∷ vs) = ⊥
+Fit (w ∷ ws) [] = ⊥
+Fit (w ∷ ws) (v ∷ vs) = (v < 256 ^ w) × Fit ws vs
+
+-- "length (two bytes, big-endian, of the body), body. Kind 1, 16 bytes: kind, rate, schedule, class, height (2), n (4), MAXUDP (2), TRO (4"
+abbrev pub parameterWidths : List ℕ
+parameterWidths = 2 ∷ 1 ∷ 1 ∷ 1 ∷ 1 ∷ 2 ∷ 4 ∷ 2 ∷ 4 ∷ []
+
+abbrev pub parameterFields : Numbers → List ℕ
+parameterFields s = 16 ∷ 1 ∷ s .rate ∷ s .schedule ∷ s .class ∷ s .height ∷ s .n ∷ s .maxudp ∷ s .tro ∷ []
+
+-- "Kind 2, 14 bytes: kind, arrival (8), timestamp (4), marker."
+abbrev pub packetWidths : List ℕ
+packetWidths = 2 ∷ 1 ∷ 8 ∷ 4 ∷ 1 ∷ []
+
+abbrev pub packetFields : Packet → List ℕ
+packetFields p = 14 ∷ 2 ∷ p .time ∷ p .stamp ∷ p .marker ∷ []
+
+abbrev pub packetWith : ℕ → ℕ → ℕ → Packet
+packetWith t stamp marker = record { time = t; stamp = stamp; marker = marker }
+
+abbrev pub parameterRecord : Numbers → List ℕ
+parameterRecord s = laid parameterWidths (parameterFields s)
+
+abbrev pub packetRecord : Packet → List ℕ
+packetRecord p = laid packetWidths (packetFields p)
+
+-- the packets' records, and the whole file: "Version byte 1, then records"
+unfoldable pub recordsOf : List Packet → List ℕ
+recordsOf [] = []
+recordsOf (p ∷ ps) = packetRecord p ++ recordsOf ps
+
+abbrev pub headOf : Numbers → List ℕ
+headOf s = 1 ∷ parameterRecord s
+
+unfoldable pub bytesIn : Numbers → List Packet → List ℕ
+bytesIn s ps = headOf s ++ recordsOf ps
+
+-- what a u8, a u16, a u32 and a u64 always hold
+pub record NumbersHeld (s : Numbers) : Type 0 where
+  pub rate : s .rate < 256
+  pub schedule : s .schedule < 256
+  pub class : s .class < 256
+  pub height : s .height < 65536
+  pub n : s .n < 4294967296
+  pub maxudp : s .maxudp < 65536
+  pub tro : s .tro < 4294967296
+
+-- and what packets of lent slices hold; no refusal but 11 bounds a marker, which then is 0 or 1
+abbrev pub PacketsHeld : List Packet → Type 0
+PacketsHeld [] = Unit
+PacketsHeld (p ∷ ps) = (p .time < 18446744073709551616) × (p .stamp < 4294967296) × PacketsHeld ps

@@ -1,0 +1,143 @@
+-- The record file: the sentences of document 01, each above what renders it. A list of bytes is read from its front:
+-- `l` is the rest of a file from one record's length on, and `at` that record's offset.
+use mathlib.Core.Bool.{Bool, true, false, not, _&&_}
+use mathlib.Core.List.{List, [], _∷_}
+use Prim.Native.Nat.{ℕ, zero, suc, _+_}
+use lib.Dec.{ltb, leb, eqb}
+use lib.ListN.{length, drop, getD}
+use Rattle.laws.specs.Choose.{pick}
+use Rattle.laws.specs.Count.{count}
+use Rattle.limits.specs.Paper.{setUpRefusal}
+use Rattle.packet.specs.declared.Past.{Past}
+use Rattle.packet.specs.Paper.{Packet, closesAt}
+use Rattle.packet.specs.Step.{nothing, numberOf, nextOf}
+use Rattle.bigendian.specs.Number.{numberAt}
+use Rattle.record.specs.declared.Numbers.{Numbers}
+
+-- "Version byte 1": the empty file has no byte 1 either
+abbrev pub versionFits : List ℕ → Bool
+versionFits s = eqb (getD s 0 0) 1
+
+-- "then records: length (two bytes, big-endian, of the body), body."
+abbrev pub bodyLength : List ℕ → ℕ
+bodyLength l = numberAt 2 l 0
+
+abbrev pub kindOf : List ℕ → ℕ
+kindOf l = getD l 2 0
+
+-- "Kind 1, 16 bytes: kind, rate, schedule, class, height (2), n (4), MAXUDP (2), TRO (4; all ones is default)."
+-- "Records keep class 0 and a default TRO as written."
+abbrev pub numbersAt : List ℕ → Numbers
+numbersAt l = record {
+  rate = getD l 3 0;
+  schedule = getD l 4 0;
+  class = getD l 5 0;
+  height = numberAt 2 l 6;
+  n = numberAt 4 l 8;
+  maxudp = numberAt 2 l 12;
+  tro = numberAt 4 l 14;
+}
+
+-- "Kind 2, 14 bytes: kind, arrival (8), timestamp (4), marker."
+abbrev pub packetAt : List ℕ → Packet
+packetAt l = record { time = numberAt 8 l 3; stamp = numberAt 4 l 11; marker = getD l 15 0 }
+
+-- the length of each kind's body, by its number; 0 for an unknown kind
+unfoldable pub kindLength : ℕ → ℕ
+kindLength kind = getD (0 ∷ 16 ∷ 14 ∷ []) kind 0
+
+-- "A lone version byte is 23 at offset 1."
+abbrev pub lone : ℕ → List ℕ → Bool
+lone at l = eqb at 1 && eqb (length l) 0
+
+-- what 23 is not: "no parameters first, or parameters again"
+abbrev pub inPlace : ℕ → ℕ → Bool
+inPlace at kind = pick (eqb at 1) (eqb kind 1) (not (eqb kind 1))
+
+-- "21 record cut short, or its length 0; 22 unknown kind, or wrong length for its kind; 23 no parameters first, or parameters again":
+-- "at one record 21, 22, 23 come in that order"; 0 where none is given
+unfoldable pub formatRefusal : ℕ → List ℕ → ℕ
+formatRefusal at l =
+    pick (lone at l) 23
+    (pick (ltb (length l) 2) 21
+    (pick (eqb (bodyLength l) 0) 21
+    (pick (ltb (length l) (2 + bodyLength l)) 21
+    (pick (eqb (bodyLength l) (kindLength (kindOf l)))
+    (pick (inPlace at (kindOf l)) 0 23)
+    22))))
+
+-- "before set-up and packet refusals": the second number only where the first is 0
+abbrev pub orElse : ℕ → ℕ → ℕ
+orElse a b = pick (eqb a 0) b a
+
+-- the refusals of set-up, of these numbers
+abbrev pub setUpOf : Numbers → ℕ
+setUpOf s = setUpRefusal (s .rate) (s .schedule) (s .class) (s .height) (s .n) (s .maxudp) (s .tro)
+
+abbrev pub parametersRefusal : List ℕ → ℕ
+parametersRefusal l = orElse (formatRefusal 1 l) (setUpOf (numbersAt l))
+
+abbrev pub packetRefusal : Past → ℕ → List ℕ → ℕ
+packetRefusal past at l = orElse (formatRefusal at l) (numberOf past (packetAt l))
+
+-- "Reading stops at the first record that is refused and gives its offset"
+
+-- all was read, or a record was refused: the number and its offset
+pub data Ending : Type 0 where
+  done : Ending
+  stopped : ℕ → ℕ → Ending
+
+-- the packets accepted up to there
+pub record Packets : Type 0 where
+  pub accepted : List Packet
+  pub ending : Ending
+
+abbrev pub none : Ending → Packets
+none e = record { accepted = []; ending = e }
+
+abbrev pub more : Packet → Packets → Packets
+more p r = record { accepted = p ∷ r .accepted; ending = r .ending }
+
+-- by at most so many records: each takes bytes, so that there are no more records than bytes
+unfoldable pub packetsBy : ℕ → Past → ℕ → List ℕ → Packets
+packetsBy zero past at l = none done
+packetsBy (suc k) past at l =
+    pick (eqb (length l) 0) (none done)
+    (pick (eqb (packetRefusal past at l) 0)
+    (more (packetAt l) (packetsBy k (nextOf past (packetAt l .time)) (at + (2 + bodyLength l)) (drop (2 + bodyLength l) l)))
+    (none (stopped (packetRefusal past at l) at)))
+
+abbrev pub packetsIn : Past → ℕ → List ℕ → Packets
+packetsIn past at l = packetsBy (length l) past at l
+
+-- what the bytes of a file read as: no stream numbers, with the number and offset of the refusal; or the stream numbers,
+-- and the packets up to the first refusal or the end
+pub data Reading : Type 0 where
+  unread : ℕ → ℕ → Reading
+  read : Numbers → Packets → Reading
+
+abbrev pub parametersIn : List ℕ → Reading
+parametersIn l =
+    pick (eqb (parametersRefusal l) 0)
+    (read (numbersAt l) (packetsIn nothing (1 + (2 + bodyLength l)) (drop (2 + bodyLength l) l)))
+    (unread (parametersRefusal l) 1)
+
+-- "20 file empty, or version byte not 1": "its offset (0 for 20)"
+unfoldable pub readingOf : List ℕ → Reading
+readingOf s = pick (versionFits s) (parametersIn (drop 1 s)) (unread 20 0)
+
+-- a file as a whole: the stream numbers and the packets, or the number and the offset
+pub data File : Type 0 where
+  file : Numbers → List Packet → File
+  refused : ℕ → ℕ → File
+
+abbrev pub endedFile : Numbers → List Packet → Ending → File
+endedFile numbers ps done = file numbers ps
+endedFile numbers ps (stopped number offset) = refused number offset
+
+abbrev pub asFile : Reading → File
+asFile (unread number offset) = refused number offset
+asFile (read numbers r) = endedFile numbers (r .accepted) (r .ending)
+
+abbrev pub fileOf : List ℕ → File
+fileOf s = asFile (readingOf s)

@@ -1,0 +1,73 @@
+-- A whole file gone through record by record, with what is counted on the way; and the answer to it, from what the file reads as.
+use mathlib.Core.Bool.{Bool, true, false, _||_, _&&_}
+use mathlib.Core.List.{List, [], _∷_}
+use Prim.Native.Nat.{ℕ, _+_, _≤_, _<_}
+use lib.Dec.{eqb}
+use lib.ListN.{length}
+use Rattle.laws.specs.Choose.{pick}
+use Rattle.laws.specs.Count.{count}
+use Rattle.laws.specs.Fold.{fold}
+use Rattle.packet.specs.Paper.{Packet, closesAt}
+use Rattle.packet.specs.Step.{nothing, nextOf}
+use Rattle.record.specs.declared.Numbers.{Numbers}
+use Rattle.record.specs.declared.Tally.{Tally}
+use Rattle.record.specs.declared.Read.{Read}
+use Rattle.record.specs.declared.Read.the-variants as item
+use Rattle.record.specs.declared.Checked.{Checked}
+use Rattle.record.specs.declared.Checked.the-variants.{Fine, Refused}
+use Rattle.record.specs.Paper.{Ending, done, stopped, Packets, File, file, refused, fileOf}
+
+-- a file is fine with its stream numbers, how many packets it has, and how many frames they close
+abbrev pub asChecked : File → Checked
+asChecked (file numbers ps) = Fine numbers (length ps) (count (closesAt ps) (length ps))
+asChecked (refused number offset) = Refused number offset
+
+unfoldable pub checkedOf : List ℕ → Checked
+checkedOf s = asChecked (fileOf s)
+
+-- before the first packet, and after one more
+abbrev pub fresh : Tally
+fresh = record { past = nothing; begun = false; closed = 0 }
+
+unfoldable pub tallied : Tally → ℕ → ℕ → Tally
+tallied y t marker = record {
+  past = nextOf (y .past) t;
+  begun = y .begun || eqb marker 1;
+  closed = y .closed + pick (y .begun && eqb marker 1) 1 0;
+}
+
+abbrev pub tallyOf : Tally → List Packet → Tally
+tallyOf = fold (λ y p. tallied y (p .time) (p .marker))
+
+-- another packet may be counted: no more frames closed than packets came
+pub record Countable (y : Tally) : Type 0 where
+  pub few : y .past .packets < 1000000000
+  pub no-more : y .closed ≤ y .past .packets
+
+abbrev pub fineWith : Numbers → Tally → Checked
+fineWith numbers y = Fine numbers (y .past .packets) (y .closed)
+
+-- the packets read from here on, and how that ended
+abbrev pub finishBy : Numbers → Tally → List Packet → Ending → Checked
+finishBy numbers y ps done = fineWith numbers (tallyOf y ps)
+finishBy numbers y ps (stopped number offset) = Refused number offset
+
+abbrev pub finish : Numbers → Tally → Packets → Checked
+finish numbers y r = finishBy numbers y (r .accepted) (r .ending)
+
+-- an item at which reading stops
+unfoldable pub closing : Read → Numbers → Tally → Checked
+closing (item.Version c) numbers y = fineWith numbers y
+closing (item.Parameters s c) numbers y = fineWith numbers y
+closing (item.Packet t stamp marker c) numbers y = fineWith numbers y
+closing item.End numbers y = fineWith numbers y
+closing item.More numbers y = fineWith numbers y
+closing (item.Refused number offset) numbers y = Refused number offset
+
+unfoldable pub refusedBy : Read → Checked
+refusedBy (item.Version c) = Refused 0 0
+refusedBy (item.Parameters s c) = Refused 0 0
+refusedBy (item.Packet t stamp marker c) = Refused 0 0
+refusedBy item.End = Refused 0 0
+refusedBy item.More = Refused 0 0
+refusedBy (item.Refused number offset) = Refused number offset

@@ -1,0 +1,52 @@
+-- What the writer answers, and what it leaves in the lent bytes.
+use mathlib.Core.Path.{_≡_}
+use mathlib.Core.Bool.{Bool, false}
+use mathlib.Core.List.{List, _++_}
+use Prim.Native.Nat.{ℕ, _+_, _*_, _≤_}
+use lib.Dec.{leb, eqb}
+use lib.ListN.{length, drop}
+use Rattle.laws.specs.Choose.{pick}
+use Rattle.packet.specs.declared.Scanned.{Scanned}
+use Rattle.packet.specs.declared.Scanned.the-variants as scan
+use Rattle.packet.specs.Paper.{packets, OneLength}
+use Rattle.packet.specs.Step.{nothing, scannedOf}
+use Rattle.record.specs.declared.Numbers.{Numbers}
+use Rattle.record.specs.declared.Written.{Written}
+use Rattle.record.specs.declared.Written.the-variants.{Done, Refused}
+use Rattle.record.specs.Paper.{setUpOf}
+use Rattle.record.specs.Layout.{bytesIn}
+
+-- the bytes of a file of so many packets: the version, 18 for the parameters, 16 for a packet
+abbrev pub fileLength : ℕ → ℕ
+fileLength packets = 19 + 16 * packets
+
+-- "24 the writer's lent bytes are fewer than the file needs", with place 0
+abbrev pub fitting : ℕ → ℕ → Written
+fitting needed room = pick (leb needed room) (Done needed) (Refused 24 0)
+
+-- 10 to 14, "the packet's place in the history (0 for 1 to 10 and 24)"
+abbrev pub scanning : Scanned → ℕ → ℕ → Written
+scanning (scan.Fine closed) needed room = fitting needed room
+scanning (scan.Refused r) needed room = Refused (r .number) (r .place)
+
+-- "The writer refuses by 1 to 7, 10 to 14, then 24"
+unfoldable pub writtenOf : Numbers → List ℕ → List ℕ → List ℕ → ℕ → Written
+writtenOf s ts ss ms room =
+    pick (eqb (setUpOf s) 0)
+    (scanning (scannedOf nothing false ts ss ms) (fileLength (length ts)) room)
+    (Refused (setUpOf s) 0)
+
+-- ".. and then writes nothing"; else the file stands in front, and the bytes beyond stay
+abbrev pub leftBy : Written → List ℕ → List ℕ → List ℕ
+leftBy (Done needed) file out = file ++ drop needed out
+leftBy (Refused number place) file out = out
+
+-- the answer, and the lent bytes after it
+pub record Writes (s : Numbers) (ts ss ms out : List ℕ) (r : Written) (after : List ℕ) : Type 0 where
+  pub answered : r ≡ writtenOf s ts ss ms (length out)
+  pub left : after ≡ leftBy r (bytesIn s (packets ts ss ms)) out
+
+-- three slices of one length whose file fits
+pub record Fitting (ts ss ms out : List ℕ) : Type 0 where
+  pub same : OneLength ts ss ms
+  pub room : fileLength (length ts) ≤ length out

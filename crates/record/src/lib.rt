@@ -1,0 +1,507 @@
+// The record file: a cursor that reads one record after the other, of a whole file or of pieces as they come, the check of a
+// whole file, and the writer. It knows the file's layout, and asks `limits` and `packet` what they refuse.
+// It must never know what is measured: no bucket, no frame, no verdict. No body is read before its length is checked.
+use bigendian::read16;
+use bigendian::read32;
+use bigendian::read64;
+use bigendian::write16;
+use bigendian::write32;
+use bigendian::write64;
+use packet::Past;
+use packet::Scanned;
+ghost use mathlib.Core.Path.{_≡_};
+ghost use Prim.Native.Nat.{_<_};
+ghost use lib.ListN.{drop};
+ghost use lib.Seq.{sets};
+ghost use Rattle.bigendian.specs.Number.{Room};
+ghost use Rattle.packet.specs.Paper.{packets};
+ghost use Rattle.packet.specs.Step.{nothing};
+ghost use Rattle.record.specs.Paper.{numbersAt, kindLength, setUpOf, packetsIn};
+ghost use Rattle.record.specs.Step.{itemOf, pieceOf, scrapOf, Whole, packetOf};
+ghost use Rattle.record.specs.Layout.{packetWith, packetRecord, headOf, recordsOf};
+ghost use Rattle.record.specs.Write.{scanning, Writes, Fitting};
+ghost use Rattle.record.specs.Walk.{Countable, fresh, tallied, closing, refusedBy, finish, checkedOf};
+
+// The stream numbers, kept as written: class 0 and a TRO of all ones stay what they are.
+pub struct Numbers {
+    pub rate: u8,
+    pub schedule: u8,
+    pub class: u8,
+    pub height: u16,
+    pub n: u32,
+    pub maxudp: u16,
+    pub tro: u32,
+}
+
+// Where the reader stands: at 0 the version byte is next, at 1 the parameters, further on a packet or the end.
+pub struct Cursor {
+    pub at: u64,
+}
+
+// What stands at a cursor. More is answered of a piece alone: it ends before the answer is known.
+pub enum Read {
+    Version {
+        next: Cursor,
+    },
+    Parameters {
+        numbers: Numbers,
+        next: Cursor,
+    },
+    Packet {
+        t: u64,
+        stamp: u32,
+        marker: u8,
+        next: Cursor,
+    },
+    End,
+    More,
+    Refused {
+        number: u8,
+        offset: u64,
+    },
+}
+
+// A whole file: fine, with the numbers of packets and of frames that close; or the number and offset of its first refusal.
+pub enum Checked {
+    Fine {
+        numbers: Numbers,
+        packets: u64,
+        closed: u64,
+    },
+    Refused {
+        number: u8,
+        offset: u64,
+    },
+}
+
+// The bytes that were written, or the paper's number and the refused packet's place; place 0 for 1 to 10 and 24.
+pub enum Written {
+    Done { bytes: usize },
+    Refused { number: u8, place: u64 },
+}
+
+// The packets so far: what came before the next, whether a marker did, and how many frames closed.
+struct Tally {
+    past: Past,
+    begun: bool,
+    closed: u64,
+}
+
+const PARAMETERS: u8 = 1;
+
+const PACKET: u8 = 2;
+
+// The one place that tells what lengths the kinds have; 0, which no record has, for an unknown kind.
+fn kind_length(kind: u8) -> u16
+    ensures { λ r. ⌜ r ≡ kindLength kind ⌝ }
+{
+    match kind {
+        1 => 16,
+        2 => 14,
+        _ => 0,
+    }
+}
+
+//  0        2      3      4          5       6        8     12       14    18
+//  | length | kind | rate | schedule | class | height | n   | MAXUDP | TRO |
+//  | 0   16 | 1    |      |          |       |        |     |        |     |
+fn parameters_of(s: &[u8]) -> Numbers
+    requires { ⌜ Room 18 (now s) 0 ⌝ }
+    ensures { λ r. ⌜ r ≡ numbersAt (now (s .entry)) ⌝ }
+{
+    Numbers {
+        rate: s[3],
+        schedule: s[4],
+        class: s[5],
+        height: read16(s, 6),
+        n: read32(s, 8),
+        maxudp: read16(s, 12),
+        tro: read32(s, 14),
+    }
+}
+
+//  0        2      3         11          15       16
+//  | length | kind | arrival | timestamp | marker |
+//  | 0   14 | 2    |         |           |        |
+fn packet_of(s: &[u8], next: Cursor) -> Read
+    requires { ⌜ Room 16 (now s) 0 ⌝ }
+    ensures { λ r. ⌜ r ≡ packetOf (now (s .entry)) next ⌝ }
+{
+    Read::Packet {
+        t: read64(s, 3),
+        stamp: read32(s, 11),
+        marker: s[15],
+        next: next,
+    }
+}
+
+// At offset 0.
+fn version(window: &[u8], last: bool) -> Read
+    ensures { λ r. ⌜ r ≡ pieceOf 0 (now (window .entry)) last ⌝ }
+{
+    if window.len() == 0 {
+        if last {
+            return Read::Refused {
+                number: 20,
+                offset: 0,
+            };
+        }
+        return Read::More;
+    }
+    if window[0] != 1 {
+        return Read::Refused {
+            number: 20,
+            offset: 0,
+        };
+    }
+    Read::Version {
+        next: Cursor { at: 1 },
+    }
+}
+
+impl Cursor {
+    // At the start of a file.
+    pub fn start() -> Cursor
+        ensures { λ r. ⌜ r .at ≡ 0 ⌝ }
+    {
+        Cursor { at: 0 }
+    }
+
+    // What stands at the cursor in the whole file `s`.
+    pub fn read(self, s: &[u8]) -> Read
+        ensures { λ r. ⌜ r ≡ itemOf (self .at) (drop (self .at) (now (s .entry))) ⌝ }
+    {
+        let at = self.at as usize;
+        if s.len() < at {
+            return self.read_piece(&s[s.len()..], true);
+        }
+        self.read_piece(&s[at..], true)
+    }
+
+    // What stands at the cursor, of which `window` shows the bytes from there on; `last`: no more will come.
+    pub fn read_piece(self, window: &[u8], last: bool) -> Read
+        ensures { λ r. ⌜ r ≡ pieceOf (self .at) (now (window .entry)) last ⌝ }
+    {
+        let at = self.at;
+        if at == 0 {
+            return version(window, last);
+        }
+        if window.len() < 2 {
+            return self.scrap(window.len(), last);
+        }
+        let body = read16(window, 0);
+        if body == 0 {
+            return Read::Refused {
+                number: 21,
+                offset: at,
+            };
+        }
+        if window.len() - 2 < body as usize {
+            if last {
+                return Read::Refused {
+                    number: 21,
+                    offset: at,
+                };
+            }
+            return Read::More;
+        }
+        self.whole_record(body, window)
+    }
+
+    // Too few bytes for a length.
+    fn scrap(self, size: usize, last: bool) -> Read
+        ensures { λ r. ⌜ r ≡ scrapOf (self .at) size last ⌝ }
+    {
+        if !last {
+            return Read::More;
+        }
+        if size == 0 {
+            if self.at == 1 {
+                return Read::Refused {
+                    number: 23,
+                    offset: 1,
+                };
+            }
+            return Read::End;
+        }
+        Read::Refused {
+            number: 21,
+            offset: self.at,
+        }
+    }
+
+    // A record that is all there, with the length of its body.
+    fn whole_record(self, body: u16, s: &[u8]) -> Read
+        requires { ⌜ Whole (self .at) body (now s) ⌝ }
+        ensures { λ r. ⌜ r ≡ itemOf (self .at) (now (s .entry)) ⌝ }
+    {
+        let at = self.at;
+        let kind = s[2];
+        if body != kind_length(kind) {
+            return Read::Refused {
+                number: 22,
+                offset: at,
+            };
+        }
+        if at == 1 {
+            if kind != PARAMETERS {
+                return Read::Refused {
+                    number: 23,
+                    offset: at,
+                };
+            }
+            return Read::Parameters {
+                numbers: parameters_of(s),
+                next: Cursor { at: 19 },
+            };
+        }
+        if kind == PARAMETERS {
+            return Read::Refused {
+                number: 23,
+                offset: at,
+            };
+        }
+        // An offset past 2^64 would wrap; no file is that long.
+        packet_of(
+            s,
+            Cursor {
+                at: std::num::wrapping_add_u64(at, 16),
+            },
+        )
+    }
+}
+
+impl Numbers {
+    // The number by which set-up refuses these, 0 where it does not.
+    pub fn refusal(self) -> u8
+        ensures { λ r. ⌜ r ≡ setUpOf self ⌝ }
+    {
+        limits::refusal(
+            self.rate,
+            self.schedule,
+            self.class,
+            self.height,
+            self.n,
+            self.maxudp,
+            self.tro,
+        )
+    }
+}
+
+impl Tally {
+    fn none() -> Tally
+        ensures { λ r. ⌜ r ≡ fresh ⌝ }
+    {
+        Tally {
+            past: Past::none(),
+            begun: false,
+            closed: 0,
+        }
+    }
+
+    // With one packet more.
+    fn with(self, t: u64, marker: u8) -> Tally
+        requires { ⌜ Countable self ⌝ }
+        ensures { λ r. ⌜ r ≡ tallied self t marker ⌝ }
+    {
+        let past = self.past;
+        let next = past.next(t);
+        if marker != 1 {
+            return Tally {
+                past: next,
+                begun: self.begun,
+                closed: self.closed,
+            };
+        }
+        if self.begun {
+            return Tally {
+                past: next,
+                begun: true,
+                closed: self.closed + 1,
+            };
+        }
+        Tally {
+            past: next,
+            begun: true,
+            closed: self.closed,
+        }
+    }
+
+    // The answer where reading stops: at a refusal, or else at the end.
+    fn close(self, item: Read, numbers: Numbers) -> Checked
+        ensures { λ r. ⌜ r ≡ closing item numbers self ⌝ }
+    {
+        let Read::Refused { number, offset } = item else {
+            let past = self.past;
+            return Checked::Fine {
+                numbers: numbers,
+                packets: past.packets,
+                closed: self.closed,
+            };
+        };
+        Checked::Refused {
+            number: number,
+            offset: offset,
+        }
+    }
+}
+
+// The answer where reading stops before there are stream numbers: at a refusal, and at nothing else.
+fn refused_by(item: Read) -> Checked
+    ensures { λ r. ⌜ r ≡ refusedBy item ⌝ }
+{
+    let Read::Refused { number, offset } = item else {
+        return Checked::Refused {
+            number: 0,
+            offset: 0,
+        };
+    };
+    Checked::Refused {
+        number: number,
+        offset: offset,
+    }
+}
+
+// One pass over a whole file that copies nothing: what `report` asks before it measures.
+pub fn check(s: &[u8]) -> Checked
+    ensures { λ r. ⌜ r ≡ checkedOf (now (s .entry)) ⌝ }
+{
+    let opening = Cursor::start().read(s);
+    let Read::Version { next } = opening else {
+        return refused_by(opening);
+    };
+    let first = next.read(s);
+    let Read::Parameters { numbers, next } = first else {
+        return refused_by(first);
+    };
+    let number = numbers.refusal();
+    if number != 0 {
+        return Checked::Refused {
+            number: number,
+            offset: 1,
+        };
+    }
+    check_packets(numbers, next, s)
+}
+
+// The packets from an offset on, after the parameters.
+fn check_packets(numbers: Numbers, from: Cursor, s: &[u8]) -> Checked
+    requires { ⌜ 1 < from .at ⌝ }
+    ensures { λ r. ⌜ r ≡ finish numbers fresh (packetsIn nothing (from .at) (drop (from .at) (now (s .entry)))) ⌝ }
+{
+    let mut cursor = from;
+    let mut tally = Tally::none();
+    loop {
+        let item = cursor.read(s);
+        let Read::Packet {
+            t,
+            stamp: _,
+            marker,
+            next,
+        } = item
+        else {
+            return tally.close(item, numbers);
+        };
+        let past = tally.past;
+        let number = past.refusal(t, marker);
+        if number != 0 {
+            return Checked::Refused {
+                number: number,
+                offset: cursor.at,
+            };
+        }
+        tally = tally.with(t, marker);
+        cursor = next;
+    }
+}
+
+// The whole record file of these stream numbers and packets into lent bytes, or nothing where it is refused.
+pub fn write(
+    numbers: Numbers,
+    arrivals: &[u64],
+    stamps: &[u32],
+    markers: &[u8],
+    out: &mut [u8],
+) -> Written
+    ensures { λ r. ⌜ Writes numbers (now (arrivals .entry)) (now (stamps .entry)) (now (markers .entry)) (now (out .entry)) r (now (out .exit)) ⌝ }
+{
+    let number = numbers.refusal();
+    if number != 0 {
+        return Written::Refused {
+            number: number,
+            place: 0,
+        };
+    }
+    let scanned = Past::none().scan(false, arrivals, stamps, markers);
+    let Scanned::Fine(_) = scanned else {
+        return refused_scan(scanned);
+    };
+    let needed = 19 + 16 * arrivals.len();
+    if out.len() < needed {
+        return Written::Refused {
+            number: 24,
+            place: 0,
+        };
+    }
+    write_parameters(numbers, out);
+    write_packets(arrivals, stamps, markers, out);
+    Written::Done { bytes: needed }
+}
+
+// The refusal of a scan; a scan that refuses nothing does not come here.
+fn refused_scan(scanned: Scanned) -> Written
+    ensures { λ r. ⌜ r ≡ scanning scanned 0 0 ⌝ }
+{
+    match scanned {
+        Scanned::Refused(r) => Written::Refused {
+            number: r.number,
+            place: r.place,
+        },
+        Scanned::Fine(_) => Written::Done { bytes: 0 },
+    }
+}
+
+// The version byte and the parameters.
+fn write_parameters(numbers: Numbers, out: &mut [u8])
+    requires { ⌜ Room 19 (now out) 0 ⌝ }
+    ensures { λ _. ⌜ now (out .exit) ≡ sets (now (out .entry)) 0 (headOf numbers) ⌝ }
+{
+    out[0] = 1;
+    out[1] = 0;
+    out[2] = 16;
+    out[3] = PARAMETERS;
+    out[4] = numbers.rate;
+    out[5] = numbers.schedule;
+    out[6] = numbers.class;
+    write16(out, 7, numbers.height);
+    write32(out, 9, numbers.n);
+    write16(out, 13, numbers.maxudp);
+    write32(out, 15, numbers.tro);
+}
+
+// One packet's record at an offset.
+fn write_packet(t: u64, stamp: u32, marker: u8, out: &mut [u8], at: usize)
+    requires { ⌜ Room 16 (now out) at ⌝ }
+    ensures { λ _. ⌜ now (out .exit) ≡ sets (now (out .entry)) at (packetRecord (packetWith t stamp marker)) ⌝ }
+{
+    out[at] = 0;
+    out[at + 1] = 14;
+    out[at + 2] = PACKET;
+    write64(out, at + 3, t);
+    write32(out, at + 11, stamp);
+    out[at + 15] = marker;
+}
+
+// The packets' records, after the parameters.
+fn write_packets(arrivals: &[u64], stamps: &[u32], markers: &[u8], out: &mut [u8])
+    requires { ⌜ Fitting (now arrivals) (now stamps) (now markers) (now out) ⌝ }
+    ensures { λ _. ⌜ now (out .exit) ≡ sets (now (out .entry)) 19 (recordsOf (packets (now (arrivals .entry)) (now (stamps .entry)) (now (markers .entry)))) ⌝ }
+{
+    let mut i = 0;
+    let mut at = 19;
+    while i < arrivals.len() {
+        write_packet(arrivals[i], stamps[i], markers[i], out, at);
+        at += 16;
+        i += 1;
+    }
+}
