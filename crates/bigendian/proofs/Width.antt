@@ -3,12 +3,12 @@ use mathlib.Core.Path.{_≡_, refl, sym, ap, _∙_}
 use mathlib.Core.List.{List, [], _∷_, _++_}
 use Prim.Native.Nat.{ℕ, zero, suc, _+_, _*_, _/_, _%_, _^_, _≤_, _<_}
 use native.Mathlib.Omega.{arith}
-use native.Mathlib.Nat.{div-one, add-zero, add-assoc, mul-assoc, add-mul, pow-suc, pow-succ', one-le-pow, mod-lt, mod-eq-of-lt, div-add-mod', div-lt-iff-lt-mul}
+use native.Mathlib.Nat.{div-one, add-zero, add-assoc, mul-assoc, add-mul, pow-succ', one-le-pow, mod-lt, div-add-mod', div-lt-iff-lt-mul}
 use native.Mathlib.Numerals.{add-one}
 use lib.Arith.{digits-lt, digits-div, digits-mod}
 use lib.Pow.{pow-add}
-use lib.ListN.{length, take, drop, getD, set, length-append, length-drop, List·getD-eq-default}
-use lib.Seq.{sets, take-add, drop-drop, drop-cons, length-take-le}
+use lib.ListN.{length, take, drop, getD, set, length-append, length-drop}
+use lib.Seq.{sets, take-add, drop-drop, length-take-le}
 use Rattle.bigendian.specs.Number.{numberOf, numberAt, bytesOf, Bytes, Room}
 
 positive : (k : ℕ) → 0 < 256 ^ k

@@ -5,6 +5,8 @@
 ghost use mathlib.Core.Path.{_≡_};
 ghost use Prim.Native.Nat.{_+_, _*_, _-_, _/_, _%_, _≤_, _<_};
 ghost use lib.IntN.{subℕ};
+ghost use mir.Syntax.{w64};
+ghost use mir.Val.{ofZ};
 ghost use Rattle.grain.specs.Paper.{grains, nearest, phase, firstPacketTime, latency, instants as instantsOf, readsBefore};
 
 // The grains of 2^32 ticks: RTP timestamps go round once in this time.
@@ -85,6 +87,18 @@ pub fn difference(a: u64, b: u64) -> i64
     } else {
         let below = b - a - 1;
         -1 - (below as i64)
+    }
+}
+
+// The two's complement bits of x: x itself, or 2^64 more where it is below 0.
+pub fn bits(x: i64) -> u64
+    ensures { λ r. ⌜ r ≡ ofZ w64 x ⌝ }
+{
+    if 0 <= x {
+        x as u64
+    } else {
+        let below = (-1 - x) as u64;
+        18446744073709551615 - below
     }
 }
 

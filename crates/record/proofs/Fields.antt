@@ -1,11 +1,11 @@
 -- Fields to bytes and back, for any widths, by the list of widths; and what the fields of a packet's and of the parameters' record are.
-use mathlib.Core.Path.{_≡_, refl, sym, ap, subst, _∙_}
+use mathlib.Core.Path.{_≡_, refl, sym, ap, _∙_}
 use mathlib.Core.List.{List, [], _∷_, _++_, append-assoc}
-use Prim.Native.Nat.{ℕ, zero, suc, _+_, _^_, _≤_, _<_}
+use Prim.Native.Nat.{ℕ, zero, suc, _+_, _≤_, _<_}
 use native.Mathlib.Omega.{arith}
 use lib.ListN.{length, take, drop, getD, length-drop, take-append-drop}
 use lib.Seq.{take-at, drop-at, drop-drop, length-take-le}
-use Rattle.bigendian.specs.Number.{numberOf, numberAt, bytesOf, Bytes}
+use Rattle.bigendian.specs.Number.{numberAt, bytesOf, Bytes}
 use Rattle.bigendian.proofs.Width.{length-bytes, number-bytes, bytes-number, number-byte}
 use Rattle.packet.specs.Paper.{Packet}
 use Rattle.record.specs.declared.Numbers.{Numbers}
@@ -66,7 +66,8 @@ unfolding fields
 fields-at [] l at = refl
 fields-at (w ∷ ws) l at = ap (λ (m : List ℕ). numberAt w l at ∷ m) (rw (drop-drop w at l) (fields-at ws l (at + w)))
 
-packet-fields : (l : List ℕ) → fields packetWidths l ≡ bodyLength l ∷ kindOf l ∷ packetAt l .time ∷ packetAt l .stamp ∷ packetAt l .marker ∷ []
+packet-fields : (l : List ℕ)
+    → fields packetWidths l ≡ bodyLength l ∷ kindOf l ∷ packetAt l .time ∷ packetAt l .stamp ∷ packetAt l .marker ∷ []
 packet-fields l = fields-at packetWidths l 0 ∙ rw (number-byte l 2, number-byte l 15)
 
 parameter-fields : (l : List ℕ)

@@ -1,7 +1,7 @@
 -- A file in pieces reads as the whole, on one page: a piece's answer is the whole file's or More; More comes only where the next bytes
 -- decide, and never of a last window or one of 65,537 bytes; and whatever the pieces, the answers are the whole file's.
 -- The work on one window is in Window; the pieces go by the steps still allowed.
-use mathlib.Core.Path.{_≡_, refl, sym, ap, subst, _∙_}
+use mathlib.Core.Path.{_≡_, refl, sym, ap, _∙_}
 use mathlib.Core.Bool.{Bool, true, false}
 use mathlib.Core.List.{List, [], _∷_, _++_, append-nil, append-assoc, flatten}
 use Prim.Native.Nat.{ℕ, zero, suc, _+_, _≤_, _<_}
@@ -64,7 +64,8 @@ unfolding inPieces
 step-last k at held i e = rw e
 
 -- what is left after an answer is shorter
-shorter : (i : Read) (held rest : List ℕ) → taken i ≤ length held → 0 < taken i → length (drop (taken i) held ++ rest) < length (held ++ rest)
+shorter : (i : Read) (held rest : List ℕ) → taken i ≤ length held → 0 < taken i
+    → length (drop (taken i) held ++ rest) < length (held ++ rest)
 shorter i held rest t p =
     omega (arith, length-append (drop (taken i) held) rest, length-append held rest, length-drop (taken i) held)
 

@@ -1,17 +1,16 @@
 -- What the cursor answers, one law for each way out of its functions, from the tests before it.
 use mathlib.Core.Path.{_≡_, refl, sym, _∙_}
-use mathlib.Core.Bool.{Bool, true, false, not, _&&_, _||_, or-true}
+use mathlib.Core.Bool.{Bool, true, false, not, _&&_, or-true}
 use mathlib.Core.List.{List, [], _∷_}
-use Prim.Native.Nat.{ℕ, zero, suc, _+_, _-_, _≤_, _<_}
+use Prim.Native.Nat.{ℕ, _+_, _-_, _≤_, _<_}
 use native.Mathlib.Omega.{arith}
 use native.Mathlib.Decide.{ℕ-discrete}
-use lib.Dec.{ltb, leb, eqb}
+use lib.Dec.{eqb}
 use lib.ListN.{length, getD, take, drop, length-drop, drop-of-length-le}
 use lib.Seq.{take-all, drop-length}
 use borrow.Author.Tests.{lt-ltb, le-ltb, le-leb, lt-leb, eq-eqb, ne-eqb}
 use Rattle.laws.specs.Choose.{pick}
-use Rattle.record.specs.declared.Read.{Read}
-use Rattle.record.specs.declared.Read.the-variants.{Version, Parameters, Packet, End, More, Refused}
+use Rattle.record.specs.declared.Read.the-variants.{Version, Parameters, End, More, Refused}
 use Rattle.record.specs.Paper.{bodyLength, kindOf, kindLength, numbersAt, formatRefusal}
 use Rattle.record.specs.Step.{cursor, after, packetOf, itemOf, enough, pieceOf, scrapOf, Whole}
 use Rattle.record.proofs.Format.{lone-23, scrap-21, nought-21, short-21, kind-22, first-23, again-23, first-0, packet-0}
@@ -57,7 +56,8 @@ not-ended false = refl
 
 module _ (at : ℕ) (l : List ℕ) (h : 0 < at) (s : 0 < length l) where
   item-format : itemOf at l
-      ≡ pick (eqb (formatRefusal at l) 0) (pick (eqb at 1) (Parameters (numbersAt l) (cursor 19)) (packetOf l (after at 16))) (Refused (formatRefusal at l) at)
+      ≡ pick (eqb (formatRefusal at l) 0)
+      (pick (eqb at 1) (Parameters (numbersAt l) (cursor 19)) (packetOf l (after at 16))) (Refused (formatRefusal at l) at)
   unfolding itemOf
   item-format = rw (ne-eqb at 0 (λ z. omega arith), ne-eqb (length l) 0 (λ z. omega arith), not-ended (not (eqb at 1)))
 

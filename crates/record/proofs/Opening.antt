@@ -1,17 +1,17 @@
 -- The check of a whole file from its first byte: what the cursor answers at 0 and at 1, and what that makes of the file; and that the
 -- tally of the packets is what the paper declares of them, by place.
 use mathlib.Core.Path.{_≡_, refl, sym, ap, subst, _∙_}
-use mathlib.Core.Bool.{Bool, true, false}
+use mathlib.Core.Bool.{true, false}
 use mathlib.Core.List.{List, [], _∷_}
-use Prim.Native.Nat.{ℕ, suc, _+_, _<_}
+use Prim.Native.Nat.{ℕ, _<_}
 use native.Mathlib.Omega.{arith}
 use native.Mathlib.Decide.{ℕ-discrete}
 use lib.ListN.{length, drop}
 use types.Run.{OneOf, miss}
 use denote.Enum.Declared.{tagOf}
-use Rattle.laws.specs.Choose.{pick, pick-either}
+use Rattle.laws.specs.Choose.{pick-either}
 use Rattle.laws.specs.Count.{count}
-use Rattle.laws.specs.Fold.{fold, fold-states}
+use Rattle.laws.specs.Fold.{fold-states}
 use Rattle.packet.specs.Paper as Paper
 use Rattle.packet.specs.Step.{nothing}
 use Rattle.packet.proofs.Declared.{next-at, begun-at}
@@ -21,9 +21,9 @@ use Rattle.record.specs.declared.Tally.{Tally}
 use Rattle.record.specs.declared.Read.{Read}
 use Rattle.record.specs.declared.Read.the-variants.{Version, Parameters, Packet, End, More, Refused}
 use Rattle.record.specs.declared.Checked.the-variants as answer
-use Rattle.record.specs.Paper.{versionFits, numbersAt, formatRefusal, setUpOf, parametersRefusal, readingOf}
+use Rattle.record.specs.Paper.{versionFits, numbersAt, formatRefusal, setUpOf}
 use Rattle.record.specs.Paper.{Ending, done, stopped, Packets, packetsIn, endedFile}
-use Rattle.record.specs.Step.{cursor, itemOf}
+use Rattle.record.specs.Step.{itemOf}
 use Rattle.record.specs.Walk.{asChecked, checkedOf, fresh, tallied, tallyOf, finishBy, finish, refusedBy}
 use Rattle.record.proofs.Read.{the-type}
 use Rattle.record.proofs.Format.{lone-23}
@@ -98,6 +98,11 @@ module _ (s : List ℕ) where
 
   pub opened : {c : Cursor} → itemOf 0 s ≡ Version c → (versionFits s ≡ true) × (c .at ≡ 1)
   opened e = subst (SaysVersion s) e (version-says s)
+
+  -- from the answer as it was read
+  pub opened-at : {r : Read} {at : ℕ} {c : Cursor} → at ≡ 0 → r ≡ itemOf at (drop at s) → r ≡ Version c
+      → (versionFits s ≡ true) × (c .at ≡ 1)
+  opened-at e f g = opened (read-at 0 s e f ∙ g)
 
   module _ (v : versionFits s ≡ true) where
     pub first-not : (r : Read) → OneOf (0 ∷ 2 ∷ 3 ∷ 4 ∷ 5 ∷ []) (tagOf the-type r) → itemOf 1 (drop 1 s) ≡ r → refusedBy r ≡ checkedOf s

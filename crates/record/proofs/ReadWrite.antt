@@ -8,7 +8,6 @@ use native.Mathlib.Decide.{ℕ-discrete}
 use lib.ListN.{length, take, drop, getD, length-drop}
 use lib.Seq.{drop-drop}
 use borrow.Author.Tests.{eqb-true}
-use Rattle.laws.specs.Choose.{pick-either}
 use Rattle.bigendian.specs.Number.{Bytes}
 use Rattle.packet.specs.declared.Past.{Past}
 use Rattle.packet.specs.declared.Scanned.the-variants as scan
@@ -20,9 +19,9 @@ use Rattle.record.specs.declared.Numbers.{Numbers}
 use Rattle.record.specs.declared.Written.{Written}
 use Rattle.record.specs.declared.Written.the-variants.{Done}
 use Rattle.record.specs.Write.{fileLength, Writes}
-use Rattle.record.specs.Paper.{versionFits, bodyLength, kindOf, kindLength, numbersAt, packetAt, formatRefusal, setUpOf, parametersRefusal, packetRefusal}
-use Rattle.record.specs.Paper.{Ending, done, stopped, Packets, packetsIn, Reading, readingOf, file, refused, File, endedFile, asFile, fileOf}
-use Rattle.record.specs.Layout.{parameterRecord, packetRecord, recordsOf, bytesIn}
+use Rattle.record.specs.Paper.{versionFits, kindOf, numbersAt, packetAt, formatRefusal, setUpOf, parametersRefusal, packetRefusal}
+use Rattle.record.specs.Paper.{Ending, done, stopped, Packets, packetsIn, file, refused, endedFile, asFile, fileOf}
+use Rattle.record.specs.Layout.{parameterRecord, recordsOf, bytesIn}
 use Rattle.record.proofs.Writing.{length-file, written-done, writes-done}
 use Rattle.record.proofs.Format.{formed, kind-of-14}
 use Rattle.record.proofs.Reading.{neither, packet-here, parameters-here, packets-end, packets-stop, packets-go}
@@ -81,7 +80,8 @@ packets-scan (suc k) past begun closed at l h o e =
 
     go : Dec (length l ≡ 0) → Dec (packetRefusal past at l ≡ 0)
         → (length (drop 16 l) ≤ k → 1 < at + 16 → next .ending ≡ done
-        → (n : ℕ) × (scanOf (nextOf past p-time) (begun || marked (packetAt l)) (closed + closes begun (packetAt l)) (next .accepted) ≡ scan.Fine n))
+        → (n : ℕ)
+        × (scanOf (nextOf past p-time) (begun || marked (packetAt l)) (closed + closes begun (packetAt l)) (next .accepted) ≡ scan.Fine n))
         → (n : ℕ) × (scanOf past begun closed (packetsIn past at l .accepted) ≡ scan.Fine n)
     go (yes z) d rest = (closed, scan-ends past begun closed (ap (λ p. p .accepted) (packets-end past at l z)))
     go (no n) (no r) rest =
@@ -89,7 +89,8 @@ packets-scan (suc k) past begun closed at l h o e =
     go (no n) (yes r) rest =
         let goes = packets-go past at l o r in
         let more = rest (rw length-drop (omega arith)) (omega arith) (sym (ap (λ p. p .ending) goes) ∙ e) in
-        (more .0, scan-goes past begun closed (ap (λ p. p .accepted) goes) (neither (formatRefusal at l) (numberOf past (packetAt l)) r .1) ∙ more .1)
+        let fine = neither (formatRefusal at l) (numberOf past (packetAt l)) r .1 in
+        (more .0, scan-goes past begun closed (ap (λ p. p .accepted) goes) fine ∙ more .1)
 
 version-again : (s : List ℕ) → getD s 0 0 ≡ 1 → 1 ∷ drop 1 s ≡ s
 version-again [] e = absurd (omega arith)
@@ -117,8 +118,8 @@ module _ (s : List ℕ) (b : Bytes s) where
       ends done q f v z =
           let e-numbers : numbersAt (drop 1 s) ≡ numbers = cc in
           let e-packets : r .accepted ≡ ps = cc in
-          rw (← e-numbers, ← e-packets, packets-again (length (drop 19 s)) nothing 19 (drop 19 s) (omega arith) (omega arith) (bytes-drop 19 s b) q)
-          (head-again v z)
+          let again = packets-again (length (drop 19 s)) nothing 19 (drop 19 s) (omega arith) (omega arith) (bytes-drop 19 s b) q in
+          rw (← e-numbers, ← e-packets, again) (head-again v z)
 
       go : (t : Bool) → versionFits s ≡ t → Dec (parametersRefusal (drop 1 s) ≡ 0) → bytesIn numbers ps ≡ s
       go false v d = absurd (refused-file 20 0 numbers ps (sym (ap asFile (reading-20 s v)) ∙ e))

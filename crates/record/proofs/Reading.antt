@@ -1,22 +1,22 @@
 -- The packets of a file, one record at a time: none is left, or the first is accepted and the others follow, or it is refused.
 -- By the number of records still allowed, of which as many as there are bytes is always enough.
 use mathlib.Core.Path.{_≡_, refl, sym, ap, _∙_}
-use mathlib.Core.Bool.{Bool, true, false, not}
-use mathlib.Core.List.{List, [], _∷_}
+use mathlib.Core.Bool.{true, false}
+use mathlib.Core.List.{List}
 use Prim.Native.Nat.{ℕ, zero, suc, _+_, _-_, _≤_, _<_}
 use native.Mathlib.Omega.{arith}
 use native.Mathlib.Decide.{ℕ-discrete}
 use lib.Dec.{eqb}
 use lib.ListN.{length, drop, length-drop}
 use lib.Seq.{drop-drop}
-use borrow.Author.Tests.{eq-eqb, ne-eqb, eqb-true, eqb-false, not-true}
-use Rattle.laws.specs.Choose.{pick, pick-either, false-true}
+use borrow.Author.Tests.{eq-eqb, ne-eqb, eqb-true, eqb-false}
+use Rattle.laws.specs.Choose.{pick-either, false-true}
 use Rattle.packet.specs.declared.Past.{Past}
-use Rattle.packet.specs.Step.{nothing, numberOf, nextOf}
-use Rattle.record.specs.Paper.{versionFits, bodyLength, kindOf, kindLength, inPlace, numbersAt, packetAt}
+use Rattle.packet.specs.Step.{nothing, nextOf}
+use Rattle.record.specs.Paper.{versionFits, bodyLength, kindOf, inPlace, numbersAt, packetAt}
 use Rattle.record.specs.Paper.{formatRefusal, orElse, parametersRefusal, packetRefusal, unread, read, readingOf}
-use Rattle.record.specs.Paper.{done, stopped, Packets, none, more, packetsBy, packetsIn}
-use Rattle.record.proofs.Format.{Formed, formed, kind-1, kind-2}
+use Rattle.record.specs.Paper.{done, stopped, none, more, packetsBy, packetsIn}
+use Rattle.record.proofs.Format.{formed, kind-1, kind-2}
 
 -- two numbers of which the first goes before: none where both are none, the first where it is one
 pub neither : (a b : ℕ) → orElse a b ≡ 0 → (a ≡ 0) × (b ≡ 0)

@@ -1,8 +1,7 @@
 -- A record's fields, stored one after the other, are the record stored. By the law that bytes stored in two runs are stored in one.
-use mathlib.Core.Path.{_≡_, refl, sym, ap, _∙_}
-use mathlib.Core.List.{List, [], _∷_, _++_}
+use mathlib.Core.Path.{_≡_, sym, _∙_}
+use mathlib.Core.List.{List}
 use Prim.Native.Nat.{ℕ, _+_, _≤_, _<_}
-use native.Mathlib.Omega.{arith}
 use native.Mathlib.Nat.{div-one, div-eq-of-lt, mod-eq-of-lt, add-assoc}
 use lib.Dec.{lit<}
 use lib.ListN.{length, set, length-append}

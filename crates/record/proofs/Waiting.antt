@@ -3,15 +3,14 @@
 use mathlib.Core.Path.{_≡_, refl, sym, ap, subst, _∙_}
 use mathlib.Core.Bool.{Bool, true, false}
 use mathlib.Core.List.{List, [], _∷_, _++_, append-nil}
-use Prim.Native.Nat.{ℕ, suc, _+_, _*_, _≤_, _<_}
+use Prim.Native.Nat.{ℕ, _+_, _*_, _<_}
 use native.Mathlib.Omega.{arith}
 use native.Mathlib.Decide.{ℕ-discrete}
 use lib.Dec.{eqb}
-use lib.ListN.{length, replicate, length-append, length-replicate}
+use lib.ListN.{replicate, length-append, length-replicate}
 use Rattle.laws.specs.Choose.{pick-either, false-true}
 use Rattle.bigendian.specs.Number.{numberOf}
-use Rattle.record.specs.declared.Read.{Read}
-use Rattle.record.specs.declared.Read.the-variants.{Version, Parameters, Packet, End, More, Refused}
+use Rattle.record.specs.declared.Read.the-variants.{Refused}
 use Rattle.record.specs.Paper.{bodyLength, kindOf, kindLength, inPlace, formatRefusal}
 use Rattle.record.specs.Step.{itemOf, enough, pieceOf, Whole}
 use Rattle.record.specs.Pieces.{wantsMore}

@@ -1,9 +1,9 @@
 -- One turn of the walk over a file, by what the cursor answers: a packet goes into the tally or is refused, and anything else ends
 -- the walk. What an answer says of the bytes is a predicate on it, proved once for every answer.
 use mathlib.Core.Path.{_≡_, refl, sym, ap, subst, _∙_}
-use mathlib.Core.Bool.{Bool, true, false, _&&_, or-false, and-false}
+use mathlib.Core.Bool.{true, false, _&&_, or-false, and-false}
 use mathlib.Core.List.{List, [], _∷_}
-use Prim.Native.Nat.{ℕ, _+_, _-_, _^_, _≤_, _<_}
+use Prim.Native.Nat.{ℕ, _+_, _^_, _≤_, _<_}
 use native.Mathlib.Omega.{arith}
 use native.Mathlib.Nat.{add-zero, mod-eq-of-lt}
 use native.Mathlib.Decide.{ℕ-discrete}
@@ -25,7 +25,7 @@ use Rattle.record.proofs.Read.{the-type}
 use Rattle.record.specs.declared.Read.the-variants.{Version, Parameters, Packet, End, More, Refused}
 use Rattle.record.specs.declared.Checked.the-variants as answer
 use Rattle.packet.specs.Paper as Paper
-use Rattle.record.specs.Paper.{packetAt, formatRefusal, packetRefusal, Ending, done, stopped, Packets, more, packetsIn}
+use Rattle.record.specs.Paper.{packetAt, formatRefusal, Ending, done, stopped, Packets, more, packetsIn}
 use Rattle.record.specs.Step.{after, packetOf, itemOf}
 use Rattle.record.specs.Walk.{tallied, fineWith, finishBy, finish, closing, refusedBy}
 use Rattle.record.proofs.Items.{item-end, item-packet, item-refused}
@@ -139,7 +139,8 @@ tally-keeps y t marker h =
     pick-either (λ n. y .closed + n ≤ y .past .packets + 1) (y .begun && eqb marker 1) (λ e. omega arith) (λ e. omega arith)
 
 -- an answer at which reading stops
-pub closing-fine : (r : Read) (numbers : Numbers) (y : Tally) → OneOf (0 ∷ 1 ∷ 2 ∷ 3 ∷ 4 ∷ []) (tagOf the-type r) → fineWith numbers y ≡ closing r numbers y
+pub closing-fine : (r : Read) (numbers : Numbers) (y : Tally) → OneOf (0 ∷ 1 ∷ 2 ∷ 3 ∷ 4 ∷ []) (tagOf the-type r)
+    → fineWith numbers y ≡ closing r numbers y
 unfolding closing
 closing-fine (Version c) numbers y k = refl
 closing-fine (Parameters n c) numbers y k = refl

@@ -2,27 +2,27 @@
 -- looked at lies within the window.
 use mathlib.Core.Path.{_≡_, refl, sym, ap, subst, _∙_}
 use mathlib.Core.Logic.{_⊎_, inl, inr}
-use mathlib.Core.Bool.{Bool, true, false, _||_}
+use mathlib.Core.Bool.{true, false}
 use mathlib.Core.List.{List, [], _∷_, _++_}
 use Prim.Native.Nat.{ℕ, _+_, _≤_, _<_}
 use native.Mathlib.Omega.{arith}
 use native.Mathlib.Decide.{ℕ-discrete, decLe}
-use lib.Dec.{ltb, leb, eqb}
+use lib.Dec.{eqb}
 use lib.ListN.{length, take, drop, getD, length-append, length-drop, List·getD-append}
 use lib.Seq.{take-append-le, drop-append-le, length-take-le}
-use borrow.Author.Tests.{lt-ltb, le-ltb, le-leb, lt-leb, eq-eqb, ne-eqb, eqb-true}
-use Rattle.laws.specs.Choose.{pick, pick-either, false-true}
+use borrow.Author.Tests.{le-ltb, le-leb, lt-leb, eq-eqb, ne-eqb, eqb-true}
+use Rattle.laws.specs.Choose.{pick-either, false-true}
 use Rattle.bigendian.specs.Number.{numberAt, Bytes}
 use Rattle.bigendian.proofs.Width.{number-small}
 use Rattle.record.specs.declared.Read.{Read}
-use Rattle.record.specs.declared.Read.the-variants.{Version, Parameters, Packet, End, More, Refused}
+use Rattle.record.specs.declared.Read.the-variants.{Parameters, Packet}
 use Rattle.record.specs.Paper.{bodyLength, kindOf, kindLength, numbersAt, packetAt, formatRefusal}
-use Rattle.record.specs.Step.{cursor, after, packetOf, itemOf, enough, pieceOf, Whole}
+use Rattle.record.specs.Step.{cursor, after, itemOf, enough, Whole}
 use Rattle.record.specs.Pieces.{goesOn, taken, wantsMore}
 use Rattle.record.proofs.Fields.{bytes-take}
 use Rattle.record.proofs.Reading.{packet-here, parameters-here}
 use Rattle.record.proofs.Format.{lone-23, nought-21, parameter-room, packet-room}
-use Rattle.record.proofs.Items.{item-end, item-refused-1, item-refused, item-parameters, item-packet, piece-last, piece-enough, piece-more, scrap-waits}
+use Rattle.record.proofs.Items.{item-end, item-refused-1, item-refused, item-parameters, item-packet, scrap-waits}
 use Rattle.record.proofs.Items.{whole-22, whole-first-23, whole-again-23, whole-parameters, whole-packet}
 
 module _ (w v : List ℕ) where
@@ -112,7 +112,9 @@ pub data Unshown (at : ℕ) (w : List ℕ) : Type 0 where
   no-body : 0 < at → 2 ≤ length w → 0 < bodyLength w → length w < 2 + bodyLength w → Unshown at w
 
 look : (at : ℕ) (w : List ℕ) → Shown at w ⊎ Unshown at w
-look at w = go (ℕ-discrete at 0) (decLe 2 (length w)) (ℕ-discrete (length w) 0) (ℕ-discrete (bodyLength w) 0) (decLe (2 + bodyLength w) (length w))
+look at w =
+    go (ℕ-discrete at 0) (decLe 2 (length w)) (ℕ-discrete (length w) 0) (ℕ-discrete (bodyLength w) 0)
+    (decLe (2 + bodyLength w) (length w))
   where
     go : Dec (at ≡ 0) → Dec (2 ≤ length w) → Dec (length w ≡ 0) → Dec (bodyLength w ≡ 0) → Dec (2 + bodyLength w ≤ length w)
         → Shown at w ⊎ Unshown at w
@@ -205,7 +207,8 @@ item-within at l = go (ℕ-discrete at 0) (ℕ-discrete at 1) (ℕ-discrete (len
         subst (Within l) (sym (item-refused-1 23 at l o (lone-23 at l o e) (omega arith))) (refl, omega arith, λ g. absurd (false-true g))
     go (no z) (no n) (yes e) f = subst (Within l) (sym (item-end at l (omega arith) n e)) (refl, omega arith, λ g. absurd (false-true g))
     go (no z) d (no e) (no f) =
-        subst (Within l) (sym (item-refused at l (omega arith) (omega arith) _ refl (omega arith))) (refl, omega arith, λ g. absurd (false-true g))
+        subst (Within l) (sym (item-refused at l (omega arith) (omega arith) _ refl (omega arith)))
+        (refl, omega arith, λ g. absurd (false-true g))
     go (no z) (yes o) (no e) (yes f) =
         subst (Within l) (sym (item-parameters at l (omega arith) (omega arith) f o))
         (refl, parameters-here l (subst (λ i. formatRefusal i l ≡ 0) o f) .eighteen, λ g. omega arith)

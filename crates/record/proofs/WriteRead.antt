@@ -1,9 +1,9 @@
 -- Reading what was written: each record stands at the front with its own fields, is accepted as it was, and the rest follows.
 -- By the list of packets.
-use mathlib.Core.Path.{_≡_, refl, sym, ap, subst, _∙_}
-use mathlib.Core.Bool.{Bool, true, false, _||_}
+use mathlib.Core.Path.{_≡_, refl, sym, ap, _∙_}
+use mathlib.Core.Bool.{Bool, false, _||_}
 use mathlib.Core.List.{List, [], _∷_, _++_}
-use Prim.Native.Nat.{ℕ, _+_, _≤_, _<_}
+use Prim.Native.Nat.{ℕ, _+_, _<_}
 use native.Mathlib.Omega.{arith}
 use lib.ListN.{length, drop, length-append}
 use lib.Seq.{drop-at}
@@ -14,9 +14,9 @@ use Rattle.packet.specs.Step.{nothing, numberOf, nextOf, closes, scanOf}
 use Rattle.packet.proofs.Refusals.{accepted}
 use Rattle.packet.proofs.Turn.{scan-goes, ready-accepted, fine-ready}
 use Rattle.record.specs.declared.Numbers.{Numbers}
-use Rattle.record.specs.Paper.{bodyLength, kindOf, kindLength, numbersAt, packetAt, formatRefusal, setUpOf, packetRefusal}
-use Rattle.record.specs.Paper.{done, Packets, none, more, packetsIn, read, readingOf}
-use Rattle.record.specs.Layout.{packetWidths, packetFields, parameterRecord, packetRecord, headOf, recordsOf, bytesIn, Fit}
+use Rattle.record.specs.Paper.{kindOf, packetAt, formatRefusal, setUpOf, packetRefusal}
+use Rattle.record.specs.Paper.{done, Packets, more, packetsIn, read, readingOf}
+use Rattle.record.specs.Layout.{packetWidths, packetFields, parameterRecord, packetRecord, recordsOf, bytesIn, Fit}
 use Rattle.record.specs.Layout.{NumbersHeld, PacketsHeld}
 use Rattle.record.specs.Step.{Whole}
 use Rattle.record.proofs.Format.{kind-1, kind-2-length, first-0, packet-0}
@@ -61,7 +61,8 @@ packets-written (p ∷ ps) past begun closed n at h held e =
     let go = sym (scan-goes past begun closed {p = p} {l = p ∷ ps} {ps = ps} refl ok) ∙ e in
     let fine : packetRefusal past at l ≡ 0 =
     second _ _ (packet-format at p (recordsOf ps) h f) ∙ ap (numberOf past) (back .same) ∙ ok in
-    let then = packets-written ps (nextOf past (p .time)) (begun || marked p) (closed + closes begun p) n (at + 16) (omega arith) (held .2) go in
+    let then =
+    packets-written ps (nextOf past (p .time)) (begun || marked p) (closed + closes begun p) n (at + 16) (omega arith) (held .2) go in
     let rest : packetsIn (nextOf past (packetAt l .time)) (at + 16) (drop 16 l) ≡ every ps =
     ap (λ q. packetsIn (nextOf past (q .time)) (at + 16) (drop 16 l)) (back .same)
     ∙ ap (packetsIn (nextOf past (p .time)) (at + 16)) (drop-at (packetRecord p) (recordsOf ps) 16 (length-packet p))

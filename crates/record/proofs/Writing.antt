@@ -1,6 +1,6 @@
 -- The writer's answers, one law for each way out, and what it leaves in the lent bytes: the file, and beyond it what was there.
-use mathlib.Core.Path.{_≡_, refl, sym, ap, subst, _∙_}
-use mathlib.Core.Bool.{Bool, true, false}
+use mathlib.Core.Path.{_≡_, refl, sym, ap, _∙_}
+use mathlib.Core.Bool.{false}
 use mathlib.Core.List.{List, [], _∷_, _++_}
 use Prim.Native.Nat.{ℕ, suc, _+_, _*_, _≤_, _<_}
 use native.Mathlib.Omega.{arith}
@@ -15,7 +15,7 @@ use Rattle.packet.specs.declared.Past.{Past}
 use Rattle.packet.specs.declared.Refusal.{Refusal}
 use Rattle.packet.specs.declared.Scanned.{Scanned}
 use Rattle.packet.specs.declared.Scanned.the-variants as scan
-use Rattle.packet.specs.Paper.{Packet, packets, OneLength, pastAt, at}
+use Rattle.packet.specs.Paper.{Packet, packets, OneLength, at}
 use Rattle.packet.specs.Step.{nothing, scannedOf}
 use Rattle.packet.proofs.Refusals.{accepted}
 use Rattle.packet.proofs.Lent.{packets-length}
@@ -27,7 +27,7 @@ use Rattle.record.specs.declared.Written.{Written}
 use Rattle.record.specs.declared.Written.the-variants.{Done, Refused}
 use Rattle.record.specs.Paper.{setUpOf}
 use Rattle.record.specs.Layout.{laid, packetRecord, headOf, recordsOf, bytesIn, PacketsHeld}
-use Rattle.record.specs.Write.{fileLength, scanning, writtenOf, leftBy, Writes, Fitting}
+use Rattle.record.specs.Write.{fileLength, scanning, writtenOf, Writes}
 use Rattle.record.proofs.Stores.{length-packet}
 
 pub length-head : (s : Numbers) → length (headOf s) ≡ 19

@@ -57,4 +57,5 @@ inPieces (suc k) at held (p ∷ pieces) =
     pick (wantsMore (pieceOf at held false))
     (inPieces k at (held ++ p) pieces)
     (pieceOf at held false
-    ∷ pick (goesOn (pieceOf at held false)) (inPieces k (nextAt (pieceOf at held false)) (drop (taken (pieceOf at held false)) held) (p ∷ pieces)) [])
+    ∷ pick (goesOn (pieceOf at held false))
+    (inPieces k (nextAt (pieceOf at held false)) (drop (taken (pieceOf at held false)) held) (p ∷ pieces)) [])

@@ -1,5 +1,4 @@
 -- Two bytes are one number: each byte is a number of width 1.
-use native.Mathlib.Omega.{arith}
 use borrow.Author.Needs.{needs}
 use Rattle.bigendian.proofs.Width.{halves-read, number-byte}
 use Rattle.bigendian.proofs.read16.Statement.{statement}

@@ -1,5 +1,4 @@
 -- Two numbers of two bytes are one of four, by the law of halves.
-use native.Mathlib.Omega.{arith}
 use borrow.Author.Needs.{needs}
 use Rattle.bigendian.proofs.Width.{halves-read}
 use Rattle.bigendian.proofs.read32.Statement.{statement}

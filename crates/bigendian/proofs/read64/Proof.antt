@@ -1,5 +1,4 @@
 -- Two numbers of four bytes are one of eight, by the law of halves.
-use native.Mathlib.Omega.{arith}
 use borrow.Author.Needs.{needs}
 use Rattle.bigendian.proofs.Width.{halves-read}
 use Rattle.bigendian.proofs.read64.Statement.{statement}

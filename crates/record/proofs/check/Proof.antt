@@ -2,7 +2,7 @@
 use mathlib.Core.Path.{sym, _∙_}
 use native.Mathlib.Omega.{arith}
 use borrow.Author.Needs.{needs}
-use Rattle.record.proofs.Opening.{read-at, opens-not, opened, first-not, first-next, first-refused, first-fine}
+use Rattle.record.proofs.Opening.{read-at, opens-not, opened-at, first-not, first-next, first-refused, first-fine}
 use Rattle.record.proofs.check.Statement.{statement}
 use Rattle.record.proofs.check.Tie as tie
 
@@ -38,7 +38,7 @@ returns-2 c =
     let after-read2 = c .before .before in
     let after-opening = after-read2 .before .before in
     let after-read = after-opening .before .before in
-    let opens = opened _ (read-at 0 _ (after-read .before .start .ensures) (after-read .read .ensures) ∙ after-opening .opening .given .1) in
+    let opens = opened-at _ (after-read .before .start .ensures) (after-read .read .ensures) (after-opening .opening .given .1) in
     c .refused-by2 .ensures ∙ first-not _ (opens .0) _ (c .before .match2 .keys2) (read-at 1 _ (opens .1) (after-read2 .read2 .ensures))
 
 refusal-requires : tie.Need-refusal-requires
@@ -50,7 +50,7 @@ returns-3 c =
     let after-read2 = after-first .before .before in
     let after-opening = after-read2 .before .before in
     let after-read = after-opening .before .before in
-    let opens = opened _ (read-at 0 _ (after-read .before .start .ensures) (after-read .read .ensures) ∙ after-opening .opening .given .1) in
+    let opens = opened-at _ (after-read .before .start .ensures) (after-read .read .ensures) (after-opening .opening .given .1) in
     let here = read-at 1 _ (opens .1) (after-read2 .read2 .ensures) ∙ after-first .first .given .1 in
     first-refused _ (opens .0) here _ (sym (c .before .refusal .ensures)) (omega arith)
 
@@ -60,7 +60,7 @@ check-packets-requires c κs =
     let after-read2 = after-first .before .before in
     let after-opening = after-read2 .before .before in
     let after-read = after-opening .before .before in
-    let opens = opened _ (read-at 0 _ (after-read .before .start .ensures) (after-read .read .ensures) ∙ after-opening .opening .given .1) in
+    let opens = opened-at _ (after-read .before .start .ensures) (after-read .read .ensures) (after-opening .opening .given .1) in
     let here = read-at 1 _ (opens .1) (after-read2 .read2 .ensures) ∙ after-first .first .given .1 in
     omega (arith, first-next (after-read .before .before .before .args .s .now) (opens .0) here)
 
@@ -70,7 +70,7 @@ returns-4 c =
     let after-read2 = after-first .before .before in
     let after-opening = after-read2 .before .before in
     let after-read = after-opening .before .before in
-    let opens = opened _ (read-at 0 _ (after-read .before .start .ensures) (after-read .read .ensures) ∙ after-opening .opening .given .1) in
+    let opens = opened-at _ (after-read .before .start .ensures) (after-read .read .ensures) (after-opening .opening .given .1) in
     let here = read-at 1 _ (opens .1) (after-read2 .read2 .ensures) ∙ after-first .first .given .1 in
     let fine = sym (c .before .before .refusal .ensures) ∙ c .before .if1 .left in
     c .check-packets .ensures ∙ first-fine _ (opens .0) here fine

@@ -1,5 +1,4 @@
 -- Where reading stops with no stream numbers: by which answer it was.
-use mathlib.Core.Path.{sym, ap}
 use Rattle.record.specs.Walk.{refusedBy}
 use Rattle.record.proofs.Walking.{refused-none}
 use borrow.Author.Needs.{needs}

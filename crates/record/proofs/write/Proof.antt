@@ -2,8 +2,6 @@
 use mathlib.Core.Path.{sym, ap, _∙_}
 use mathlib.Core.List.{[]}
 use native.Mathlib.Omega.{arith}
-use lib.ListN.{length}
-use lib.Seq.{length-sets}
 use borrow.Author.Needs.{needs}
 use Rattle.record.specs.Write.{scanning}
 use Rattle.record.proofs.Writing.{scan-of, refuses-set-up, refuses-scan, refuses-24, same-slices, few-packets, writes-file}
@@ -61,7 +59,7 @@ returns-3 c =
     refuses-24 _ _ _ _ _ fine scanned (omega arith)
 
 write-parameters-requires : tie.Need-write-parameters-requires
-write-parameters-requires c κs = search needs
+write-parameters-requires c κs = record { inside = omega arith }
 
 write-packets-requires : tie.Need-write-packets-requires
 write-packets-requires c κs =

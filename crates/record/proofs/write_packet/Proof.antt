@@ -1,5 +1,5 @@
 -- A packet, field by field: its stores are its record, stored.
-use mathlib.Core.Path.{ap, _∙_}
+use mathlib.Core.Path.{ap}
 use native.Mathlib.Omega.{arith}
 use lib.ListN.{length, length-set}
 use lib.Seq.{length-sets}
@@ -33,7 +33,9 @@ add-write32 : tie.Need-add-write32
 add-write32 c = search needs
 
 write32-requires : tie.Need-write32-requires
-write32-requires c κs = record { inside = omega (arith, simp (length-sets, length-set) at (ap length (c .before .before .before .write64 .ensures))) }
+write32-requires c κs =
+    let after64 = c .before .before .before in
+    record { inside = omega (arith, simp (length-sets, length-set) at (ap length (after64 .write64 .ensures))) }
 
 add-out-3 : tie.Need-add-out-3
 add-out-3 c = search needs

@@ -1,9 +1,9 @@
 -- The packets' records. The invariant: storing what is left, from where the loop is, is storing them all; each record takes 16 bytes.
 use Prim.Native.Nat.{_+_, _*_, _-_, _≤_}
-use mathlib.Core.Path.{_≡_, refl, sym, ap, _∙_}
+use mathlib.Core.Path.{_≡_, refl, _∙_}
 use native.Mathlib.Omega.{arith}
 use lib.ListN.{length}
-use lib.Seq.{sets, length-sets}
+use lib.Seq.{sets}
 use borrow.Author.Needs.{needs}
 use Rattle.packet.specs.Paper.{packets, packetsFrom}
 use Rattle.record.specs.Layout.{recordsOf}

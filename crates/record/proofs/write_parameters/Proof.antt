@@ -1,5 +1,5 @@
 -- The version byte and the parameters, field by field: their stores are the head of the file, stored.
-use mathlib.Core.Path.{ap, _∙_}
+use mathlib.Core.Path.{ap}
 use native.Mathlib.Omega.{arith}
 use lib.ListN.{length, length-set}
 use lib.Seq.{length-sets}
@@ -35,20 +35,38 @@ write16-requires c κs = record { inside = simp length-set (omega arith) }
 write32-requires : tie.Need-write32-requires
 write32-requires c κs =
     let after16 = c .before .before .before in
-    record { inside = omega (arith, simp (length-sets, length-set) at (ap length (after16 .write16 .ensures))) }
+    record {
+      inside = omega (
+        arith,
+        simp (length-sets, length-set) at (ap length (after16 .write16 .ensures)),
+      );
+    }
 
 write16-requires-2 : tie.Need-write16-requires-2
 write16-requires-2 c κs =
     let after32 = c .before .before .before in
     let after16 = after32 .before .before .before .before in
-    record { inside = omega (arith, simp (length-sets, length-set) at (ap length (after16 .write16 .ensures)), simp length-sets at (ap length (after32 .write32 .ensures))) }
+    record {
+      inside = omega (
+        arith,
+        simp (length-sets, length-set) at (ap length (after16 .write16 .ensures)),
+        simp length-sets at (ap length (after32 .write32 .ensures)),
+      );
+    }
 
 write32-requires-2 : tie.Need-write32-requires-2
 write32-requires-2 c κs =
     let after162 = c .before .before .before in
     let after32 = after162 .before .before .before .before in
     let after16 = after32 .before .before .before .before in
-    record { inside = omega (arith, simp (length-sets, length-set) at (ap length (after16 .write16 .ensures)), simp length-sets at (ap length (after32 .write32 .ensures)), simp length-sets at (ap length (after162 .write162 .ensures))) }
+    record {
+      inside = omega (
+        arith,
+        simp (length-sets, length-set) at (ap length (after16 .write16 .ensures)),
+        simp length-sets at (ap length (after32 .write32 .ensures)),
+        simp length-sets at (ap length (after162 .write162 .ensures)),
+      );
+    }
 
 same-length : tie.Need-same-length
 same-length c =
@@ -56,7 +74,13 @@ same-length c =
     let after162 = after322 .before .before .before .before in
     let after32 = after162 .before .before .before .before in
     let after16 = after32 .before .before .before .before in
-    omega (arith, simp (length-sets, length-set) at (ap length (after16 .write16 .ensures)), simp length-sets at (ap length (after32 .write32 .ensures)), simp length-sets at (ap length (after162 .write162 .ensures)), simp length-sets at (ap length (after322 .write322 .ensures)))
+    omega (
+      arith,
+      simp (length-sets, length-set) at (ap length (after16 .write16 .ensures)),
+      simp length-sets at (ap length (after32 .write32 .ensures)),
+      simp length-sets at (ap length (after162 .write162 .ensures)),
+      simp length-sets at (ap length (after322 .write322 .ensures)),
+    )
 
 returns : tie.Need-returns
 returns c = cc (head-stored _ _)

@@ -1,5 +1,5 @@
 -- A record that is all there: each return is one law, from the tests before it.
-use mathlib.Core.Path.{sym, ap, _∙_}
+use mathlib.Core.Path.{sym}
 use native.Mathlib.Omega.{arith}
 use borrow.Author.Needs.{needs}
 use Rattle.record.proofs.Format.{parameter-room, packet-room}

@@ -1,5 +1,4 @@
 -- Where reading stops: by which answer it was.
-use mathlib.Core.Path.{sym, ap}
 use Rattle.record.specs.Walk.{closing}
 use Rattle.record.proofs.Walking.{closing-fine}
 use borrow.Author.Needs.{needs}
