@@ -103,23 +103,36 @@ fn fed(s: State, arrivals: &[u64], stamps: &[u32], markers: &[u8], rows: &mut [i
 }
 
 // The packets before `at` in one call and the rest in another; the second call's rows go behind the first's.
-fn cut(start: State, at: usize) {
+fn cut(start: State, a: &[u64], x: &[u32], m: &[u8], rows: &mut [i64], at: usize) -> State {
+    if a.len() < at {
+        return start;
+    }
+    if x.len() < at {
+        return start;
+    }
+    if m.len() < at {
+        return start;
+    }
+    let s = fed(start, &a[0..at], &x[0..at], &m[0..at], rows);
+    let closed = s.frames.closed;
+    if 2 < closed {
+        return s;
+    }
+    let from = 10 * (closed as usize);
+    if rows.len() < from {
+        return s;
+    }
+    fed(s, &a[at..], &x[at..], &m[at..], &mut rows[from..])
+}
+
+fn print_line(start: State, at: usize) {
     let a = arrivals();
     let x = stamps();
     let m = markers();
     let mut rows = [0i64; 20];
-    if COUNT < at {
-        return;
-    }
-    let s = fed(start, &a[..at], &x[..at], &m[..at], &mut rows);
-    let closed = s.frames.closed;
-    if 2 < closed {
-        return;
-    }
-    let from = 10 * (closed as usize);
-    let t = fed(s, &a[at..], &x[at..], &m[at..], &mut rows[from..]);
+    let s = cut(start, &a, &x, &m, &mut rows, at);
     print_rows(&rows);
-    print_state(t);
+    print_state(s);
 }
 
 fn main() {
@@ -138,7 +151,7 @@ fn main() {
     };
     let mut at = 0;
     while at <= COUNT {
-        cut(start, at);
+        print_line(start, at);
         at += 1;
     }
 }

@@ -1,171 +1,158 @@
+-- The place is within each slice, so its bytes are within the slice's.
+use native.Mathlib.Omega.{arith}
 use borrow.Author.Needs.{needs}
 use Rattle.cuts.proofs.cut.Statement.{statement}
 use Rattle.cuts.proofs.cut.Tie as tie
-use Rattle.cuts.proofs.cut.Reads as reads
-use Rattle.cuts.proofs.cut.Lts as lts
-use Rattle.cuts.proofs.arrivals.Reads as arrivals-reads
-use Rattle.cuts.proofs.fed.Reads as fed-reads
-use Rattle.cuts.proofs.markers.Reads as markers-reads
-use Rattle.cuts.proofs.print_rows.Reads as print-rows-reads
-use Rattle.cuts.proofs.print_state.Reads as print-state-reads
-use Rattle.cuts.proofs.stamps.Reads as stamps-reads
 
--- src/main.rt:107:13
-arrivals-requires : tie.Need-arrivals-requires
-arrivals-requires c κs = search needs
-
--- src/main.rt:108:13
-stamps-requires : tie.Need-stamps-requires
-stamps-requires c κs = search needs
-
--- src/main.rt:109:13
-markers-requires : tie.Need-markers-requires
-markers-requires c κs = search needs
-
--- src/main.rt:112:9
 returns : tie.Need-returns
 returns c = search needs
 
--- src/main.rt:114:24
-array-share-prefix-a : tie.Need-array-share-prefix-a
-array-share-prefix-a c = search needs
-
--- src/main.rt:114:24
-slice-aggregate-fed : tie.Need-slice-aggregate-fed
-slice-aggregate-fed c = ?
-
--- src/main.rt:114:34
-array-share-prefix-x : tie.Need-array-share-prefix-x
-array-share-prefix-x c = search needs
-
--- src/main.rt:114:34
-slice-aggregate-fed-2 : tie.Need-slice-aggregate-fed-2
-slice-aggregate-fed-2 c = ?
-
--- src/main.rt:114:44
-array-share-prefix-m : tie.Need-array-share-prefix-m
-array-share-prefix-m c = search needs
-
--- src/main.rt:114:44
-slice-aggregate-fed-3 : tie.Need-slice-aggregate-fed-3
-slice-aggregate-fed-3 c = ?
-
--- src/main.rt:114:54
-slice-aggregate-fed-4 : tie.Need-slice-aggregate-fed-4
-slice-aggregate-fed-4 c = search needs
-
--- src/main.rt:114:9
-fed-requires : tie.Need-fed-requires
-fed-requires c κs = search needs
-
--- src/main.rt:117:9
 returns-2 : tie.Need-returns-2
 returns-2 c = search needs
 
--- src/main.rt:119:16
-mul-from : tie.Need-mul-from
-mul-from c = search needs
+returns-3 : tie.Need-returns-3
+returns-3 c = search needs
 
--- src/main.rt:120:20
-mul-fed : tie.Need-mul-fed
-mul-fed c = search needs
-
--- src/main.rt:120:20
-part-fed-start : tie.Need-part-fed-start
-part-fed-start c = search needs
-
--- src/main.rt:120:20
-part-fed-end : tie.Need-part-fed-end
-part-fed-end c = search needs
-
--- src/main.rt:120:30
-mul-fed-2 : tie.Need-mul-fed-2
-mul-fed-2 c = search needs
-
--- src/main.rt:120:30
-part-fed-start-2 : tie.Need-part-fed-start-2
-part-fed-start-2 c = search needs
-
--- src/main.rt:120:30
-part-fed-end-2 : tie.Need-part-fed-end-2
-part-fed-end-2 c = search needs
-
--- src/main.rt:120:40
-part-fed-start-3 : tie.Need-part-fed-start-3
-part-fed-start-3 c = search needs
-
--- src/main.rt:120:40
-part-fed-end-3 : tie.Need-part-fed-end-3
-part-fed-end-3 c = search needs
-
--- src/main.rt:120:50
-mul-rows : tie.Need-mul-rows
-mul-rows c = search needs
-
--- src/main.rt:120:50
 sub-fed : tie.Need-sub-fed
 sub-fed c = search needs
 
--- src/main.rt:120:50
-part-rows-start : tie.Need-part-rows-start
-part-rows-start c = search needs
+part-fed-start : tie.Need-part-fed-start
+part-fed-start c = search needs
 
--- src/main.rt:120:50
-part-rows-end : tie.Need-part-rows-end
-part-rows-end c = search needs
+part-fed-end : tie.Need-part-fed-end
+part-fed-end c = search needs
 
--- src/main.rt:120:9
+sub-fed-2 : tie.Need-sub-fed-2
+sub-fed-2 c = search needs
+
+part-fed-start-2 : tie.Need-part-fed-start-2
+part-fed-start-2 c = search needs
+
+part-fed-end-2 : tie.Need-part-fed-end-2
+part-fed-end-2 c = search needs
+
+sub-fed-3 : tie.Need-sub-fed-3
+sub-fed-3 c = search needs
+
+part-fed-start-3 : tie.Need-part-fed-start-3
+part-fed-start-3 c = search needs
+
+part-fed-end-3 : tie.Need-part-fed-end-3
+part-fed-end-3 c = search needs
+
+fed-requires : tie.Need-fed-requires
+fed-requires c κs = search needs
+
+same-length : tie.Need-same-length
+same-length c = search needs
+
+returns-4 : tie.Need-returns-4
+returns-4 c = search needs
+
+mul-from : tie.Need-mul-from
+mul-from c = search needs
+
+same-length-2 : tie.Need-same-length-2
+same-length-2 c = search needs
+
+returns-5 : tie.Need-returns-5
+returns-5 c = search needs
+
+mul-fed : tie.Need-mul-fed
+mul-fed c = let e = c .before .before .before .before .before .before .before .before .before .before in
+    let s = e .before .before .before .before in
+    omega (arith, e .if1 .left, s .good .1 .0)
+
+sub-fed-4 : tie.Need-sub-fed-4
+sub-fed-4 c = search needs
+
+part-fed-start-4 : tie.Need-part-fed-start-4
+part-fed-start-4 c = search needs
+
+part-fed-end-4 : tie.Need-part-fed-end-4
+part-fed-end-4 c = search needs
+
+mul-fed-2 : tie.Need-mul-fed-2
+mul-fed-2 c = let e = c .before .before .before .before .before .before .before .before .before .before .before in
+    let s = e .before .before .before .before in
+    omega (arith, e .before .before .before .before .good .1 .1 .0, c .before .before .before .before .before .before .before .before .before .before .if2 .left)
+
+sub-fed-5 : tie.Need-sub-fed-5
+sub-fed-5 c = search needs
+
+part-fed-start-5 : tie.Need-part-fed-start-5
+part-fed-start-5 c = search needs
+
+part-fed-end-5 : tie.Need-part-fed-end-5
+part-fed-end-5 c = search needs
+
+sub-fed-6 : tie.Need-sub-fed-6
+sub-fed-6 c = search needs
+
+part-fed-start-6 : tie.Need-part-fed-start-6
+part-fed-start-6 c = search needs
+
+part-fed-end-6 : tie.Need-part-fed-end-6
+part-fed-end-6 c = search needs
+
+mul-fed-3 : tie.Need-mul-fed-3
+mul-fed-3 c = search needs
+
+sub-fed-7 : tie.Need-sub-fed-7
+sub-fed-7 c = search needs
+
+part-fed-start-7 : tie.Need-part-fed-start-7
+part-fed-start-7 c = search needs
+
+part-fed-end-7 : tie.Need-part-fed-end-7
+part-fed-end-7 c = search needs
+
 fed-requires-2 : tie.Need-fed-requires-2
 fed-requires-2 c κs = search needs
 
--- src/main.rt:121:16
-slice-aggregate-print-rows : tie.Need-slice-aggregate-print-rows
-slice-aggregate-print-rows c = ?
+same-length-3 : tie.Need-same-length-3
+same-length-3 c = search needs
 
--- src/main.rt:121:5
-print-rows-requires : tie.Need-print-rows-requires
-print-rows-requires c κs = search needs
-
--- src/main.rt:122:5
-print-state-requires : tie.Need-print-state-requires
-print-state-requires c κs = search needs
-
--- src/main.rt:106:1
-returns-3 : tie.Need-returns-3
-returns-3 c = search needs
+returns-6 : tie.Need-returns-6
+returns-6 c = search needs
 
 pub cut-spec : {M : Type 1} → statement M
 cut-spec =
     tie.close
     (tie.spec
-    arrivals-requires
-    stamps-requires
-    markers-requires
     returns
-    array-share-prefix-a
-    slice-aggregate-fed
-    array-share-prefix-x
-    slice-aggregate-fed-2
-    array-share-prefix-m
-    slice-aggregate-fed-3
-    slice-aggregate-fed-4
-    fed-requires
     returns-2
-    mul-from
-    mul-fed
+    returns-3
+    sub-fed
     part-fed-start
     part-fed-end
-    mul-fed-2
+    sub-fed-2
     part-fed-start-2
     part-fed-end-2
+    sub-fed-3
     part-fed-start-3
     part-fed-end-3
-    mul-rows
-    sub-fed
-    part-rows-start
-    part-rows-end
+    fed-requires
+    same-length
+    returns-4
+    mul-from
+    same-length-2
+    returns-5
+    mul-fed
+    sub-fed-4
+    part-fed-start-4
+    part-fed-end-4
+    mul-fed-2
+    sub-fed-5
+    part-fed-start-5
+    part-fed-end-5
+    sub-fed-6
+    part-fed-start-6
+    part-fed-end-6
+    mul-fed-3
+    sub-fed-7
+    part-fed-start-7
+    part-fed-end-7
     fed-requires-2
-    slice-aggregate-print-rows
-    print-rows-requires
-    print-state-requires
-    returns-3)
+    same-length-3
+    returns-6)

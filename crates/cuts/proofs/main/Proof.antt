@@ -1,55 +1,51 @@
+-- One line for each place, from none to all.
+use Prim.Native.Nat.{ℕ, _+_, _*_, _-_, _≤_, _<_}
+use mathlib.Core.Path.{_≡_}
+use native.Mathlib.Omega.{arith}
+use lib.ListN.{length, length-set}
+use borrow.Author.Needs.{needs}
 use Rattle.cuts.proofs.main.Statement.{statement}
 use Rattle.cuts.proofs.main.Tie as tie
 use Rattle.cuts.proofs.main.Reads as reads
 use Rattle.cuts.proofs.main.Lts as lts
-use Rattle.cuts.proofs.cut.Reads as cut-reads
+use Rattle.cuts.proofs.print_line.Reads as print-line-reads
 use Rattle.timing.proofs.StreamNumbers.set_up.Reads as set-up-reads
 
 abbrev Inv-loop : tie.InvT-loop
-Inv-loop start at₀ at = ?
+Inv-loop start at₀ at = at ≤ 12
 
 abbrev μ-loop : tie.MeasureT-loop
-μ-loop start at₀ at = ?
+μ-loop start at₀ at = 12 - at
 
--- src/main.rt:135:9
 set-up-requires : tie.Need-set-up-requires Inv-loop μ-loop
-set-up-requires c κs = ?
+set-up-requires c κs = search needs
 
--- src/main.rt:136:22
 enum-known-answer : tie.Need-enum-known-answer Inv-loop μ-loop
-enum-known-answer c = ?
+enum-known-answer c = search needs
 
--- src/main.rt:137:9
 enum-told : tie.Need-enum-told Inv-loop μ-loop
-enum-told c = ?
+enum-told c = search needs
 
--- src/main.rt:137:9
 returns : tie.Need-returns Inv-loop μ-loop
-returns c = ?
+returns c = search needs
 
--- src/main.rt:140:5
 loop-holds : tie.Need-loop-holds Inv-loop μ-loop
-loop-holds c = ?
+loop-holds c = search needs
 
--- src/main.rt:141:9
-cut-requires : tie.Need-cut-requires Inv-loop μ-loop
-cut-requires c κs = ?
+print-line-requires : tie.Need-print-line-requires Inv-loop μ-loop
+print-line-requires c κs = search needs
 
--- src/main.rt:142:9
 add-at : tie.Need-add-at Inv-loop μ-loop
-add-at c = ?
+add-at c = search needs
 
--- src/main.rt:140:5
 loop-less : tie.Need-loop-less Inv-loop μ-loop
-loop-less c = ?
+loop-less c = search needs
 
--- src/main.rt:140:5
 loop-again : tie.Need-loop-again Inv-loop μ-loop
-loop-again c = ?
+loop-again c = search needs
 
--- src/main.rt:125:1
 returns-2 : tie.Need-returns-2 Inv-loop μ-loop
-returns-2 c = ?
+returns-2 c = search needs
 
 pub main-spec : {M : Type 1} → statement M
 main-spec =
@@ -62,7 +58,7 @@ main-spec =
     enum-told
     returns
     loop-holds
-    cut-requires
+    print-line-requires
     add-at
     loop-less
     loop-again
