@@ -9,7 +9,7 @@ use Rattle.laws.specs.Count.{count}
 abbrev pub grains : ℕ → ℕ
 grains t = 27 * t
 
--- "N = round(27t/F), halves up": N·F is at most half of F after g, and g is less than half of F after N·F. One N is so: proofs/Nearest.antt.
+-- "N = round(27t/F), halves up": N·F is at most half of F after g, and g is less than half of F after N·F. One N is so: proofs/Rounding.antt.
 pub record Nearest (g F N : ℕ) : Type 0 where
   pub low : 2 * (N * F) ≤ 2 * g + F
   pub high : 2 * g < 2 * (N * F) + F
@@ -52,7 +52,7 @@ latency g stamp = subℕ g (encoded g stamp)
 abbrev pub InstantBy : ℕ → ℕ → ℕ → ℕ → Type 0
 InstantBy num den k e = k * num ≤ e * den
 
--- how many are: k is at most this exactly when instant k is at most e (proofs/Instants.antt)
+-- how many are: k is at most this exactly when instant k is at most e (proofs/InstantCount.antt)
 abbrev pub instants : ℕ → ℕ → ℕ → ℕ
 instants e num den = e * den / num
 

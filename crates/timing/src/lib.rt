@@ -213,13 +213,13 @@ impl State {
     {
         let packets = self.past.packets;
         let bucket = self.bucket;
-        let network = bucket.network;
+        let answer = bucket.network;
         all(
             bucket.level <= packets,
             bucket.start <= packets,
             bucket.peak <= packets,
-            network.first() <= packets,
-            network.last() <= packets,
+            answer.first() <= packets,
+            answer.last() <= packets,
         )
     }
 
