@@ -1,13 +1,13 @@
 -- The code's step, packet by packet from the empty bucket, goes through the states that the whole history declares by place.
 use mathlib.Core.Path.{_≡_, refl, sym, ap, _∙_}
 use mathlib.Core.Bool.{Bool, true, false}
-use mathlib.Core.List.{List}
+use mathlib.Core.List.{List, flatten}
 use Prim.Native.Nat.{ℕ, zero, suc, _+_, _-_, _≤_, _<_}
 use native.Mathlib.Omega.{arith}
 use native.Mathlib.Nat.{zero-sub}
 use lib.Dec.{leb·zero}
 use lib.ListN.{length, getD}
-use Rattle.laws.specs.Fold.{fold, fold-states}
+use Rattle.laws.specs.Fold.{fold, fold-states, fold-pieces, fold-joined}
 use Rattle.bucket.specs.declared.Bucket.{Bucket}
 use Rattle.bucket.specs.Step.{emptyOf, stepOf, levelAt, startAt, networkAt, bucketAt, drainsSince}
 
@@ -33,3 +33,7 @@ unfolding bucketAt
 stepped-through D limit l each =
     fold-states (seenStep limit) l 0 (λ i. record { packets = i; bucket = bucketAt D limit i })
     (λ i h. rw (each i h, step-by-place D limit i))
+
+-- stepping through a list cut into any pieces gives the state of stepping through the whole
+pub cut-anywhere : (limit : ℕ) (s : Seen) (pieces : List (List ℕ)) → fold-pieces (seenStep limit) s pieces ≡ fold (seenStep limit) s (flatten pieces)
+cut-anywhere limit s pieces = fold-joined (seenStep limit) s pieces

@@ -9,6 +9,8 @@ use Rattle.timing.specs.declared.StreamNumbers.{StreamNumbers}
 use Rattle.timing.specs.declared.State.{State}
 use Rattle.timing.specs.declared.SetUp.{SetUp}
 use Rattle.timing.specs.declared.SetUp.the-variants.{Fresh, Refused}
+use Rattle.timing.specs.declared.Fed.{Fed}
+use Rattle.timing.specs.declared.Fed.the-variants.{Accepted, Refused as Fed-Refused}
 use Rattle.timing.specs.declared.Verdict.{Verdict}
 use Rattle.timing.specs.declared.Judged.{Judged}
 use Rattle.timing.specs.declared.Judged.the-variants.{Given, Refused as Not-Judged}
@@ -40,3 +42,28 @@ graphOf fpt margin latency =
     (Not-Drawn 16))
     (Not-Drawn 16))
     (Not-Drawn 16)
+
+-- For each answer that is an enum, the paper's number, 0 where nothing is refused, and its place.
+abbrev pub fedNumber : Fed → ℕ
+fedNumber (Accepted s) = 0
+fedNumber (Fed-Refused number place s) = number
+
+abbrev pub fedPlace : Fed → ℕ
+fedPlace (Accepted s) = 0
+fedPlace (Fed-Refused number place s) = place
+
+abbrev pub fedState : Fed → State
+fedState (Accepted s) = s
+fedState (Fed-Refused number place s) = s
+
+abbrev pub setUpNumber : SetUp → ℕ
+setUpNumber (Fresh s) = 0
+setUpNumber (Refused number) = number
+
+abbrev pub judgedNumber : Judged → ℕ
+judgedNumber (Given v) = 0
+judgedNumber (Not-Judged number) = number
+
+abbrev pub drawnNumber : Drawn → ℕ
+drawnNumber (Figures g) = 0
+drawnNumber (Not-Drawn number) = number

@@ -7,11 +7,13 @@ use Prim.Native.Nat.{ℕ, suc, _+_, _*_, _≤_, _<_}
 use native.Mathlib.Omega.{arith}
 use lib.Dec.{ltb}
 use lib.IntN.{ℤ}
-use lib.ListN.{length}
+use lib.ListN.{length, drop}
 use Rattle.laws.specs.Climb.{Climbs}
-use Rattle.laws.specs.Lay.{laid}
+use Rattle.laws.specs.Lay.{laid, laid-is}
+use Rattle.limits.specs.Paper.{classOf, cMax, vrxFull, troGrains}
+use Rattle.packet.specs.declared.Refusal.{Refusal}
 use Rattle.packet.specs.declared.Scanned.the-variants.{Fine, Refused as Scan-Refused}
-use Rattle.packet.specs.Paper.{Packet, packets, at, declared}
+use Rattle.packet.specs.Paper.{Packet, OneLength, packets, at, declared}
 use Rattle.packet.specs.Step.{nothing}
 use Rattle.packet.proofs.Declared.{scan-declared}
 use Rattle.bucket.specs.Paper as BP
@@ -26,15 +28,17 @@ use Rattle.frame.proofs.BufferOfFrames as FF
 use Rattle.timing.specs.declared.StreamNumbers.{StreamNumbers}
 use Rattle.timing.specs.declared.State.{State}
 use Rattle.timing.specs.declared.Fed.the-variants.{Accepted, Refused}
-use Rattle.timing.specs.Step.{setUpOf, rulesOf, freshOf, stateAfter, rowsAfter, numbers}
+use Rattle.timing.specs.Step.{setUpOf, frameOf, rulesOf, freshOf, stateAfter, rowsAfter, numbers}
+use Rattle.timing.specs.declared.Judged.the-variants.{Given}
+use Rattle.timing.specs.Answers.{verdictOf}
 use Rattle.timing.specs.Range.{inRange, Sound}
 use Rattle.timing.specs.Feed.{Passes, Outcome, feedOf, feedAll, Call, allOf, Deals, Rooms}
 use Rattle.timing.specs.History.{bucketHistory, frameHistory, stateAt, rowsTo}
 use Rattle.timing.specs.Laws.InRange.{sound-fresh, of-sound, sound-of}
 use Rattle.timing.specs.Laws.Planning.{planned, frame-long}
 use Rattle.timing.specs.Laws.Scanning.{scan-runs}
-use Rattle.timing.specs.Laws.Feeding.{refused-stays, accepted-from, nothing-fed}
-use Rattle.timing.specs.Laws.Declared.{state-declared, rows-declared, arrivals-climb}
+use Rattle.timing.specs.Laws.Feeding.{refused-stays, feed-slices, accepted-from, nothing-fed, refused-call}
+use Rattle.timing.specs.Laws.Declared.{state-declared, rows-declared, arrivals-climb, scan-of-call}
 use Rattle.timing.specs.Laws.Dealing.{sound-after, deals}
 
 -- ---- Demand 1: "Bad input gets the numbered refusal of document 01, exactly when its table says, with the state and lent rows as they were."
@@ -43,6 +47,10 @@ use Rattle.timing.specs.Laws.Dealing.{sound-after, deals}
 pub refusal-changes-nothing : (s t : State) (rows : List ℤ) (ts ss ms : List ℕ) (number place : ℕ) → (feedOf s rows ts ss ms) .answer ≡ Refused number place t
     → (t ≡ s) × ((feedOf s rows ts ss ms) .rows ≡ rows)
 refusal-changes-nothing = refused-stays
+
+-- slices of one length are answered as the packets that they hold; 10 is for any others
+pub slices-are-packets : (s : State) (rows : List ℤ) (ts ss ms : List ℕ) → OneLength ts ss ms → feedOf s rows ts ss ms ≡ feedAll s rows (packets ts ss ms)
+slices-are-packets = feed-slices
 
 -- 9 is for no state that set-up gives, and for none that an accepted call gives: no range is narrower than what accepted calls reach.
 pub fresh-in-range : (x : StreamNumbers) → setUpOf x ≡ 0 → inRange (freshOf x) ≡ true
@@ -76,6 +84,12 @@ module _ (x : StreamNumbers) (set-up : setUpOf x ≡ 0) (l : List Packet) (close
   pub state-of-history : S ≡ stateAt x l (length l)
   state-of-history = state-declared x l
 
+  -- "If a list fails at a packet by 11 to 14, the first refused call of any cutting names the same number and place, given room.": the call l after
+  -- the accepted calls before it, wherever they were cut
+  pub first-refusal : (call : List Packet) (rows : List ℤ) (r : Refusal) → declared (l ++ call) ≡ Scan-Refused r
+      → feedAll S rows call ≡ record { answer = Refused (r .number) (r .place) S; rows = rows }
+  first-refusal call rows r e = refused-call S rows call r (of-sound S (sound-after l (freshOf x) (sound-fresh x set-up) passes)) (scan-of-call x l call closed r accepted e)
+
   -- ---- Demand 2: "Frame times, offsets, latency, margin, gap, levels and limits equal the exact fractions; every other row number, the counts and the
   -- buffer answer are document 01's."
 
@@ -99,6 +113,13 @@ module _ (x : StreamNumbers) (set-up : setUpOf x ≡ 0) (l : List Packet) (close
       let f = frameHistory x l in
       (FS.rowOf plan (FP.numberAt f i) (FB.markedTime plan f i) (FB.closedAt plan f i), rw e, FR.row-is (rulesOf x .plan) (frameHistory x l) in-order i h (planned x set-up) e)
 
+  -- C_MAX, VRX_FULL, TRO and the reads' spacing are the paper's fractions of the stream numbers (limits/specs/Paper.antt)
+  pub limits-are : (rulesOf x .limit ≡ cMax (classOf (x .class)) (x .schedule) (frameOf x) (x .n))
+      × (rulesOf x .plan .full ≡ vrxFull (classOf (x .class)) (x .maxudp) (frameOf x) (x .n))
+      × (rulesOf x .plan .tro ≡ troGrains (frameOf x) (x .height) (x .tro))
+  unfolding rulesOf
+  limits-are = (refl, refl, refl)
+
   pub buffer-answer : FP.BufferIs (rulesOf x .plan) (frameHistory x l) (S .frames .buffer)
   unfolding stateAt FB.framesAt
   buffer-answer = subst (λ (s : State). FP.BufferIs (rulesOf x .plan) (frameHistory x l) (s .frames .buffer)) (sym state-of-history)
@@ -112,6 +133,15 @@ module _ (x : StreamNumbers) (set-up : setUpOf x ≡ 0) (l : List Packet) (close
   dealt-over-calls calls e room =
       subst (λ (m : List Packet). Deals (freshOf x) calls (stateAfter (rulesOf x) (freshOf x) m) (numbers (rowsAfter (rulesOf x) (freshOf x) m))) e
       (deals calls (freshOf x) (sound-fresh x set-up) (subst (Passes nothing) (sym e) passes) room)
+
+  -- the verdict of S is its two answers
+  pub verdict-given : verdictOf S ≡ Given (record { network = S .bucket .network; buffer = S .frames .buffer })
+  unfolding verdictOf
+  verdict-given = rw (of-sound S (sound-after l (freshOf x) (sound-fresh x set-up) passes))
+
+  -- "Unused row numbers stay untouched.": what a call writes, and behind it what stood there
+  pub rows-behind-stay : (out rows : List ℤ) → length out ≤ length rows → laid 0 out rows ≡ out ++ drop (length out) rows
+  rows-behind-stay out rows room = laid-is [] out rows room
 
   long : 0 < bucketHistory x l .frame
   long = omega (arith, frame-long x set-up)

@@ -5,7 +5,8 @@
 ghost use mathlib.Core.Path.{_≡_};
 ghost use mathlib.Core.Bool.{_&&_};
 ghost use mathlib.Core.List.{[], _∷_};
-ghost use Prim.Native.Nat.{_-_};
+ghost use Prim.Native.Nat.{_-_, _*_};
+ghost use Rattle.grain.specs.Paper.{grains as grainsOf, tick};
 ghost use Rattle.timing.specs.Step.{setUpOf, frameOf, rulesOf, freshOf, arriveOf, markOf};
 ghost use Rattle.timing.specs.Range.{every, implies as impliesOf, pastRanges, bucketRanges, countRanges, openRanges, keptRanges, inRange};
 ghost use Prim.Native.Nat.{_≤_};
@@ -98,6 +99,21 @@ impl StreamNumbers {
     pub const GRAINS_PER_NANOSECOND: u64 = 27;
 
     pub const GRAINS_PER_TICK: u64 = 300000;
+
+    // The grains of a time in nanoseconds that is short enough, as 600 s are.
+    pub fn grains(ns: u64) -> u64
+        requires { ⌜ ns ≤ 600000000000 ⌝ }
+        ensures { λ r. ⌜ r ≡ grainsOf ns ⌝ }
+    {
+        StreamNumbers::GRAINS_PER_NANOSECOND * ns
+    }
+
+    // The grains of a timestamp's ticks.
+    pub fn ticks(stamp: u32) -> u64
+        ensures { λ r. ⌜ r ≡ tick * stamp ⌝ }
+    {
+        StreamNumbers::GRAINS_PER_TICK * (stamp as u64)
+    }
 
     // 0, or the number 1 to 7 by which set-up refuses.
     pub fn refusal(self) -> u8
@@ -308,7 +324,8 @@ impl State {
         let numbers = self.numbers;
         let plan = rules.plan;
         let since = past.elapsed(t);
-        let drained = grain::instants(self.drained, 27 * since, rules.spacing, rules.share);
+        let elapsed = StreamNumbers::grains(since);
+        let drained = grain::instants(self.drained, elapsed, rules.spacing, rules.share);
         State {
             numbers,
             past: past.next(t),

@@ -13,10 +13,14 @@ use Rattle.laws.specs.Fold.{fold, fold-up-to, fold-states}
 use Rattle.grain.specs.Paper.{instants}
 use borrow.Author.Tests.{ltb-false}
 use Rattle.laws.specs.Climb.{Climbs}
-use Rattle.packet.specs.declared.Scanned.the-variants.{Fine}
+use Rattle.packet.specs.declared.Refusal.{Refusal}
+use Rattle.packet.specs.declared.Scanned.{Scanned}
+use Rattle.packet.specs.declared.Scanned.the-variants.{Fine, Refused}
 use Rattle.packet.specs.Paper.{Packet, nought, marked, at, earlierAt, refusalAt, declared, pastAt}
-use Rattle.packet.specs.Step.{firstOf, elapsedOf, nextOf}
-use Rattle.packet.proofs.Declared.{next-at, fine-everywhere}
+use Rattle.packet.specs.Step.{nothing, firstOf, elapsedOf, nextOf, scanOf}
+use Rattle.packet.specs.Calls.{pastAfter, begunAfter, andThen, more}
+use Rattle.packet.proofs.Cutting.{scan-cut, scan-more}
+use Rattle.packet.proofs.Declared.{scan-declared, past-after, begun-after, next-at, fine-everywhere}
 use Rattle.bucket.specs.Paper as BP
 use Rattle.bucket.specs.Step as B
 use Rattle.bucket.proofs.ByPlace as BB
@@ -127,3 +131,34 @@ unfolding refusalAt
 arrivals-climb l n e i h =
     ltb-false (at l (suc i) .time) (at l i .time) (not-earlier (ltb 1 (at l (suc i) .marker)) (earlierAt l (suc i)) (ltb 600000000000 (at l (suc i) .time - at l 0 .time)) (leb 1000000000 (suc i))
     (fine-everywhere l n (suc i) e h))
+
+-- ---- a call after an accepted history
+
+more-refused : (closed : ℕ) (x : Scanned) (r : Refusal) → more closed x ≡ Refused r → x ≡ Refused r
+more-refused closed (Fine n) r e = let z : _≡_ {A = ℕ} 0 1 = cc in absurd (omega arith)
+more-refused closed (Refused q) r e = e
+
+-- the scan of a call that follows a history finds what the scan of the whole finds
+scan-after : (h l : List Packet) (closed : ℕ) (r : Refusal) → declared h ≡ Fine closed → declared (h ++ l) ≡ Refused r
+    → scanOf (pastAfter nothing h) (begunAfter false h) 0 l ≡ Refused r
+scan-after h l closed r e f =
+    let whole : andThen (scanOf nothing false 0 h) (λ n. scanOf (pastAfter nothing h) (begunAfter false h) n l) ≡ Refused r =
+    sym (scan-cut nothing false 0 h l) ∙ scan-declared (h ++ l) ∙ f in
+    let rest : scanOf (pastAfter nothing h) (begunAfter false h) closed l ≡ Refused r =
+    subst (λ (x : Scanned). andThen x (λ n. scanOf (pastAfter nothing h) (begunAfter false h) n l) ≡ Refused r) (scan-declared h ∙ e) whole in
+    let zero-more : closed + 0 ≡ closed = omega arith in
+    more-refused closed (scanOf (pastAfter nothing h) (begunAfter false h) 0 l) r
+    (sym (scan-more (pastAfter nothing h) (begunAfter false h) closed 0 l) ∙ ap (λ (k : ℕ). scanOf (pastAfter nothing h) (begunAfter false h) k l) zero-more ∙ rest)
+
+module _ (x : StreamNumbers) (h : List Packet) where
+  past-of : (stateAfter (rulesOf x) (freshOf x) h) .past ≡ pastAfter nothing h
+  unfolding stateAt
+  past-of = ap (λ (s : State). s .past) (state-declared x h) ∙ sym (past-after h)
+
+  begun-of : (stateAfter (rulesOf x) (freshOf x) h) .frames .begun ≡ begunAfter false h
+  unfolding stateAt F.framesAt
+  begun-of = ap (λ (s : State). s .frames .begun) (state-declared x h) ∙ sym (begun-after h)
+
+  pub scan-of-call : (l : List Packet) (closed : ℕ) (r : Refusal) → declared h ≡ Fine closed → declared (h ++ l) ≡ Refused r
+      → scanOf ((stateAfter (rulesOf x) (freshOf x) h) .past) ((stateAfter (rulesOf x) (freshOf x) h) .frames .begun) 0 l ≡ Refused r
+  scan-of-call l closed r e f = rw (past-of, begun-of) (scan-after h l closed r e f)

@@ -138,3 +138,9 @@ nothing-fed s rows e = rw e (rw (le-leb 0 (length rows) (omega arith)))
 pub feed-slices : (s : State) (rows : List ℤ) (ts ss ms : List ℕ) → OneLength ts ss ms → feedOf s rows ts ss ms ≡ feedAll s rows (packets ts ss ms)
 unfolding feedOf feedAll
 feed-slices s rows ts ss ms o = rw (lengths-same (s .past) (s .frames .begun) ts ss ms o)
+
+-- a scan's refusal is the call's
+pub refused-call : (s : State) (rows : List ℤ) (l : List Packet) (r : Refusal) → inRange s ≡ true → scanOf (s .past) (s .frames .begun) 0 l ≡ Scan-Refused r
+    → feedAll s rows l ≡ refusedBy s rows (r .number) (r .place)
+unfolding feedAll
+refused-call s rows l r e f = rw (e, f)

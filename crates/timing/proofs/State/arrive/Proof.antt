@@ -6,7 +6,6 @@ use Rattle.grain.specs.Paper.{instants}
 use Rattle.bucket.specs.Step as B
 use Rattle.packet.specs.Step.{elapsedOf}
 use Rattle.timing.specs.Step.{arriveOf, drainedOf}
-use Rattle.timing.specs.Step.{arriveOf}
 use borrow.Author.Needs.{needs}
 use Rattle.timing.proofs.State.arrive.Statement.{statement}
 use Rattle.timing.proofs.State.arrive.Tie as tie
@@ -14,13 +13,14 @@ use Rattle.timing.proofs.State.arrive.Tie as tie
 elapsed-requires : tie.Need-elapsed-requires
 elapsed-requires c κs = search needs
 
-mul-instants : tie.Need-mul-instants
-mul-instants c = search needs
+grains-requires : tie.Need-grains-requires
+grains-requires c κs = let s = c .before .before .before .before .before .before in omega (arith, c .elapsed .ensures, s .pre .since)
 
 instants-requires : tie.Need-instants-requires
-instants-requires c κs = let s = c .before .before .before .before .before .before in
+instants-requires c κs = let e = c .before in
+    let s = e .before .before .before .before .before .before in
     let p = s .pre in
-    (p .apart, p .guess, rw (c .elapsed .ensures) (p .reach))
+    (p .apart, p .guess, rw (c .grains .ensures, e .elapsed .ensures) (p .reach))
 
 next-requires : tie.Need-next-requires
 next-requires c κs = search needs
@@ -38,9 +38,10 @@ returns : tie.Need-returns
 unfolding arriveOf
 returns c = let n = c .before .before .before in
     let i = n .before in
-    let a = i .before .before .before .before .before .before .before .args in
+    let a = i .before .before .before .before .before .before .before .before .args in
+    let grains : i .before .grains .result ≡ 27 * elapsedOf (a .self .past) (a .t) = i .before .grains .ensures ∙ ap (λ (n : ℕ). 27 * n) (i .before .before .elapsed .ensures) in
     let drained : i .instants .result ≡ drainedOf (a .rules) (a .self .past) (a .t) =
-    i .instants .ensures ∙ ap (λ (n : ℕ). instants (27 * n) (a .rules .spacing) (a .rules .share)) (i .before .elapsed .ensures) in
+    i .instants .ensures ∙ ap (λ (n : ℕ). instants n (a .rules .spacing) (a .rules .share)) grains in
     let drains : c .before .before .less .result ≡ drainedOf (a .rules) (a .self .past) (a .t) - a .self .drained =
     c .before .before .less .ensures ∙ ap (λ (d : ℕ). d - a .self .drained) drained in
     λ j. record {
@@ -56,7 +57,7 @@ arrive-spec =
     tie.close
     (tie.spec
     elapsed-requires
-    mul-instants
+    grains-requires
     instants-requires
     next-requires
     less-requires
