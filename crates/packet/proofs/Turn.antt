@@ -58,23 +58,8 @@ module _ (past : Past) (begun : Bool) (closed : ℕ) {p : Packet} {l ps : List P
       (λ e x. eqb-true _ 0 e) (λ e x. absurd x)
       (subst (λ (l : List Packet). Ready (scanOf past begun closed l) room) c r)
 
-  pub ready-next : (room : ℕ) → Ready (scanOf past begun closed l) room
-      → Ready (scanOf (nextOf past (p .time)) (begun || marked p) (closed + closes begun p) ps) room
-  ready-next room r = subst (λ (s : Scanned). Ready s room) (scan-goes (ready-accepted room r)) r
-
--- there is room for the frames that closed before
-pub ready-room : (l : List Packet) (past : Past) (begun : Bool) (closed room : ℕ)
-    → Ready (scanOf past begun closed l) room → closed ≤ room
-unfolding scanOf
-ready-room [] past begun closed room r = r
-ready-room (p ∷ ps) past begun closed room r =
-    omega (arith, ready-room ps _ _ _ room (ready-next past begun closed {p = p} {l = p ∷ ps} {ps = ps} refl room r))
-
 pub fine-ready : (s : Scanned) (n room : ℕ) → s ≡ Fine n → n ≤ room → Ready s room
 fine-ready s n room e h = rw e h
-
-pub fine-least : (l : List Packet) (past : Past) (begun : Bool) (closed n : ℕ) → scanOf past begun closed l ≡ Fine n → closed ≤ n
-fine-least l past begun closed n e = ready-room l past begun closed n (fine-ready _ n n e (omega arith))
 
 -- three lent slices, of one length or not
 module _ (past : Past) (begun : Bool) (ts ss ms : List ℕ) where
