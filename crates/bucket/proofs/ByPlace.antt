@@ -35,5 +35,6 @@ stepped-through D limit l each =
     (λ i h. rw (each i h, step-by-place D limit i))
 
 -- stepping through a list cut into any pieces gives the state of stepping through the whole
-pub cut-anywhere : (limit : ℕ) (s : Seen) (pieces : List (List ℕ)) → fold-pieces (seenStep limit) s pieces ≡ fold (seenStep limit) s (flatten pieces)
+pub cut-anywhere : (limit : ℕ) (s : Seen) (pieces : List (List ℕ)) → fold-pieces (seenStep limit) s pieces
+    ≡ fold (seenStep limit) s (flatten pieces)
 cut-anywhere limit s pieces = fold-joined (seenStep limit) s pieces

@@ -34,14 +34,17 @@ module _ (h : History) (p : 0 < h .frame) (mono : Climbs (drains h) (h .packets)
       let seen : count (λ j. ltb (drains h j) k) (h .packets) ≡ min (h .packets) (suc i) =
       count-up-to (λ j. ltb (drains h j) k) (h .packets) (suc i) (record {
         inside = λ j g t.
-            let early : ¬ (suc i ≤ j) = λ w. omega (arith, ltb-true (drains h j) k t, climbs-le (drains h) (h .packets) mono (suc i) j w g) in omega arith;
+            let early : ¬ (suc i ≤ j) = λ w. omega
+            (arith, ltb-true (drains h j) k t, climbs-le (drains h) (h .packets) mono (suc i) j w g) in omega arith;
         passes = λ j g w. lt-ltb (drains h j) k (omega (arith, climbs-le (drains h) (h .packets) mono j i (omega arith) (omega arith)));
       }) in
-      count-same (comesBefore h k) (λ j. ltb (drains h j) k) (h .packets) (λ j g. below-quotient (elapsed h j * (11 * h .perFrame)) (10 * h .frame) k q)
+      count-same (comesBefore h k) (λ j. ltb (drains h j) k) (h .packets)
+      (λ j g. below-quotient (elapsed h j * (11 * h .perFrame)) (10 * h .frame) k q)
       ∙ seen ∙ omega arith
 
   -- while c packets have arrived in all, each drain finds one until c are gone
-  found-while : (c k : ℕ) → found h k ≤ c → (K : ℕ) → k ≤ K → ((i : ℕ) → k < i → i ≤ K → arrivedBefore h i ≡ c) → found h K ≡ min c (found h k + (K - k))
+  found-while : (c k : ℕ) → found h k ≤ c → (K : ℕ) → k ≤ K → ((i : ℕ) → k < i → i ≤ K → arrivedBefore h i ≡ c) → found h K
+      ≡ min c (found h k + (K - k))
   unfolding found
   found-while c k s zero l e = let z : k ≡ 0 = omega arith in omega (arith, ap (found h) z)
   found-while c k s (suc K) l e = go (λ q. found-while c k s K q (λ i x y. e i x (omega arith))) (le-suc-iff .0 l)

@@ -56,7 +56,8 @@ network-unique h limit Pass Pass x y = refl
 network-unique h limit Pass (Burst r) x y = absurd (x (r .first) (r .last) (y .run) (y .fails))
 network-unique h limit (Burst r) Pass x y = absurd (y (r .first) (r .last) (x .run) (x .fails))
 network-unique h limit (Burst r) (Burst s) x y =
-    let ends : r .last ≡ s .last = omega (arith, x .ends-first (s .first) (s .last) (y .run) (y .fails), y .ends-first (r .first) (r .last) (x .run) (x .fails)) in
+    let ends : r .last ≡ s .last = omega
+    (arith, x .ends-first (s .first) (s .last) (y .run) (y .fails), y .ends-first (r .first) (r .last) (x .run) (x .fails)) in
     let sooner = x .starts-last (s .first) (rw (sym ends) at (y .run)) (rw (sym ends) at (y .fails)) in
     let later = y .starts-last (r .first) (rw ends at (x .run)) (rw ends at (x .fails)) in
     let starts : r .first ≡ s .first = omega arith in
@@ -68,7 +69,8 @@ module _ (h : History) (p : 0 < h .frame) (ordered : Ordered h) where
   drain-instants k i = instants-are (10 * h .frame) (11 * h .perFrame) (omega arith) k (elapsed h i)
 
   pub drains-grow : Climbs (drains h) (h .packets)
-  drains-grow i l = instants-grow (10 * h .frame) (11 * h .perFrame) (omega arith) (elapsed h i) (elapsed h (suc i)) (omega (arith, ordered i l))
+  drains-grow i l = instants-grow (10 * h .frame) (11 * h .perFrame) (omega arith) (elapsed h i) (elapsed h (suc i))
+      (omega (arith, ordered i l))
 
   up : (a b : ℕ) → a ≤ b → b < h .packets → drains h a ≤ drains h b
   up = climbs-le (drains h) (h .packets) drains-grow
@@ -76,17 +78,20 @@ module _ (h : History) (p : 0 < h .frame) (ordered : Ordered h) where
   -- the drain instants of a run, counted one by one among any number of instants that reaches its end
   pub drains-of-run : (a b K : ℕ) → IsRun h a b → drains h b ≤ K → count (drainsRun h a b) K ≡ drains h b - drains h a
   drains-of-run a b K r l =
-      let c = count-between (drainsRun h a b) K (drains h a) (drains h b) (record { inside = λ k g t. inside k t; passes = λ k g. passes k }) in
+      let c = count-between (drainsRun h a b) K (drains h a) (drains h b)
+      (record { inside = λ k g t. inside k t; passes = λ k g. passes k }) in
       omega (arith, up a b (r .starts) (r .ends))
     where
       q : 0 < 10 * h .frame
       q = omega arith
 
       inside : (k : ℕ) → drainsRun h a b k ≡ true → (drains h a ≤ k) × (k < drains h b)
-      inside k = go (leb (suc k * (10 * h .frame)) (elapsed h a * (11 * h .perFrame))) refl (leb (suc k * (10 * h .frame)) (elapsed h b * (11 * h .perFrame))) refl
+      inside k = go (leb (suc k * (10 * h .frame)) (elapsed h a * (11 * h .perFrame))) refl
+          (leb (suc k * (10 * h .frame)) (elapsed h b * (11 * h .perFrame))) refl
         where
           go : (s : Bool) → leb (suc k * (10 * h .frame)) (elapsed h a * (11 * h .perFrame)) ≡ s → (t : Bool)
-              → leb (suc k * (10 * h .frame)) (elapsed h b * (11 * h .perFrame)) ≡ t → (not s && t) ≡ true → (drains h a ≤ k) × (k < drains h b)
+              → leb (suc k * (10 * h .frame)) (elapsed h b * (11 * h .perFrame)) ≡ t → (not s && t) ≡ true → (drains h a ≤ k)
+              × (k < drains h b)
           go true x t y w = absurd (false-true w)
           go false x true y w = (
             let after : drains h a < suc k = div-lt-iff-lt-mul q .1 (leb-false _ _ x) in omega arith,
@@ -104,22 +109,26 @@ module _ (h : History) (p : 0 < h .frame) (ordered : Ordered h) where
 
   at-most : (a b c : ℕ) → IsRun h a b → b + 1 + drains h a ≤ c + drains h b + a → excess h a b ≤ℤ pos c
   at-most a b c r l =
-      differ-le (excess h a b) (pos c) (suc b - a) (drains h b - drains h a) c 0 (differ-sub (suc b - a) (drains h b - drains h a)) (omega arith)
+      differ-le (excess h a b) (pos c) (suc b - a) (drains h b - drains h a) c 0 (differ-sub (suc b - a) (drains h b - drains h a))
+      (omega arith)
       (omega (arith, r .starts, up a b (r .starts) (r .ends)))
 
   equals : (a b c : ℕ) → IsRun h a b → b + 1 + drains h a ≡ c + drains h b + a → excess h a b ≡ pos c
   equals a b c r e =
-      differ-same (excess h a b) (pos c) (suc b - a) (drains h b - drains h a) c 0 (differ-sub (suc b - a) (drains h b - drains h a)) (omega arith)
+      differ-same (excess h a b) (pos c) (suc b - a) (drains h b - drains h a) c 0 (differ-sub (suc b - a) (drains h b - drains h a))
+      (omega arith)
       (omega (arith, r .starts, up a b (r .starts) (r .ends)))
 
   fails-above : (a b c : ℕ) → IsRun h a b → Above (drains h) c a b → Fails h c a b
   fails-above a b c r l =
-      differ-lt (pos c) (excess h a b) c 0 (suc b - a) (drains h b - drains h a) (omega arith) (differ-sub (suc b - a) (drains h b - drains h a))
+      differ-lt (pos c) (excess h a b) c 0 (suc b - a) (drains h b - drains h a) (omega arith)
+      (differ-sub (suc b - a) (drains h b - drains h a))
       (omega (arith, r .starts, up a b (r .starts) (r .ends)))
 
   above-fails : (a b c : ℕ) → IsRun h a b → Fails h c a b → Above (drains h) c a b
   above-fails a b c r l =
-      let s = lt-differ (pos c) (excess h a b) c 0 (suc b - a) (drains h b - drains h a) (omega arith) (differ-sub (suc b - a) (drains h b - drains h a)) l in
+      let s = lt-differ (pos c) (excess h a b) c 0 (suc b - a) (drains h b - drains h a) (omega arith)
+      (differ-sub (suc b - a) (drains h b - drains h a)) l in
       omega (arith, r .starts, up a b (r .starts) (r .ends))
 
   -- ---- the theorems
@@ -129,8 +138,14 @@ module _ (h : History) (p : 0 < h .frame) (ordered : Ordered h) where
   level-greatest i l =
       let n = level-named (drains h) (h .packets) drains-grow i l in
       rw (sym (level-is h p drains-grow i l)) (record {
-        bound = λ a g. at-most a i (levelAt (drains h) i) (record { starts = g; ends = l }) (level-bound (drains h) (h .packets) drains-grow a i g l);
-        met = (startAt (drains h) i, n .within, equals (startAt (drains h) i) i (levelAt (drains h) i) (record { starts = n .within; ends = l }) (n .exact));
+        bound = λ a g. at-most a i (levelAt (drains h) i) (record { starts = g; ends = l })
+            (level-bound (drains h) (h .packets) drains-grow a i g l);
+        met = (
+          startAt (drains h) i,
+          n .within,
+          equals (startAt (drains h) i) i (levelAt (drains h) i)
+              (record { starts = n .within; ends = l }) (n .exact),
+        );
       })
 
   -- the numbers of the declared bucket
@@ -165,7 +180,8 @@ module _ (h : History) (p : 0 < h .frame) (ordered : Ordered h) where
   -- "the network verdict passes exactly when no run's excess is above the class limit, else it names the failing run that ends first and, of
   -- those, starts last"
   pub network-first : (limit : ℕ) → NetworkIs h limit ((bucketAt (drains h) limit (h .packets)) .network)
-  network-first limit = rw (network-at limit (h .packets)) (go (networkAt (drains h) limit (h .packets)) (of-runs (drains h) limit (h .packets) drains-grow))
+  network-first limit = rw (network-at limit (h .packets))
+      (go (networkAt (drains h) limit (h .packets)) (of-runs (drains h) limit (h .packets) drains-grow))
     where
       go : (v : Network) → OfRuns (drains h) limit (h .packets) v → NetworkIs h limit v
       go Pass none = λ a b r f. none a b (r .starts) (r .ends) (above-fails a b limit r f)

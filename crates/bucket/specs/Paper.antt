@@ -51,7 +51,8 @@ module _ (h : History) where
 
   -- instant k + 1 is such a one; counted one by one these are as many as `excess` takes (proofs/Owner.antt, drains-of-run)
   abbrev pub drainsRun : ℕ → ℕ → ℕ → Bool
-  drainsRun a b k = not (leb (suc k * (10 * h .frame)) (elapsed a * (11 * h .perFrame))) && leb (suc k * (10 * h .frame)) (elapsed b * (11 * h .perFrame))
+  drainsRun a b k = not (leb (suc k * (10 * h .frame)) (elapsed a * (11 * h .perFrame))) && leb (suc k * (10 * h .frame))
+      (elapsed b * (11 * h .perFrame))
 
   abbrev pub excess : ℕ → ℕ → ℤ
   excess a b = subℕ (suc b - a) (drains b - drains a)

@@ -32,24 +32,28 @@ module _ (plan : Plan) (p : Planned plan) (h : History) (ordered : Climbs (h .ti
     -- the lack and the top that were kept, over the frame's arrivals
     lacks : (j : ℕ) → j < plan .packets → suc j ≤ arrivedBy plan h (since h i) j + (closedAt plan h i) .deficit
     lacks j l = rw (deficit-is plan h ordered i inside p whole)
-        (D.lack-bound (plan .packets) (firstRead plan h (since h i)) (plan .num) (plan .den) (arrival plan h (since h i)) (up plan h ordered i inside p whole) j l)
+        (D.lack-bound (plan .packets) (firstRead plan h (since h i)) (plan .num) (plan .den) (arrival plan h (since h i))
+        (up plan h ordered i inside p whole) j l)
 
     tops : (j : ℕ) → j < plan .packets → suc j ≤ (closedAt plan h i) .top + readsTo plan h (since h i) j
     tops j l = rw (top-is plan h ordered i inside p whole)
-        (D.top-bound (plan .packets) (firstRead plan h (since h i)) (plan .num) (plan .den) (arrival plan h (since h i)) (up plan h ordered i inside p whole) j l)
+        (D.top-bound (plan .packets) (firstRead plan h (since h i)) (plan .num) (plan .den) (arrival plan h (since h i))
+        (up plan h ordered i inside p whole) j l)
 
     -- "The buffer runs dry where least is below 0.": where there was a lack
     pub is-dry : 0 < (closedAt plan h i) .deficit → Dry plan h (since h i)
     is-dry l = (
       subℕ 0 ((closedAt plan h i) .deficit),
       least-is plan h ordered i inside p whole,
-      differ-lt (subℕ 0 ((closedAt plan h i) .deficit)) (pos 0) 0 ((closedAt plan h i) .deficit) 0 0 (differ-sub 0 ((closedAt plan h i) .deficit)) (omega arith) (omega arith),
+      differ-lt (subℕ 0 ((closedAt plan h i) .deficit)) (pos 0) 0 ((closedAt plan h i) .deficit) 0 0
+          (differ-sub 0 ((closedAt plan h i) .deficit)) (omega arith) (omega arith),
     )
 
     pub not-dry : (closedAt plan h i) .deficit ≤ 0 → ¬ Dry plan h (since h i)
     not-dry none d =
         let m = d .1 .met in
-        let low = lt-differ (subℕ (arrivedBy plan h (since h i) (m .0)) (suc (m .0))) (pos 0) (arrivedBy plan h (since h i) (m .0)) (suc (m .0)) 0 0
+        let low = lt-differ (subℕ (arrivedBy plan h (since h i) (m .0)) (suc (m .0))) (pos 0) (arrivedBy plan h (since h i) (m .0))
+        (suc (m .0)) 0 0
         (differ-sub (arrivedBy plan h (since h i) (m .0)) (suc (m .0))) (omega arith) (subst (λ (z : ℤ). z <ℤ pos 0) (m .2) (d .2)) in
         omega (arith, lacks (m .0) (m .1))
 
@@ -60,21 +64,25 @@ module _ (plan : Plan) (p : Planned plan) (h : History) (ordered : Climbs (h .ti
       where
         same : seek (late plan h (since h i)) (plan .packets) ≡ seek (λ j. ltb j (readsTo plan h (since h i) j)) (plan .packets)
         same = seek-same (late plan h (since h i)) (λ j. ltb j (readsTo plan h (since h i) j)) (plan .packets)
-            (D.late-is (plan .packets) (firstRead plan h (since h i)) (plan .num) (plan .den) (arrival plan h (since h i)) (up plan h ordered i inside p whole))
+            (D.late-is (plan .packets) (firstRead plan h (since h i)) (plan .num) (plan .den) (arrival plan h (since h i))
+            (up plan h ordered i inside p whole))
 
     -- "over (VRX peak above VRX_FULL)"
     pub is-overfull : plan .full < (closedAt plan h i) .top → Overfull plan h (since h i)
     is-overfull l = (
       pos ((closedAt plan h i) .top),
       peak-is plan h ordered i inside p whole,
-      differ-lt (pos (plan .full)) (pos ((closedAt plan h i) .top)) (plan .full) 0 ((closedAt plan h i) .top) 0 (omega arith) (omega arith) (omega arith),
+      differ-lt (pos (plan .full)) (pos ((closedAt plan h i) .top)) (plan .full) 0 ((closedAt plan h i) .top) 0 (omega arith)
+          (omega arith) (omega arith),
     )
 
     pub not-overfull : (closedAt plan h i) .top ≤ plan .full → ¬ Overfull plan h (since h i)
     not-overfull few o =
         let m = o .1 .met in
-        let high = lt-differ (pos (plan .full)) (subℕ (suc (m .0)) (readsTo plan h (since h i) (m .0))) (plan .full) 0 (suc (m .0)) (readsTo plan h (since h i) (m .0))
-        (omega arith) (differ-sub (suc (m .0)) (readsTo plan h (since h i) (m .0))) (subst (λ (z : ℤ). pos (plan .full) <ℤ z) (m .2) (o .2)) in
+        let high = lt-differ (pos (plan .full)) (subℕ (suc (m .0)) (readsTo plan h (since h i) (m .0))) (plan .full) 0 (suc (m .0))
+        (readsTo plan h (since h i) (m .0))
+        (omega arith) (differ-sub (suc (m .0)) (readsTo plan h (since h i) (m .0)))
+        (subst (λ (z : ℤ). pos (plan .full) <ℤ z) (m .2) (o .2)) in
         omega (arith, tops (m .0) (m .1))
 
     -- "A whole frame runs dry exactly when one of its packets comes after its read time."
@@ -108,13 +116,16 @@ module _ (plan : Plan) (p : Planned plan) (h : History) (ordered : Climbs (h .ti
   abbrev AnswerIs : ℕ → Buffer → Type 0
   AnswerIs i None = ¬ Whole plan h i
   AnswerIs i Pass = Whole plan h i × ¬ Fails plan h i
-  AnswerIs i (Under q) = Whole plan h i × (q .frame ≡ numberAt h i) × Dry plan h (since h i) × Lowest (late plan h (since h i)) (plan .packets) (q .place)
-  AnswerIs i (Over q) = Whole plan h i × (q .frame ≡ numberAt h i) × ¬ Dry plan h (since h i) × PeakIs plan h (since h i) (pos (q .place)) × (plan .full < q .place)
+  AnswerIs i (Under q) = Whole plan h i × (q .frame ≡ numberAt h i) × Dry plan h (since h i)
+      × Lowest (late plan h (since h i)) (plan .packets) (q .place)
+  AnswerIs i (Over q) = Whole plan h i × (q .frame ≡ numberAt h i) × ¬ Dry plan h (since h i)
+      × PeakIs plan h (since h i) (pos (q .place)) × (plan .full < q .place)
 
   judged : (i : ℕ) → i < h .packets → closesAt h i ≡ true → AnswerIs i (answerOf plan (numberAt h i) (closedAt plan h i))
   judged i inside closing = go (eqb (kindAt plan h i) 0) refl
     where
-      over : kindAt plan h i ≡ 0 → (closedAt plan h i) .deficit ≤ 0 → Dec (plan .full < (closedAt plan h i) .top) → AnswerIs i (answerOf plan (numberAt h i) (closedAt plan h i))
+      over : kindAt plan h i ≡ 0 → (closedAt plan h i) .deficit ≤ 0 → Dec (plan .full < (closedAt plan h i) .top)
+          → AnswerIs i (answerOf plan (numberAt h i) (closedAt plan h i))
       over k d (yes l) =
           subst (AnswerIs i) (answer-over plan (numberAt h i) (closedAt plan h i) (kind-is plan h ordered i inside ∙ k) d l)
           (record { closing = closing; whole = k }, refl, not-dry i inside k d, peak-is plan h ordered i inside p k, l)
@@ -135,7 +146,8 @@ module _ (plan : Plan) (p : Planned plan) (h : History) (ordered : Climbs (h .ti
       go : (t : Bool) → eqb (kindAt plan h i) 0 ≡ t → AnswerIs i (answerOf plan (numberAt h i) (closedAt plan h i))
       go true e = under (eqb-true (kindAt plan h i) 0 e) (decLt 0 ((closedAt plan h i) .deficit))
       go false e =
-          subst (AnswerIs i) (answer-broken plan (numberAt h i) (closedAt plan h i) (λ z. eqb-false (kindAt plan h i) 0 e (sym (kind-is plan h ordered i inside) ∙ z)))
+          subst (AnswerIs i) (answer-broken plan (numberAt h i) (closedAt plan h i)
+          (λ z. eqb-false (kindAt plan h i) 0 e (sym (kind-is plan h ordered i inside) ∙ z)))
           (λ w. eqb-false (kindAt plan h i) 0 e (w .whole))
 
   answered : (i : ℕ) → i < h .packets → AnswerIs i (answerAt plan h i)
@@ -197,7 +209,8 @@ module _ (plan : Plan) (p : Planned plan) (h : History) (ordered : Climbs (h .ti
 
 module _ (plan : Plan) (h : History) where
   -- two frames that fail first are one
-  one-first : (i k : ℕ) → Whole plan h i → Whole plan h k → Fails plan h i → Fails plan h k → ((j : ℕ) → j < i → Whole plan h j → ¬ Fails plan h j)
+  one-first : (i k : ℕ) → Whole plan h i → Whole plan h k → Fails plan h i → Fails plan h k
+      → ((j : ℕ) → j < i → Whole plan h j → ¬ Fails plan h j)
       → ((j : ℕ) → j < k → Whole plan h j → ¬ Fails plan h j) → i ≡ k
   one-first i k wi wk fi fk first-i first-k =
       let not-less : ¬ (i < k) = λ l. first-k i l wi fi in
@@ -206,7 +219,12 @@ module _ (plan : Plan) (h : History) where
 
   over-fails : (i : ℕ) (q : Place) → OverAt plan h i q → Fails plan h i
   over-fails i q x =
-      overfull (pos (q .place), x .peak, differ-lt (pos (plan .full)) (pos (q .place)) (plan .full) 0 (q .place) 0 (omega arith) (omega arith) (omega (arith, x .over)))
+      overfull (
+        pos (q .place),
+        x .peak,
+        differ-lt (pos (plan .full)) (pos (q .place)) (plan .full) 0 (q .place) 0 (omega arith)
+            (omega arith) (omega (arith, x .over)),
+      )
 
   under-one : (i k : ℕ) (q r : Place) → UnderAt plan h i q → UnderAt plan h k r → Under q ≡ Under r
   under-one i k q r x y =

@@ -25,7 +25,8 @@ module _ (n base num den : ℕ) (a : ℕ → ℕ) (up : (i j : ℕ) → i ≤ j 
 
   reads-first : (x : ℕ) → UpTo (readBefore base num den x) n (readsBefore n base num den x)
   reads-first x = falls-up-to (readBefore base num den x) n (record {
-    down = λ i j l k q. lt-ltb (base * den + i * num) (x * den) (omega (arith, ltb-true (base * den + j * num) (x * den) q, mul-le-mul-right num l));
+    down = λ i j l k q. lt-ltb (base * den + i * num) (x * den)
+        (omega (arith, ltb-true (base * den + j * num) (x * den) q, mul-le-mul-right num l));
   })
 
   arrived-first : (j : ℕ) → UpTo (λ i. leb (a i * den) (base * den + j * num)) n (A j)
@@ -37,7 +38,12 @@ module _ (n base num den : ℕ) (a : ℕ → ℕ) (up : (i j : ℕ) → i ≤ j 
   pub there-after : (i j : ℕ) → i < n → j < n → i < A j → R i ≤ j
   there-after i j hi hj l =
       let late : ¬ (j < R i) = λ q.
-      omega (arith, leb-true (a i * den) (base * den + j * num) (arrived-first j .passes i hi l), ltb-true (base * den + j * num) (a i * den) (reads-first (a i) .passes j hj q)) in
+      omega (
+        arith,
+        leb-true (a i * den) (base * den + j * num) (arrived-first j .passes i hi l),
+        ltb-true (base * den + j * num)
+            (a i * den) (reads-first (a i) .passes j hj q),
+      ) in
       omega arith
 
   pub after-there : (i j : ℕ) → i < n → j < n → R i ≤ j → i < A j
@@ -89,12 +95,17 @@ module _ (n base num den : ℕ) (a : ℕ → ℕ) (up : (i j : ℕ) → i ≤ j 
   -- least, over all n reads
   pub least-bound : (j : ℕ) → j < n → subℕ 0 lack ≤ℤ subℕ (A j) (suc j)
   least-bound j h =
-      differ-le (subℕ 0 lack) (subℕ (A j) (suc j)) 0 lack (A j) (suc j) (differ-sub 0 lack) (differ-sub (A j) (suc j)) (omega (arith, lack-bound j h))
+      differ-le (subℕ 0 lack) (subℕ (A j) (suc j)) 0 lack (A j) (suc j) (differ-sub 0 lack) (differ-sub (A j) (suc j))
+      (omega (arith, lack-bound j h))
 
   pub least-met : 0 < n → (j : ℕ) × (j < n) × (subℕ 0 lack ≡ subℕ (A j) (suc j))
   least-met p =
-      let w = lack-met p in
-      (w .0, w .1, differ-same (subℕ 0 lack) (subℕ (A (w .0)) (suc (w .0))) 0 lack (A (w .0)) (suc (w .0)) (differ-sub 0 lack) (differ-sub (A (w .0)) (suc (w .0))) (omega (arith, w .2)))
+      let w = lack-met p in (
+        w .0,
+        w .1,
+        differ-same (subℕ 0 lack) (subℕ (A (w .0)) (suc (w .0))) 0 lack (A (w .0)) (suc (w .0)) (differ-sub 0 lack)
+            (differ-sub (A (w .0)) (suc (w .0))) (omega (arith, w .2)),
+      )
 
   -- dry exactly when a packet is late
   pub dry-late : 0 < lack → (j : ℕ) × (j < n) × (j < R j)
@@ -127,5 +138,13 @@ module _ (n base num den : ℕ) (a : ℕ → ℕ) (up : (i j : ℕ) → i ≤ j 
       go : (i : ℕ) × (i < n) × (suc i - R i ≡ top) → Dec (0 < top) → (j : ℕ) × (j < n) × (pos top ≡ subℕ (suc j) (R j))
       go w (yes l) = (w .0, w .1, is (w .0) (omega (arith, w .2)))
       go w (no g) =
-          let h : n - 1 < n = omega arith in
-          (n - 1, h, is (n - 1) (omega (arith, count-le (readBefore base num den (a (n - 1))) n, most-is (λ i. suc i - R i) n .bound (n - 1) h)))
+          let h : n - 1 < n = omega arith in (
+            n - 1,
+            h,
+            is (n - 1) (omega (
+              arith,
+              count-le (readBefore base num den (a (n - 1))) n,
+              most-is (λ i. suc i - R i) n .bound
+                  (n - 1) h,
+            )),
+          )

@@ -44,7 +44,8 @@ module _ (plan : Plan) (number : ℕ) (f : Frame) where
   unfolding rowOf
   row-whole marked e = rw (eq-eqb (kindOf f (plan .packets)) 0 e)
 
-  pub row-broken : (marked kind : ℕ) → kind ≡ kindOf f (plan .packets) → (kind ≡ 0 → ⊥) → brokenRow number kind (detailOf f kind) ≡ rowOf plan number marked f
+  pub row-broken : (marked kind : ℕ) → kind ≡ kindOf f (plan .packets) → (kind ≡ 0 → ⊥) → brokenRow number kind (detailOf f kind)
+      ≡ rowOf plan number marked f
   unfolding rowOf
   row-broken marked kind e b = rw e (rw (ne-eqb (kindOf f (plan .packets)) 0 (rw e at b)))
 
@@ -52,11 +53,13 @@ module _ (plan : Plan) (number : ℕ) (f : Frame) where
   unfolding answerOf
   answer-broken b = rw (ne-eqb (kindOf f (plan .packets)) 0 b)
 
-  pub answer-under : kindOf f (plan .packets) ≡ 0 → 0 < f .deficit → Under (record { frame = number; place = f .late }) ≡ answerOf plan number f
+  pub answer-under : kindOf f (plan .packets) ≡ 0 → 0 < f .deficit → Under (record { frame = number; place = f .late })
+      ≡ answerOf plan number f
   unfolding answerOf
   answer-under e d = rw (eq-eqb (kindOf f (plan .packets)) 0 e, lt-ltb 0 (f .deficit) d)
 
-  pub answer-over : kindOf f (plan .packets) ≡ 0 → f .deficit ≤ 0 → plan .full < f .top → Over (record { frame = number; place = f .top }) ≡ answerOf plan number f
+  pub answer-over : kindOf f (plan .packets) ≡ 0 → f .deficit ≤ 0 → plan .full < f .top
+      → Over (record { frame = number; place = f .top }) ≡ answerOf plan number f
   unfolding answerOf
   answer-over e d t = rw (eq-eqb (kindOf f (plan .packets)) 0 e, le-ltb 0 (f .deficit) d, lt-ltb (plan .full) (f .top) t)
 

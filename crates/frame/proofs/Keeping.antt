@@ -27,8 +27,10 @@ shift : (base num den x s j : ℕ) → readBefore (base + s) num den (x + s) j �
 shift base num den x s j = go (readBefore base num den x j) refl
   where
     go : (t : Bool) → readBefore base num den x j ≡ t → readBefore (base + s) num den (x + s) j ≡ t
-    go true e = lt-ltb ((base + s) * den + j * num) ((x + s) * den) (omega (arith, ltb-true (base * den + j * num) (x * den) e, add-mul base s den, add-mul x s den))
-    go false e = le-ltb ((base + s) * den + j * num) ((x + s) * den) (omega (arith, ltb-false (base * den + j * num) (x * den) e, add-mul base s den, add-mul x s den))
+    go true e = lt-ltb ((base + s) * den + j * num) ((x + s) * den)
+        (omega (arith, ltb-true (base * den + j * num) (x * den) e, add-mul base s den, add-mul x s den))
+    go false e = le-ltb ((base + s) * den + j * num) ((x + s) * den)
+        (omega (arith, ltb-false (base * den + j * num) (x * den) e, add-mul base s den, add-mul x s den))
 
 -- two ways to count from: the reads before are as many where base and time lie as far apart
 pub reads-shift : (n base num den x base′ x′ s s′ : ℕ) → base + s ≡ base′ + s′ → x + s ≡ x′ + s′
@@ -39,8 +41,10 @@ reads-shift n base num den x base′ x′ s s′ e f =
 
 -- so the code's reads, from one period before the frame's start on, are the paper's
 pub reads-are : (plan : Plan) (time stamp : ℕ → ℕ) (j : ℕ) → 0 < plan .period → time 0 ≤ time j
-    → readsFrom plan time stamp j ≡ readsBefore (plan .packets) (frameTime (27 * time 0) (plan .period) + plan .tro) (plan .num) (plan .den) (27 * time j)
+    → readsFrom plan time stamp j ≡ readsBefore (plan .packets) (frameTime (27 * time 0) (plan .period) + plan .tro) (plan .num)
+    (plan .den) (27 * time j)
 reads-are plan time stamp j p l =
-    reads-shift (plan .packets) (plan .tro + plan .period) (plan .num) (plan .den) (27 * (time j - time 0) + phase (27 * time 0) (plan .period))
+    reads-shift (plan .packets) (plan .tro + plan .period) (plan .num) (plan .den)
+    (27 * (time j - time 0) + phase (27 * time 0) (plan .period))
     (frameTime (27 * time 0) (plan .period) + plan .tro) (27 * time j) (frameTime (27 * time 0) (plan .period)) (plan .period)
     (omega arith) (omega (arith, phase-from (27 * time 0) (plan .period) p))

@@ -54,7 +54,8 @@ timed plan f t stamp p h = go (eqb (f .held) 0) refl
           read = h .read;
         }
 
-module _ {plan : Plan} {f g : Frame} {t : ℕ} (stamp : ℕ) (e : g ≡ openedOf f (plan .period) t stamp) (p : Planned plan) (h : Pushable plan f t) where
+module _ {plan : Plan} {f g : Frame} {t : ℕ} (stamp : ℕ) (e : g ≡ openedOf f (plan .period) t stamp) (p : Planned plan)
+    (h : Pushable plan f t) where
   pub opened-timed : Timed plan g t
   opened-timed = subst (λ (x : Frame). Timed plan x t) (sym e) (timed plan f t stamp p h)
 
@@ -70,4 +71,5 @@ module _ {plan : Plan} {f g : Frame} {t : ℕ} (stamp : ℕ) (e : g ≡ openedOf
 
   pub reach-fits : (base : ℕ) → (27 * (t - g .first) + g .phase - base) * plan .den + plan .num < 18446744073709551616
   reach-fits base =
-      reads-fit (27 * (t - g .first) + g .phase - base) (plan .den) (plan .num) (omega (arith, time-fits)) (p .divided) (omega (arith, p .near, p .short))
+      reads-fit (27 * (t - g .first) + g .phase - base) (plan .den) (plan .num) (omega (arith, time-fits)) (p .divided)
+      (omega (arith, p .near, p .short))

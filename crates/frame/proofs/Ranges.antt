@@ -44,7 +44,8 @@ pub record Next (first last packets t : ℕ) : Type 0 where
 
 lower-small : (known place : ℕ) (hit : Bool) → known ≤ place → lower known place hit ≤ place + 1
 lower-small known place hit l =
-    pick-either (λ k. k ≤ place + 1) (ltb known place) (λ e. omega arith) (λ e. pick-either (λ k. k ≤ place + 1) hit (λ e. omega arith) (λ e. omega arith))
+    pick-either (λ k. k ≤ place + 1) (ltb known place) (λ e. omega arith)
+    (λ e. pick-either (λ k. k ≤ place + 1) hit (λ e. omega arith) (λ e. omega arith))
 
 module _ (plan : Plan) (s : Frames) (first last packets t : ℕ) (p : Planned plan) (k : Kept plan s first last packets) where
   pub pushable : (s .begun ≡ true → Next first last packets t) → s .begun ≡ true → Pushable plan (s .current) t
@@ -68,7 +69,8 @@ module _ (plan : Plan) (s : Frames) (first last packets t : ℕ) (p : Planned pl
     pub deficit : f .deficit ≤ plan .packets
     pub late : f .late ≤ f .held
 
-  counted : (o : Frame) (stamp : ℕ) → o .held ≡ s .current .held → o .differs ≡ s .current .differs → o .top ≡ s .current .top → o .deficit ≡ s .current .deficit
+  counted : (o : Frame) (stamp : ℕ) → o .held ≡ s .current .held → o .differs ≡ s .current .differs → o .top ≡ s .current .top
+      → o .deficit ≡ s .current .deficit
       → o .late ≡ s .current .late → s .marked ≤ o .first → Timed plan o t → Pushed (countedOf o stamp (readsOf plan o t))
   unfolding countedOf
   counted o stamp eh ed et ef el from z =
@@ -85,7 +87,8 @@ module _ (plan : Plan) (s : Frames) (first last packets t : ℕ) (p : Planned pl
         late = lower-small (o .late) (o .held) (ltb (o .held) (readsOf plan o t)) (omega (arith, k .late));
       }
 
-  opened-from : (stamp : ℕ) → s .begun ≡ true → Next first last packets t → s .marked ≤ (openedOf (s .current) (plan .period) t stamp) .first
+  opened-from : (stamp : ℕ) → s .begun ≡ true → Next first last packets t
+      → s .marked ≤ (openedOf (s .current) (plan .period) t stamp) .first
   unfolding openedOf
   opened-from stamp e next = go (eqb (s .current .held) 0) refl
     where
@@ -101,7 +104,8 @@ module _ (plan : Plan) (s : Frames) (first last packets t : ℕ) (p : Planned pl
 
   -- ---- a packet arrives, and closes if it is a marker; first′ is the first arrival with it
 
-  module _ (stamp first′ : ℕ) (next : s .begun ≡ true → Next first last packets t) (order : last ≤ t) (same : s .begun ≡ true → first′ ≡ first) (since : first′ ≤ t) where
+  module _ (stamp first′ : ℕ) (next : s .begun ≡ true → Next first last packets t) (order : last ≤ t)
+      (same : s .begun ≡ true → first′ ≡ first) (since : first′ ≤ t) where
     -- the lead-in: nothing is pushed
     kept-lead : s .begun ≡ false → Kept plan s first′ t (packets + 1)
     kept-lead e = record {
@@ -122,7 +126,13 @@ module _ (plan : Plan) (s : Frames) (first last packets t : ℕ) (p : Planned pl
     }
 
     kept-pushed : s .begun ≡ true
-        → Kept plan (record { begun = s .begun; closed = s .closed; marked = s .marked; current = pushOf plan (s .current) t stamp; buffer = s .buffer }) first′ t (packets + 1)
+        → Kept plan (record {
+          begun = s .begun;
+          closed = s .closed;
+          marked = s .marked;
+          current = pushOf plan (s .current) t stamp;
+          buffer = s .buffer;
+        }) first′ t (packets + 1)
     kept-pushed e =
         let f = pushed stamp e (next e) in
         record {
@@ -147,7 +157,14 @@ module _ (plan : Plan) (s : Frames) (first last packets t : ℕ) (p : Planned pl
     kept-arrive = go (s .begun) refl
       where
         go : (b : Bool) → s .begun ≡ b
-            → Kept plan (record { begun = s .begun; closed = s .closed; marked = s .marked; current = pick b (pushOf plan (s .current) t stamp) (s .current); buffer = s .buffer }) first′ t (packets + 1)
+            → Kept plan (record {
+              begun = s .begun;
+              closed = s .closed;
+              marked = s .marked;
+              current = pick b
+                  (pushOf plan (s .current) t stamp) (s .current);
+              buffer = s .buffer;
+            }) first′ t (packets + 1)
         go true e = kept-pushed e
         go false e = kept-lead e
 
@@ -180,7 +197,8 @@ unfolding answerOf
 answer-named plan n f m hn hl ht =
     pick-either (λ b. Answered b m) (eqb (kindOf f (plan .packets)) 0) (λ e.
     pick-either (λ b. Answered b m) (ltb 0 (f .deficit)) (λ e. record { frame = hn; place = hl }) (λ e.
-    pick-either (λ b. Answered b m) (ltb (plan .full) (f .top)) (λ e. record { frame = hn; place = ht }) (λ e. pass-named m))) (λ e. none-named m)
+    pick-either (λ b. Answered b m) (ltb (plan .full) (f .top)) (λ e. record { frame = hn; place = ht }) (λ e. pass-named m)))
+    (λ e. none-named m)
 
 joined-named : (b c : Buffer) (m : ℕ) → Answered b m → Answered c m → Answered (joined b c) m
 unfolding joined
@@ -193,11 +211,13 @@ joined-named (Under q) c m x y = x
 joined-named (Over q) c m x y = x
 
 -- a marker closes the frame of what has arrived
-module _ (plan : Plan) (a : Frames) (first t packets : ℕ) (k : Kept plan a first t packets) (room : a .closed + 1 ≤ packets) (since : first ≤ t) where
+module _ (plan : Plan) (a : Frames) (first t packets : ℕ) (k : Kept plan a first t packets) (room : a .closed + 1 ≤ packets)
+    (since : first ≤ t) where
   answers : (b : Bool) → Answered (pick b (joined (a .buffer) (answerOf plan (a .closed) (a .current))) (a .buffer)) packets
   answers b =
       pick-either (λ x. Answered x packets) b (λ e. joined-named (a .buffer) (answerOf plan (a .closed) (a .current)) packets (k .answered)
-      (answer-named plan (a .closed) (a .current) packets (k .closed) (omega (arith, k .late, k .held)) (omega (arith, k .top, k .held)))) (λ e. k .answered)
+      (answer-named plan (a .closed) (a .current) packets (k .closed) (omega (arith, k .late, k .held))
+      (omega (arith, k .top, k .held)))) (λ e. k .answered)
 
   pub kept-close : Kept plan (closeOf plan a t) first t packets
   unfolding closeOf

@@ -35,13 +35,15 @@ pub peak-unique : (plan : Plan) (h : History) (s : ℕ) (z w : ℤ) → PeakIs p
 peak-unique plan h s z w x y =
     let v = x .met in
     let u = y .met in
-    both-ways z w (subst (λ (a : ℤ). a ≤ℤ w) (sym (v .2)) (y .bound (v .0) (v .1))) (subst (λ (a : ℤ). a ≤ℤ z) (sym (u .2)) (x .bound (u .0) (u .1)))
+    both-ways z w (subst (λ (a : ℤ). a ≤ℤ w) (sym (v .2)) (y .bound (v .0) (v .1)))
+    (subst (λ (a : ℤ). a ≤ℤ z) (sym (u .2)) (x .bound (u .0) (u .1)))
 
 pub least-unique : (plan : Plan) (h : History) (s : ℕ) (z w : ℤ) → LeastIs plan h s z → LeastIs plan h s w → z ≡ w
 least-unique plan h s z w x y =
     let v = x .met in
     let u = y .met in
-    both-ways z w (subst (λ (a : ℤ). z ≤ℤ a) (sym (u .2)) (x .bound (u .0) (u .1))) (subst (λ (a : ℤ). w ≤ℤ a) (sym (v .2)) (y .bound (v .0) (v .1)))
+    both-ways z w (subst (λ (a : ℤ). z ≤ℤ a) (sym (u .2)) (x .bound (u .0) (u .1)))
+    (subst (λ (a : ℤ). w ≤ℤ a) (sym (v .2)) (y .bound (v .0) (v .1)))
 
 closing-begun : (m b : Bool) → (m && b) ≡ true → b ≡ true
 closing-begun true b e = e
@@ -84,12 +86,14 @@ module _ (plan : Plan) (h : History) (ordered : Climbs (h .time) (h .packets)) (
         → readsFrom plan (λ k. h .time (since h i + k)) (λ k. h .stamp (since h i + k)) j ≡ readsTo plan h (since h i) j
     reads-same j l =
         reads-are plan (λ k. h .time (since h i + k)) (λ k. h .stamp (since h i + k)) j (omega (arith, p .long))
-        (climbs-le (h .time) (h .packets) ordered (since h i + 0) (since h i + j) (omega arith) (omega (arith, whole-held whole, since-is h i .within)))
+        (climbs-le (h .time) (h .packets) ordered (since h i + 0) (since h i + j) (omega arith)
+        (omega (arith, whole-held whole, since-is h i .within)))
 
     packets-are : suc (i - since h i) ≡ plan .packets
     packets-are = sym (one-more h i) ∙ whole-held whole
 
-    pub top-is : (closedAt plan h i) .top ≡ D.top (plan .packets) (firstRead plan h (since h i)) (plan .num) (plan .den) (arrival plan h (since h i)) up
+    pub top-is : (closedAt plan h i) .top
+        ≡ D.top (plan .packets) (firstRead plan h (since h i)) (plan .num) (plan .den) (arrival plan h (since h i)) up
     unfolding keptOf
     top-is =
         ap (λ (f : Frame). f .top) held-is
@@ -97,7 +101,8 @@ module _ (plan : Plan) (h : History) (ordered : Climbs (h .time) (h .packets)) (
         ∙ most-same (λ j. suc j - readsFrom plan (λ k. h .time (since h i + k)) (λ k. h .stamp (since h i + k)) j)
         (λ j. suc j - readsTo plan h (since h i) j) (plan .packets) (λ j l. ap (λ (r : ℕ). suc j - r) (reads-same j l))
 
-    pub deficit-is : (closedAt plan h i) .deficit ≡ D.lack (plan .packets) (firstRead plan h (since h i)) (plan .num) (plan .den) (arrival plan h (since h i)) up
+    pub deficit-is : (closedAt plan h i) .deficit
+        ≡ D.lack (plan .packets) (firstRead plan h (since h i)) (plan .num) (plan .den) (arrival plan h (since h i)) up
     unfolding keptOf
     deficit-is =
         ap (λ (f : Frame). f .deficit) held-is
@@ -141,20 +146,25 @@ module _ (plan : Plan) (h : History) (ordered : Climbs (h .time) (h .packets)) (
     fpt-is : subℕ ((closedAt plan h i) .phase) (plan .period) ≡ firstPacketTime (arrival plan h (since h i) 0) (plan .period)
     fpt-is = rw phase-is (phase-less (arrival plan h (since h i) 0) (plan .period) (omega (arith, p .long)))
 
-    latency-is : latency (27 * (closedAt plan h i) .first) ((closedAt plan h i) .stamp) ≡ latency (arrival plan h (since h i) 0) (h .stamp (since h i))
+    latency-is : latency (27 * (closedAt plan h i) .first) ((closedAt plan h i) .stamp)
+        ≡ latency (arrival plan h (since h i) 0) (h .stamp (since h i))
     latency-is = rw (first-is, stamp-is)
 
     -- the marker packet before the frame comes no later than its first
-    gap-is : closesAt h i ≡ true → pos (27 * ((closedAt plan h i) .first - markedTime plan h i)) ≡ subℕ (arrival plan h (since h i) 0) (grains (h .time (pred (since h i))))
+    gap-is : closesAt h i ≡ true → pos (27 * ((closedAt plan h i) .first - markedTime plan h i))
+        ≡ subℕ (arrival plan h (since h i) 0) (grains (h .time (pred (since h i))))
     gap-is e =
         let began = begun-since h i (closing-begun (h .marked i) (begunAt h i) e) in
-        let order = climbs-le (h .time) (h .packets) ordered (pred (since h i)) (since h i + 0) (omega arith) (omega (arith, since-is h i .within)) in
+        let order = climbs-le (h .time) (h .packets) ordered (pred (since h i)) (since h i + 0) (omega arith)
+        (omega (arith, since-is h i .within)) in
         let from = h .time (since h i + 0) in
         let to = h .time (pred (since h i)) in
-        rw (first-is, marked-time h plan i began) (differ-same (pos (27 * (from - to))) (subℕ (27 * from) (27 * to)) (27 * (from - to)) 0 (27 * from) (27 * to)
+        rw (first-is, marked-time h plan i began)
+        (differ-same (pos (27 * (from - to))) (subℕ (27 * from) (27 * to)) (27 * (from - to)) 0 (27 * from) (27 * to)
         (omega arith) (differ-sub (27 * from) (27 * to)) (omega arith))
 
-    pub measured : closesAt h i ≡ true → Measured plan h (since h i) (wholeRow plan (numberAt h i) (markedTime plan h i) (closedAt plan h i))
+    pub measured : closesAt h i ≡ true
+        → Measured plan h (since h i) (wholeRow plan (numberAt h i) (markedTime plan h i) (closedAt plan h i))
     unfolding wholeRow
     measured e = record {
       fpt = fpt-is;
@@ -174,7 +184,8 @@ module _ (plan : Plan) (h : History) (ordered : Climbs (h .time) (h .packets)) (
       row : Row
       row = rowOf plan (numberAt h i) (markedTime plan h i) (closedAt plan h i)
 
-      is-whole : kindAt plan h i ≡ 0 → wholeRow plan (numberAt h i) (markedTime plan h i) (closedAt plan h i) ≡ rowOf plan (numberAt h i) (markedTime plan h i) (closedAt plan h i)
+      is-whole : kindAt plan h i ≡ 0 → wholeRow plan (numberAt h i) (markedTime plan h i) (closedAt plan h i)
+          ≡ rowOf plan (numberAt h i) (markedTime plan h i) (closedAt plan h i)
       is-whole k = row-whole plan (numberAt h i) (closedAt plan h i) (markedTime plan h i) (kind-is ∙ k)
 
       is-broken : (kindAt plan h i ≡ 0 → ⊥) → brokenRow (numberAt h i) (kindAt plan h i) (detailOf (closedAt plan h i) (kindAt plan h i))
@@ -201,6 +212,22 @@ module _ (plan : Plan) (h : History) (ordered : Climbs (h .time) (h .packets)) (
             broken = λ z. record { fpt = refl; offset = refl; latency = refl; margin = refl; gap = refl; peak = refl; least = refl };
           })
 
+-- ten numbers that agree are one row
+same-row : {r q : Row} → r .number ≡ q .number → r .kind ≡ q .kind → r .detail ≡ q .detail → r .fpt ≡ q .fpt → r .offset ≡ q .offset
+    → r .latency ≡ q .latency → r .margin ≡ q .margin → r .gap ≡ q .gap → r .peak ≡ q .peak → r .least ≡ q .least → r ≡ q
+same-row a b c d e f g h i k = λ j. record {
+  number = a j;
+  kind = b j;
+  detail = c j;
+  fpt = d j;
+  offset = e j;
+  latency = f j;
+  margin = g j;
+  gap = h j;
+  peak = i j;
+  least = k j;
+}
+
 pub row-unique : (plan : Plan) (h : History) (i : ℕ) (r q : Row) → RowIs plan h i r → RowIs plan h i q → r ≡ q
 row-unique plan h i r q x y = go (eqb (kindAt plan h i) 0) refl
   where
@@ -208,30 +235,13 @@ row-unique plan h i r q x y = go (eqb (kindAt plan h i) 0) refl
     go true e =
         let a = x .whole (eqb-true (kindAt plan h i) 0 e) in
         let b = y .whole (eqb-true (kindAt plan h i) 0 e) in
-        λ j. record {
-          number = (x .number ∙ sym (y .number)) j;
-          kind = (x .kind ∙ sym (y .kind)) j;
-          detail = (x .detail ∙ sym (y .detail)) j;
-          fpt = (a .fpt ∙ sym (b .fpt)) j;
-          offset = (a .offset ∙ sym (b .offset)) j;
-          latency = (a .latency ∙ sym (b .latency)) j;
-          margin = (a .margin ∙ sym (b .margin)) j;
-          gap = (a .gap ∙ sym (b .gap)) j;
-          peak = peak-unique plan h (since h i) (r .peak) (q .peak) (a .peak) (b .peak) j;
-          least = least-unique plan h (since h i) (r .least) (q .least) (a .least) (b .least) j;
-        }
+        same-row (x .number ∙ sym (y .number)) (x .kind ∙ sym (y .kind)) (x .detail ∙ sym (y .detail)) (a .fpt ∙ sym (b .fpt))
+        (a .offset ∙ sym (b .offset)) (a .latency ∙ sym (b .latency)) (a .margin ∙ sym (b .margin)) (a .gap ∙ sym (b .gap))
+        (peak-unique plan h (since h i) (r .peak) (q .peak) (a .peak) (b .peak))
+        (least-unique plan h (since h i) (r .least) (q .least) (a .least) (b .least))
     go false e =
         let a = x .broken (eqb-false (kindAt plan h i) 0 e) in
         let b = y .broken (eqb-false (kindAt plan h i) 0 e) in
-        λ j. record {
-          number = (x .number ∙ sym (y .number)) j;
-          kind = (x .kind ∙ sym (y .kind)) j;
-          detail = (x .detail ∙ sym (y .detail)) j;
-          fpt = (a .fpt ∙ sym (b .fpt)) j;
-          offset = (a .offset ∙ sym (b .offset)) j;
-          latency = (a .latency ∙ sym (b .latency)) j;
-          margin = (a .margin ∙ sym (b .margin)) j;
-          gap = (a .gap ∙ sym (b .gap)) j;
-          peak = (a .peak ∙ sym (b .peak)) j;
-          least = (a .least ∙ sym (b .least)) j;
-        }
+        same-row (x .number ∙ sym (y .number)) (x .kind ∙ sym (y .kind)) (x .detail ∙ sym (y .detail)) (a .fpt ∙ sym (b .fpt))
+        (a .offset ∙ sym (b .offset)) (a .latency ∙ sym (b .latency)) (a .margin ∙ sym (b .margin)) (a .gap ∙ sym (b .gap))
+        (a .peak ∙ sym (b .peak)) (a .least ∙ sym (b .least))

@@ -73,7 +73,8 @@ module _ (plan : Plan) (h : History) (i : ℕ) where
     unfolding markedTime
     marked-next = ap (λ (t : Bool). pick t (h .time i) (markedTime plan h i)) e
 
-    answers-next : bufferAt plan h (suc i) ≡ pick (m && b) (joined (bufferAt plan h i) (answerOf plan (numberAt h i) (closedAt plan h i))) (bufferAt plan h i)
+    answers-next : bufferAt plan h (suc i)
+        ≡ pick (m && b) (joined (bufferAt plan h i) (answerOf plan (numberAt h i) (closedAt plan h i))) (bufferAt plan h i)
     unfolding bufferAt
     answers-next =
         ap (λ (t : Bool). joined (bufferAt plan h i) (pick (t && begunAt h i) (answerOf plan (numberAt h i) (closedAt plan h i)) None)) e
@@ -102,7 +103,8 @@ module _ (plan : Plan) (h : History) (i : ℕ) where
   frames-step = step-next (h .marked i) (begunAt h i) refl ∙ sym (declared-next (h .marked i) (begunAt h i) refl refl)
 
   rows-next : (m b : Bool) → begunAt h i ≡ b
-      → rowsOf plan (framesAt plan h i) (h .time i) (h .stamp i) m ≡ pick (m && b) (rowOf plan (numberAt h i) (markedTime plan h i) (closedAt plan h i) ∷ []) []
+      → rowsOf plan (framesAt plan h i) (h .time i) (h .stamp i) m
+      ≡ pick (m && b) (rowOf plan (numberAt h i) (markedTime plan h i) (closedAt plan h i) ∷ []) []
   unfolding rowsOf framesAt arriveOf
   rows-next true true f = rw (f, pushed)
   rows-next true false f = rw f
@@ -125,5 +127,6 @@ pub record Seen : Type 0 where
 abbrev pub seenStep : Plan → Frames → Seen → Frames
 seenStep plan s p = stepOf plan s (p .time) (p .stamp) (p .marker)
 
-pub cut-anywhere : (plan : Plan) (s : Frames) (pieces : List (List Seen)) → fold-pieces (seenStep plan) s pieces ≡ fold (seenStep plan) s (flatten pieces)
+pub cut-anywhere : (plan : Plan) (s : Frames) (pieces : List (List Seen)) → fold-pieces (seenStep plan) s pieces
+    ≡ fold (seenStep plan) s (flatten pieces)
 cut-anywhere plan s pieces = fold-joined (seenStep plan) s pieces

@@ -29,8 +29,10 @@ module _ (h : History) where
 
   pub since-unique : (i s t : ℕ) → Began h i s → Began h i t → s ≡ t
   since-unique i s t p q =
-      let not-less : ¬ (s < t) = λ l. false-true (sym (p .clear (pred t) (omega arith) (omega (arith, q .within))) ∙ q .after (omega arith)) in
-      let not-more : ¬ (t < s) = λ l. false-true (sym (q .clear (pred s) (omega arith) (omega (arith, p .within))) ∙ p .after (omega arith)) in
+      let not-less : ¬ (s < t) = λ l. false-true
+      (sym (p .clear (pred t) (omega arith) (omega (arith, q .within))) ∙ q .after (omega arith)) in
+      let not-more : ¬ (t < s) = λ l. false-true
+      (sym (q .clear (pred s) (omega arith) (omega (arith, p .within))) ∙ p .after (omega arith)) in
       omega arith
 
   -- one packet more in the same stretch

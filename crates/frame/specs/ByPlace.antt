@@ -22,7 +22,8 @@ use Rattle.frame.specs.Step.{emptyOf, rowOf, answerOf, joined}
 module _ (plan : Plan) (time stamp : ℕ → ℕ) where
   abbrev pub readsFrom : ℕ → ℕ
   readsFrom j =
-      readsBefore (plan .packets) (plan .tro + plan .period) (plan .num) (plan .den) (27 * (time j - time 0) + phase (27 * time 0) (plan .period))
+      readsBefore (plan .packets) (plan .tro + plan .period) (plan .num) (plan .den)
+      (27 * (time j - time 0) + phase (27 * time 0) (plan .period))
 
   -- what is kept of the first k of them
   unfoldable pub keptOf : ℕ → Frame

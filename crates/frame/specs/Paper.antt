@@ -61,7 +61,8 @@ module _ (plan : Plan) (h : History) where
 
   -- "Kinds, tried in this order: 1 short (fewer than n), 2 long (more than n), 3 stamp (some timestamp differs from the first packet's), 0 whole."
   abbrev pub kindAt : ℕ → ℕ
-  kindAt i = pick (ltb (heldAt h i) (plan .packets)) 1 (pick (ltb (plan .packets) (heldAt h i)) 2 (pick (ltb (differsAt i) (heldAt h i)) 3 0))
+  kindAt i = pick (ltb (heldAt h i) (plan .packets)) 1
+      (pick (ltb (plan .packets) (heldAt h i)) 2 (pick (ltb (differsAt i) (heldAt h i)) 3 0))
 
   -- "detail (count for 1 and 2, place in the frame, from 0, of the first differing timestamp for 3, else 0)"
   abbrev pub detailAt : ℕ → ℕ

@@ -98,7 +98,8 @@ brokenRow number kind detail = record {
 unfoldable pub rowOf : Plan → ℕ → ℕ → Frame → Row
 unfolding kindOf wholeRow
 rowOf plan number marked f =
-    pick (eqb (kindOf f (plan .packets)) 0) (wholeRow plan number marked f) (brokenRow number (kindOf f (plan .packets)) (detailOf f (kindOf f (plan .packets))))
+    pick (eqb (kindOf f (plan .packets)) 0) (wholeRow plan number marked f)
+    (brokenRow number (kindOf f (plan .packets)) (detailOf f (kindOf f (plan .packets))))
 
 -- "A closed frame writes ten numbers: frame number from 0; kind; detail [..]; FPT; RTP_OFFSET; VL; margin; GAP; VRX peak; VRX least."
 abbrev pub numbersOf : Row → List ℤ

@@ -26,7 +26,8 @@ offset-is g stamp F =
 pub margin-is : (g tro F : ℕ) → 0 < F → subℕ (tro + F) (phase g F) ≡ pos tro -ℤ firstPacketTime g F
 margin-is g tro F p =
     let t = frameTime g F in
-    differ-same (subℕ (tro + F) (phase g F)) (pos tro -ℤ subℕ g t) (tro + F) (phase g F) (tro + t) (g + 0) (differ-sub (tro + F) (phase g F))
+    differ-same (subℕ (tro + F) (phase g F)) (pos tro -ℤ subℕ g t) (tro + F) (phase g F) (tro + t) (g + 0)
+    (differ-sub (tro + F) (phase g F))
     (differ-minus (pos tro) (subℕ g t) tro 0 g t (omega arith) (differ-sub g t)) (omega (arith, phase-from g F p))
 
 -- FPT less VL, of two numbers that fit, fits and is read back, whatever the timestamp: neither is longer than a wrap and two frames
@@ -34,8 +35,10 @@ module _ (g stamp phase period : ℕ) (small : stamp < 4294967296) (within : pha
   offset-fits : SFits w64 (subℕ phase period -ℤ latency g stamp)
   offset-fits =
       let rest = mod-lt g {m = wrap} (omega arith) in
-      rw (sym (latency-is g stamp)) (differ-fits (subℕ phase period -ℤ subℕ (g % wrap) (tick * stamp)) (phase + tick * stamp) (g % wrap + period)
-      (differ-minus (subℕ phase period) (subℕ (g % wrap) (tick * stamp)) phase period (g % wrap) (tick * stamp) (differ-sub phase period) (differ-sub (g % wrap) (tick * stamp)))
+      rw (sym (latency-is g stamp)) (differ-fits (subℕ phase period -ℤ subℕ (g % wrap) (tick * stamp)) (phase + tick * stamp)
+      (g % wrap + period)
+      (differ-minus (subℕ phase period) (subℕ (g % wrap) (tick * stamp)) phase period (g % wrap) (tick * stamp)
+      (differ-sub phase period) (differ-sub (g % wrap) (tick * stamp)))
       (omega arith) (omega arith))
 
   module _ {x y : ℤ} (ex : x ≡ subℕ phase period) (ey : y ≡ latency g stamp) (hx : SFits w64 x) (hy : SFits w64 y) where

@@ -69,7 +69,8 @@ falls-up-to p (suc m) f = go (p m) refl (falls-up-to p m (record { down = λ i j
     go : (t : Bool) → p m ≡ t → UpTo p m (count p m) → UpTo p (suc m) (count p m + pick t 1 0)
     go true e ih = record { inside = λ i h q. omega (arith, all e); passes = λ i h q. f .down i m (omega arith) (omega arith) e }
     go false e ih = record {
-      inside = λ i h q. up-to (λ k. p k ≡ true → k < count p m + 0) m (λ k l r. omega (arith, ih .inside k l r)) (λ r. absurd (false-true (sym e ∙ r))) i h q;
+      inside = λ i h q. up-to (λ k. p k ≡ true → k < count p m + 0) m (λ k l r. omega (arith, ih .inside k l r))
+          (λ r. absurd (false-true (sym e ∙ r))) i h q;
       passes = λ i h q. ih .passes i (omega (arith, count-le p m)) (omega arith);
     }
 

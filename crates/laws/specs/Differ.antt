@@ -70,4 +70,5 @@ differ-minus (pos n) (pos (suc m)) a b c d p q = through n (suc m) (a + d) (c + 
 differ-minus (pos n) (negsuc m) a b c d p q = omega arith
 differ-minus (negsuc n) (pos zero) a b c d p q = through 0 (suc n) (a + d) (c + b) (omega arith) (subℕ 0 (suc n)) (differ-sub 0 (suc n))
 differ-minus (negsuc n) (pos (suc m)) a b c d p q = omega arith
-differ-minus (negsuc n) (negsuc m) a b c d p q = through (suc m) (suc n) (a + d) (c + b) (omega arith) (subℕ (suc m) (suc n)) (differ-sub (suc m) (suc n))
+differ-minus (negsuc n) (negsuc m) a b c d p q = through (suc m) (suc n) (a + d) (c + b) (omega arith) (subℕ (suc m) (suc n))
+    (differ-sub (suc m) (suc n))

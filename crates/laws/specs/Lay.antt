@@ -27,7 +27,8 @@ module _ {A : Type 0} where
       laid-more (at + 1) xs ys (set l at x) ∙ ap (λ (k : ℕ). laid k ys (laid (at + 1) xs (set l at x))) next
 
   -- where they fit: what stood before, they, and what stood behind
-  pub laid-is : (front out back : List A) → length out ≤ length back → laid (length front) out (front ++ back) ≡ front ++ (out ++ drop (length out) back)
+  pub laid-is : (front out back : List A) → length out ≤ length back → laid (length front) out (front ++ back)
+      ≡ front ++ (out ++ drop (length out) back)
   unfolding laid
   laid-is front [] back h = refl
   laid-is front (x ∷ xs) [] h = absurd (not-suc-le-zero h)
@@ -38,7 +39,8 @@ module _ {A : Type 0} where
       ∙ laid-is (front ++ (x ∷ [])) xs back (omega arith) ∙ append-snoc front x (xs ++ drop (length xs) back)
 
   -- one turn of a loop that lays the elements of a list from k on
-  pub laid-turn : (at k : ℕ) (out l : List A) (d : A) → k < length out → laid (at + (k + 1)) (drop (k + 1) out) (set l (at + k) (getD out k d)) ≡ laid (at + k) (drop k out) l
+  pub laid-turn : (at k : ℕ) (out l : List A) (d : A) → k < length out
+      → laid (at + (k + 1)) (drop (k + 1) out) (set l (at + k) (getD out k d)) ≡ laid (at + k) (drop k out) l
   unfolding laid
   laid-turn at k out l d h =
       let next : at + (k + 1) ≡ at + k + 1 = omega arith in

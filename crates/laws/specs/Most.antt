@@ -33,7 +33,8 @@ most-met f zero h = absurd (not-suc-le-zero h)
 most-met f (suc zero) h = (0, h, omega arith)
 most-met f (suc (suc m)) h = go (most-met f (suc m) (omega arith)) (decLe (most f (suc m)) (f (suc m)))
   where
-    go : (i : ℕ) × (i < suc m) × (f i ≡ most f (suc m)) → Dec (most f (suc m) ≤ f (suc m)) → (i : ℕ) × (i < suc (suc m)) × (f i ≡ max (most f (suc m)) (f (suc m)))
+    go : (i : ℕ) × (i < suc m) × (f i ≡ most f (suc m)) → Dec (most f (suc m) ≤ f (suc m)) → (i : ℕ) × (i < suc (suc m))
+        × (f i ≡ max (most f (suc m)) (f (suc m)))
     go ih (yes l) = (suc m, omega arith, omega arith)
     go ih (no g) = (ih .0, omega (arith, ih .1), omega (arith, ih .2))
 

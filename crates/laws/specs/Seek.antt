@@ -28,14 +28,20 @@ unfolding seek
 seek-is p zero = record { within = omega arith; before = λ i h. absurd (not-suc-le-zero h); here = λ h. absurd (not-suc-le-zero h) }
 seek-is p (suc m) = go (ltb (seek p m) m) refl (p m) refl (seek-is p m)
   where
-    go : (t : Bool) → ltb (seek p m) m ≡ t → (v : Bool) → p m ≡ v → Lowest p m (seek p m) → Lowest p (suc m) (pick t (seek p m) (pick v m (suc m)))
+    go : (t : Bool) → ltb (seek p m) m ≡ t → (v : Bool) → p m ≡ v → Lowest p m (seek p m)
+        → Lowest p (suc m) (pick t (seek p m) (pick v m (suc m)))
     go true e v f ih = record { within = omega (arith, ih .within); before = ih .before; here = λ h. ih .here (ltb-true (seek p m) m e) }
     go false e true f ih =
         let none-yet : seek p m ≡ m = omega (arith, ltb-false (seek p m) m e, ih .within) in
         record { within = omega arith; before = λ i h. ih .before i (omega arith); here = λ h. f }
     go false e false f ih =
         let none-yet : seek p m ≡ m = omega (arith, ltb-false (seek p m) m e, ih .within) in
-        record { within = omega arith; before = up-to (λ k. p k ≡ false) m (λ k l. ih .before k (omega arith)) f; here = λ h. absurd (omega arith) }
+        record {
+          within = omega arith;
+          before = up-to (λ k. p k ≡ false) m (λ k l. ih .before k (omega arith)) f;
+          here = λ h. absurd
+              (omega arith);
+        }
 
 -- two tests that agree below m have one lowest there
 pub seek-same : (p q : ℕ → Bool) (m : ℕ) → ((i : ℕ) → i < m → p i ≡ q i) → seek p m ≡ seek q m

@@ -44,12 +44,14 @@ use Rattle.timing.specs.Laws.Dealing.{sound-after, deals}
 -- ---- Demand 1: "Bad input gets the numbered refusal of document 01, exactly when its table says, with the state and lent rows as they were."
 
 -- `feedOf` is the table: 9, 10, then packet by packet 11 to 14, then 15. A refused call changes nothing.
-pub refusal-changes-nothing : (s t : State) (rows : List ℤ) (ts ss ms : List ℕ) (number place : ℕ) → (feedOf s rows ts ss ms) .answer ≡ Refused number place t
+pub refusal-changes-nothing : (s t : State) (rows : List ℤ) (ts ss ms : List ℕ) (number place : ℕ) → (feedOf s rows ts ss ms) .answer
+    ≡ Refused number place t
     → (t ≡ s) × ((feedOf s rows ts ss ms) .rows ≡ rows)
 refusal-changes-nothing = refused-stays
 
 -- slices of one length are answered as the packets that they hold; 10 is for any others
-pub slices-are-packets : (s : State) (rows : List ℤ) (ts ss ms : List ℕ) → OneLength ts ss ms → feedOf s rows ts ss ms ≡ feedAll s rows (packets ts ss ms)
+pub slices-are-packets : (s : State) (rows : List ℤ) (ts ss ms : List ℕ) → OneLength ts ss ms → feedOf s rows ts ss ms
+    ≡ feedAll s rows (packets ts ss ms)
 slices-are-packets = feed-slices
 
 -- 9 is for no state that set-up gives, and for none that an accepted call gives: no range is narrower than what accepted calls reach.
@@ -88,7 +90,8 @@ module _ (x : StreamNumbers) (set-up : setUpOf x ≡ 0) (l : List Packet) (close
   -- the accepted calls before it, wherever they were cut
   pub first-refusal : (call : List Packet) (rows : List ℤ) (r : Refusal) → declared (l ++ call) ≡ Scan-Refused r
       → feedAll S rows call ≡ record { answer = Refused (r .number) (r .place) S; rows = rows }
-  first-refusal call rows r e = refused-call S rows call r (of-sound S (sound-after l (freshOf x) (sound-fresh x set-up) passes)) (scan-of-call x l call closed r accepted e)
+  first-refusal call rows r e = refused-call S rows call r (of-sound S (sound-after l (freshOf x) (sound-fresh x set-up) passes))
+      (scan-of-call x l call closed r accepted e)
 
   -- ---- Demand 2: "Frame times, offsets, latency, margin, gap, levels and limits equal the exact fractions; every other row number, the counts and the
   -- buffer answer are document 01's."
@@ -110,8 +113,12 @@ module _ (x : StreamNumbers) (set-up : setUpOf x ≡ 0) (l : List Packet) (close
       → (r : Row) × (FB.rowsAt (rulesOf x .plan) (frameHistory x l) i ≡ r ∷ []) × FP.RowIs (rulesOf x .plan) (frameHistory x l) i r
   row-of-frame i h e =
       let plan = rulesOf x .plan in
-      let f = frameHistory x l in
-      (FS.rowOf plan (FP.numberAt f i) (FB.markedTime plan f i) (FB.closedAt plan f i), rw e, FR.row-is (rulesOf x .plan) (frameHistory x l) in-order i h (planned x set-up) e)
+      let f = frameHistory x l in (
+        FS.rowOf plan (FP.numberAt f i) (FB.markedTime plan f i) (FB.closedAt plan f i),
+        rw e,
+        FR.row-is (rulesOf x .plan)
+            (frameHistory x l) in-order i h (planned x set-up) e,
+      )
 
   -- C_MAX, VRX_FULL, TRO and the reads' spacing are the paper's fractions of the stream numbers (limits/specs/Paper.antt)
   pub limits-are : (rulesOf x .limit ≡ cMax (classOf (x .class)) (x .schedule) (frameOf x) (x .n))
@@ -131,7 +138,8 @@ module _ (x : StreamNumbers) (set-up : setUpOf x ≡ 0) (l : List Packet) (close
   pub dealt-over-calls : (calls : List Call) → allOf calls ≡ l → Rooms (freshOf x) calls
       → Deals (freshOf x) calls S (numbers (rowsAfter (rulesOf x) (freshOf x) l))
   dealt-over-calls calls e room =
-      subst (λ (m : List Packet). Deals (freshOf x) calls (stateAfter (rulesOf x) (freshOf x) m) (numbers (rowsAfter (rulesOf x) (freshOf x) m))) e
+      subst (λ (m : List Packet). Deals (freshOf x) calls (stateAfter (rulesOf x) (freshOf x) m)
+      (numbers (rowsAfter (rulesOf x) (freshOf x) m))) e
       (deals calls (freshOf x) (sound-fresh x set-up) (subst (Passes nothing) (sym e) passes) room)
 
   -- the verdict of S is its two answers
@@ -172,7 +180,9 @@ module _ (x : StreamNumbers) (set-up : setUpOf x ≡ 0) (l : List Packet) (close
   )
 
   -- "Packets accepted equal drains that found a packet, counted instant by instant up to the last arrival, plus the level then."
-  pub conservation : (last : ℕ) → length l ≡ suc last → length l ≡ BP.found (bucketHistory x l) (BP.drains (bucketHistory x l) last) + S .bucket .level
+  pub conservation : (last : ℕ) → length l ≡ suc last → length l
+      ≡ BP.found (bucketHistory x l) (BP.drains (bucketHistory x l) last) + S .bucket .level
   unfolding stateAt
-  conservation last e = subst (λ (s : State). length l ≡ BP.found (bucketHistory x l) (BP.drains (bucketHistory x l) last) + s .bucket .level) (sym state-of-history)
+  conservation last e = subst (λ (s : State). length l
+      ≡ BP.found (bucketHistory x l) (BP.drains (bucketHistory x l) last) + s .bucket .level) (sym state-of-history)
       (BO.conservation (bucketHistory x l) long in-grains (rulesOf x .limit) last e)

@@ -129,11 +129,13 @@ allOf (c ∷ cs) = c .packets ++ allOf cs
 -- each call is accepted, from the state that the one before it gave; `out` is what they write, one after the other
 pub data Deals : State → List Call → State → List ℤ → Type 0 where
   none : {s : State} → Deals s [] s []
-  call : {s t u : State} {c : Call} {cs : List Call} (out more : List ℤ) → feedAll s (c .rows) (c .packets) ≡ record { answer = Accepted t; rows = laid 0 out (c .rows) }
+  call : {s t u : State} {c : Call} {cs : List Call} (out more : List ℤ) → feedAll s (c .rows) (c .packets)
+      ≡ record { answer = Accepted t; rows = laid 0 out (c .rows) }
       → Deals t cs u more → Deals s (c ∷ cs) u (out ++ more)
 
 -- each call has room for the rows of the frames that it closes
 unfoldable pub Rooms : State → List Call → Type 0
 Rooms s [] = Unit
 Rooms s (c ∷ cs) =
-    (length (rowsAfter (rulesOf (s .numbers)) s (c .packets)) * 10 ≤ length (c .rows)) × Rooms (stateAfter (rulesOf (s .numbers)) s (c .packets)) cs
+    (length (rowsAfter (rulesOf (s .numbers)) s (c .packets)) * 10 ≤ length (c .rows))
+    × Rooms (stateAfter (rulesOf (s .numbers)) s (c .packets)) cs

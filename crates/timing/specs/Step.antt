@@ -63,7 +63,14 @@ arriveOf rules s t stamp = record {
 
 -- and is a marker
 unfoldable pub markOf : Rules → State → ℕ → State
-markOf rules s t = record { numbers = s .numbers; past = s .past; drained = s .drained; bucket = s .bucket; frames = F.closeOf (rules .plan) (s .frames) t }
+markOf rules s t = record {
+  numbers = s .numbers;
+  past = s .past;
+  drained = s .drained;
+  bucket = s .bucket;
+  frames = F.closeOf
+      (rules .plan) (s .frames) t;
+}
 
 unfoldable pub stepOf : Rules → State → Packet → State
 unfolding arriveOf markOf

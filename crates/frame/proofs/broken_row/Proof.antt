@@ -17,7 +17,12 @@ cast-t6 : tie.Need-cast-t6
 cast-t6 c = search needs
 
 returns : tie.Need-returns
-returns c = rw (toZ-pos w64 {n = c .args .number} (omega arith), toZ-pos w64 {n = c .args .kind} (omega arith), toZ-pos w64 {n = c .args .detail} (omega arith))
+returns c = rw (
+  toZ-pos w64 {n = c .args .number} (omega arith),
+  toZ-pos w64 {n = c .args .kind} (omega arith),
+  toZ-pos w64
+      {n = c .args .detail} (omega arith),
+)
 
 pub broken-row-spec : {M : Type 1} → statement M
 broken-row-spec = tie.close (tie.spec cast-t4 cast-t5 cast-t6 returns)

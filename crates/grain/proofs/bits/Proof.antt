@@ -27,7 +27,8 @@ returns c = plain-bits (toZ w64 (ofZ w64 (c .before .args .x))) (c .if1 .taken) 
 returns-2 : tie.Need-returns-2
 returns-2 c = let z = toZ w64 (ofZ w64 (c .before .args .x)) in
     let f = back-fits (c .before .fits .x) in
-    ap (λ (n : ℕ). 18446744073709551615 - n) (flip-size z f (c .if1 .left)) ∙ flip-bits z f (c .if1 .left) ∙ ap (ofZ w64) (toZ-ofZ (c .before .fits .x))
+    ap (λ (n : ℕ). 18446744073709551615 - n) (flip-size z f (c .if1 .left)) ∙ flip-bits z f (c .if1 .left)
+    ∙ ap (ofZ w64) (toZ-ofZ (c .before .fits .x))
 
 pub bits-spec : {M : Type 1} → statement M
 bits-spec = tie.close (tie.spec cast-result sub-below cast-below sub-result returns returns-2)

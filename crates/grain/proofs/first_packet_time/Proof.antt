@@ -14,7 +14,8 @@ frame-phase-requires : tie.Need-frame-phase-requires
 frame-phase-requires c κs = search needs
 
 difference-requires : tie.Need-difference-requires
-difference-requires c κs = let a = c .before .args in omega (arith, c .frame-phase .ensures, phase-small (27 * a .t) (a .frame) (omega arith))
+difference-requires c κs = let a = c .before .args in omega
+    (arith, c .frame-phase .ensures, phase-small (27 * a .t) (a .frame) (omega arith))
 
 returns : tie.Need-returns
 returns c = let a = c .before .before .args in

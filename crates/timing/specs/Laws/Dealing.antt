@@ -45,27 +45,34 @@ sound-after (q ∷ l) s x p =
     (sound-after l (stepOf rules s q) (sound-step s q x (p .0)) (subst (λ (y : Past). Passes y l) (sym (step-past rules s q)) (p .1)))
 
 -- packets that pass are scanned with nothing to refuse
-passes-scan : (l : List Packet) (rules : Rules) (s : State) (k : ℕ) → Passes (s .past) l → scanOf (s .past) (s .frames .begun) k l ≡ Fine (k + length (rowsAfter rules s l))
+passes-scan : (l : List Packet) (rules : Rules) (s : State) (k : ℕ) → Passes (s .past) l → scanOf (s .past) (s .frames .begun) k l
+    ≡ Fine (k + length (rowsAfter rules s l))
 unfolding Passes scanOf rowsAfter
 passes-scan [] rules s k p = ap Fine (omega arith)
 passes-scan (q ∷ l) rules s k p =
     let next = subst (λ (y : Past). Passes y l) (sym (step-past rules s q)) (p .1) in
     let ih = passes-scan l rules (stepOf rules s q) (k + closes (s .frames .begun) q) next in
-    let here = subst (λ (y : Past). scanOf y ((stepOf rules s q) .frames .begun) (k + closes (s .frames .begun) q) l ≡ Fine (k + closes (s .frames .begun) q + length (rowsAfter rules (stepOf rules s q) l))) (step-past rules s q) ih in
-    let there = subst (λ (b : Bool). scanOf (nextOf (s .past) (q .time)) b (k + closes (s .frames .begun) q) l ≡ Fine (k + closes (s .frames .begun) q + length (rowsAfter rules (stepOf rules s q) l))) (begun-step rules s q) here in
-    let count : k + closes (s .frames .begun) q + length (rowsAfter rules (stepOf rules s q) l) ≡ k + length (rowsOf rules s q ++ rowsAfter rules (stepOf rules s q) l) =
+    let here = subst (λ (y : Past). scanOf y ((stepOf rules s q) .frames .begun) (k + closes (s .frames .begun) q) l
+    ≡ Fine (k + closes (s .frames .begun) q + length (rowsAfter rules (stepOf rules s q) l))) (step-past rules s q) ih in
+    let there = subst (λ (b : Bool). scanOf (nextOf (s .past) (q .time)) b (k + closes (s .frames .begun) q) l
+    ≡ Fine (k + closes (s .frames .begun) q + length (rowsAfter rules (stepOf rules s q) l))) (begun-step rules s q) here in
+    let count : k + closes (s .frames .begun) q + length (rowsAfter rules (stepOf rules s q) l)
+    ≡ k + length (rowsOf rules s q ++ rowsAfter rules (stepOf rules s q) l) =
     omega (arith, length-append (rowsOf rules s q) (rowsAfter rules (stepOf rules s q) l), rows-count rules s q) in
     rw (eq-eqb (numberOf (s .past) q) 0 (p .0)) (there ∙ ap Fine count)
 
 -- one call of packets that pass, with room
-accepts : (s : State) (rows : List ℤ) (l : List Packet) → Sound s → Passes (s .past) l → length (rowsAfter (rulesOf (s .numbers)) s l) * 10 ≤ length rows
+accepts : (s : State) (rows : List ℤ) (l : List Packet) → Sound s → Passes (s .past) l
+    → length (rowsAfter (rulesOf (s .numbers)) s l) * 10 ≤ length rows
     → feedAll s rows l ≡ acceptedAs s rows l
 unfolding feedAll
 accepts s rows l x p room =
-    rw (of-sound s x, passes-scan l (rulesOf (s .numbers)) s 0 p) (rw (le-leb ((0 + length (rowsAfter (rulesOf (s .numbers)) s l)) * 10) (length rows) (omega arith)))
+    rw (of-sound s x, passes-scan l (rulesOf (s .numbers)) s 0 p)
+    (rw (le-leb ((0 + length (rowsAfter (rulesOf (s .numbers)) s l)) * 10) (length rows) (omega arith)))
 
 -- passing may be cut
-passes-cut : (rules : Rules) (s : State) (l m : List Packet) → Passes (s .past) (l ++ m) → Passes (s .past) l × Passes ((stateAfter rules s l) .past) m
+passes-cut : (rules : Rules) (s : State) (l m : List Packet) → Passes (s .past) (l ++ m) → Passes (s .past) l
+    × Passes ((stateAfter rules s l) .past) m
 unfolding Passes fold
 passes-cut rules s [] m p = (tt, p)
 passes-cut rules s (q ∷ l) m p =
@@ -85,7 +92,8 @@ deals (c ∷ cs) s x p r =
     let t = stateAfter rules s l in
     let cut = passes-cut rules s l m p in
     let same : rulesOf (t .numbers) ≡ rules = ap rulesOf (numbers-after rules s l) in
-    let rest = subst (λ (q : Rules). Deals t cs (stateAfter q t m) (numbers (rowsAfter q t m))) same (deals cs t (sound-after l s x (cut .0)) (cut .1) (r .1)) in
+    let rest = subst (λ (q : Rules). Deals t cs (stateAfter q t m) (numbers (rowsAfter q t m))) same
+    (deals cs t (sound-after l s x (cut .0)) (cut .1) (r .1)) in
     let all = call (numbers (rowsAfter rules s l)) (numbers (rowsAfter rules t m)) (accepts s (c .rows) l x (cut .0) (r .0)) rest in
     let states : stateAfter rules t m ≡ stateAfter rules s (l ++ m) = sym (fold-cut (stepOf rules) s l m) in
     let rows : numbers (rowsAfter rules s l) ++ numbers (rowsAfter rules t m) ≡ numbers (rowsAfter rules s (l ++ m)) =

@@ -47,13 +47,15 @@ step-is : (rules : Rules) (s : State) (p : Packet) → stepOf rules s p ≡ reco
 unfolding stepOf arriveOf markOf FS.stepOf
 step-is rules s p = go (marked p)
   where
-    go : (m : Bool) → pick m (markOf rules (arriveOf rules s (p .time) (p .stamp)) (p .time)) (arriveOf rules s (p .time) (p .stamp)) ≡ record {
-      numbers = s .numbers;
-      past = nextOf (s .past) (p .time);
-      drained = drainedOf rules (s .past) (p .time);
-      bucket = B.stepOf (s .bucket) (s .past .packets) (drainedOf rules (s .past) (p .time) - s .drained) (rules .limit);
-      frames = pick m (FS.closeOf (rules .plan) (FS.arriveOf (rules .plan) (s .frames) (p .time) (p .stamp)) (p .time)) (FS.arriveOf (rules .plan) (s .frames) (p .time) (p .stamp));
-    }
+    go : (m : Bool) → pick m (markOf rules (arriveOf rules s (p .time) (p .stamp)) (p .time)) (arriveOf rules s (p .time) (p .stamp))
+        ≡ record {
+          numbers = s .numbers;
+          past = nextOf (s .past) (p .time);
+          drained = drainedOf rules (s .past) (p .time);
+          bucket = B.stepOf (s .bucket) (s .past .packets) (drainedOf rules (s .past) (p .time) - s .drained) (rules .limit);
+          frames = pick m (FS.closeOf (rules .plan) (FS.arriveOf (rules .plan) (s .frames) (p .time) (p .stamp)) (p .time))
+              (FS.arriveOf (rules .plan) (s .frames) (p .time) (p .stamp));
+        }
     go true = refl
     go false = refl
 
@@ -79,26 +81,37 @@ module _ (x : StreamNumbers) (l : List Packet) where
         past = next-at l i j;
         drained = drained-is i j;
         bucket = (ap (λ (d : ℕ). B.stepOf (B.bucketAt (BP.drains (bucketHistory x l)) (rulesOf x .limit) i) i d (rulesOf x .limit))
-            (ap (λ (d : ℕ). d - drainedAt x l i) (drained-is i) ∙ drains-since i) ∙ BB.step-by-place (BP.drains (bucketHistory x l)) (rulesOf x .limit) i) j;
+            (ap (λ (d : ℕ). d - drainedAt x l i) (drained-is i) ∙ drains-since i)
+            ∙ BB.step-by-place (BP.drains (bucketHistory x l)) (rulesOf x .limit) i) j;
         frames = FF.frames-step (rulesOf x .plan) (frameHistory x l) i j;
       })
 
   fresh-declared : freshOf x ≡ stateAt x l 0
   unfolding stateAt B.bucketAt
-  fresh-declared = λ j. record { numbers = x; past = pastAt l 0; drained = 0; bucket = B.emptyOf; frames = sym (FF.frames-first (rulesOf x .plan) (frameHistory x l)) j }
+  fresh-declared = λ j. record {
+    numbers = x;
+    past = pastAt l 0;
+    drained = 0;
+    bucket = B.emptyOf;
+    frames = sym
+        (FF.frames-first (rulesOf x .plan) (frameHistory x l)) j;
+  }
 
   -- "A state reached from set-up is the declared state of its history."
   pub state-declared : stateAfter (rulesOf x) (freshOf x) l ≡ stateAt x l (length l)
   state-declared =
-      ap (λ (s : State). stateAfter (rulesOf x) s l) fresh-declared ∙ fold-states (stepOf (rulesOf x)) l nought (stateAt x l) (λ i h. step-declared i)
+      ap (λ (s : State). stateAfter (rulesOf x) s l) fresh-declared
+      ∙ fold-states (stepOf (rulesOf x)) l nought (stateAt x l) (λ i h. step-declared i)
 
 -- rows of a list cut in two
-pub rows-cut : (rules : Rules) (s : State) (l m : List Packet) → rowsAfter rules s (l ++ m) ≡ rowsAfter rules s l ++ rowsAfter rules (stateAfter rules s l) m
+pub rows-cut : (rules : Rules) (s : State) (l m : List Packet) → rowsAfter rules s (l ++ m)
+    ≡ rowsAfter rules s l ++ rowsAfter rules (stateAfter rules s l) m
 unfolding rowsAfter fold
 rows-cut rules s [] m = refl
 rows-cut rules s (p ∷ l) m =
     ap (λ (r : List Row). rowsOf rules s p ++ r) (rows-cut rules (stepOf rules s p) l m)
-    ∙ sym (append-assoc (rowsOf rules s p) (rowsAfter rules (stepOf rules s p) l) (rowsAfter rules (stateAfter rules (stepOf rules s p) l) m))
+    ∙ sym (append-assoc (rowsOf rules s p) (rowsAfter rules (stepOf rules s p) l)
+    (rowsAfter rules (stateAfter rules (stepOf rules s p) l) m))
 
 module _ (x : StreamNumbers) (l : List Packet) where
   row-declared : (i : ℕ) → rowsOf (rulesOf x) (stateAt x l i) (at l i) ≡ F.rowsAt (rulesOf x .plan) (frameHistory x l) i
@@ -113,12 +126,14 @@ module _ (x : StreamNumbers) (l : List Packet) where
   rows-take zero h = refl
   rows-take (suc i) h =
       ap (rowsAfter (rulesOf x) (stateAt x l 0)) (take-suc l i nought h) ∙ rows-cut (rulesOf x) (stateAt x l 0) (take i l) (at l i ∷ [])
-      ∙ rw (rows-take i (omega arith), state-take i (omega arith), row-declared i) (ap (λ (r : List Row). rowsTo x l i ++ r) (append-nil (F.rowsAt (rulesOf x .plan) (frameHistory x l) i)))
+      ∙ rw (rows-take i (omega arith), state-take i (omega arith), row-declared i)
+      (ap (λ (r : List Row). rowsTo x l i ++ r) (append-nil (F.rowsAt (rulesOf x .plan) (frameHistory x l) i)))
 
   -- and the rows written are those of the frames that close, in order
   pub rows-declared : rowsAfter (rulesOf x) (freshOf x) l ≡ rowsTo x l (length l)
   rows-declared =
-      ap (λ (s : State). rowsAfter (rulesOf x) s l) (fresh-declared x l) ∙ ap (rowsAfter (rulesOf x) (stateAt x l 0)) (sym (take-length l)) ∙ rows-take (length l) (omega arith)
+      ap (λ (s : State). rowsAfter (rulesOf x) s l) (fresh-declared x l)
+      ∙ ap (rowsAfter (rulesOf x) (stateAt x l 0)) (sym (take-length l)) ∙ rows-take (length l) (omega arith)
 
 -- an accepted history's arrivals never fall
 not-earlier : (a b c d : Bool) → _≡_ {A = ℕ} (pick a 11 (pick b 12 (pick c 13 (pick d 14 0)))) 0 → b ≡ false
@@ -129,7 +144,9 @@ not-earlier false false c d e = refl
 pub arrivals-climb : (l : List Packet) (n : ℕ) → declared l ≡ Fine n → Climbs (λ i. at l i .time) (length l)
 unfolding refusalAt
 arrivals-climb l n e i h =
-    ltb-false (at l (suc i) .time) (at l i .time) (not-earlier (ltb 1 (at l (suc i) .marker)) (earlierAt l (suc i)) (ltb 600000000000 (at l (suc i) .time - at l 0 .time)) (leb 1000000000 (suc i))
+    ltb-false (at l (suc i) .time) (at l i .time)
+    (not-earlier (ltb 1 (at l (suc i) .marker)) (earlierAt l (suc i)) (ltb 600000000000 (at l (suc i) .time - at l 0 .time))
+    (leb 1000000000 (suc i))
     (fine-everywhere l n (suc i) e h))
 
 -- ---- a call after an accepted history
@@ -145,10 +162,12 @@ scan-after h l closed r e f =
     let whole : andThen (scanOf nothing false 0 h) (λ n. scanOf (pastAfter nothing h) (begunAfter false h) n l) ≡ Refused r =
     sym (scan-cut nothing false 0 h l) ∙ scan-declared (h ++ l) ∙ f in
     let rest : scanOf (pastAfter nothing h) (begunAfter false h) closed l ≡ Refused r =
-    subst (λ (x : Scanned). andThen x (λ n. scanOf (pastAfter nothing h) (begunAfter false h) n l) ≡ Refused r) (scan-declared h ∙ e) whole in
+    subst (λ (x : Scanned). andThen x (λ n. scanOf (pastAfter nothing h) (begunAfter false h) n l) ≡ Refused r) (scan-declared h ∙ e)
+    whole in
     let zero-more : closed + 0 ≡ closed = omega arith in
     more-refused closed (scanOf (pastAfter nothing h) (begunAfter false h) 0 l) r
-    (sym (scan-more (pastAfter nothing h) (begunAfter false h) closed 0 l) ∙ ap (λ (k : ℕ). scanOf (pastAfter nothing h) (begunAfter false h) k l) zero-more ∙ rest)
+    (sym (scan-more (pastAfter nothing h) (begunAfter false h) closed 0 l)
+    ∙ ap (λ (k : ℕ). scanOf (pastAfter nothing h) (begunAfter false h) k l) zero-more ∙ rest)
 
 module _ (x : StreamNumbers) (h : List Packet) where
   past-of : (stateAfter (rulesOf x) (freshOf x) h) .past ≡ pastAfter nothing h

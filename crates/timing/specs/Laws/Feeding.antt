@@ -37,11 +37,13 @@ module _ (s : State) (rows : List ℤ) (ts ss ms : List ℕ) where
   fed-9 e = is (rw e)
 
   module _ (e : inRange s ≡ true) where
-    by-scan : (x : Scanned) → x ≡ scannedOf (s .past) (s .frames .begun) ts ss ms → byScan s rows x (packets ts ss ms) ≡ feedOf s rows ts ss ms
+    by-scan : (x : Scanned) → x ≡ scannedOf (s .past) (s .frames .begun) ts ss ms → byScan s rows x (packets ts ss ms)
+        ≡ feedOf s rows ts ss ms
     unfolding feedOf
     by-scan x f = rw (e, f)
 
-    pub fed-refused : {x : Scanned} {r : Refusal} {a : Fed} → x ≡ scannedOf (s .past) (s .frames .begun) ts ss ms → x ≡ Scan-Refused r → a ≡ refusedAs x s
+    pub fed-refused : {x : Scanned} {r : Refusal} {a : Fed} → x ≡ scannedOf (s .past) (s .frames .begun) ts ss ms → x ≡ Scan-Refused r
+        → a ≡ refusedAs x s
         → Is (feedOf s rows ts ss ms) a rows
     fed-refused {x} {r} {a} f g h =
         let o = is (ap (λ (y : Scanned). byScan s rows y (packets ts ss ms)) (sym g) ∙ by-scan x f) in
@@ -86,7 +88,8 @@ module _ (s : State) (rows : List ℤ) (ts ss ms : List ℕ) where
 -- ---- what an answer tells
 
 -- a refusal leaves state and rows
-refused-room : (s t : State) (rows : List ℤ) (n k p : ℕ) (l : List Packet) → (roomFor s rows n l) .answer ≡ Refused k p t → (t ≡ s) × ((roomFor s rows n l) .rows ≡ rows)
+refused-room : (s t : State) (rows : List ℤ) (n k p : ℕ) (l : List Packet) → (roomFor s rows n l) .answer ≡ Refused k p t → (t ≡ s)
+    × ((roomFor s rows n l) .rows ≡ rows)
 refused-room s t rows n k p l = go (leb (n * 10) (length rows))
   where
     go : (b : Bool) → (pick b (acceptedAs s rows l) (refusedBy s rows 15 (s .past .packets))) .answer ≡ Refused k p t
@@ -94,7 +97,8 @@ refused-room s t rows n k p l = go (leb (n * 10) (length rows))
     go true e = let z : _≡_ {A = ℕ} 0 1 = cc in absurd (omega arith)
     go false e = (cc, refl)
 
-refused-scan : (s t : State) (rows : List ℤ) (x : Scanned) (k p : ℕ) (l : List Packet) → (byScan s rows x l) .answer ≡ Refused k p t → (t ≡ s) × ((byScan s rows x l) .rows ≡ rows)
+refused-scan : (s t : State) (rows : List ℤ) (x : Scanned) (k p : ℕ) (l : List Packet) → (byScan s rows x l) .answer ≡ Refused k p t
+    → (t ≡ s) × ((byScan s rows x l) .rows ≡ rows)
 refused-scan s t rows (Fine n) k p l e = refused-room s t rows n k p l e
 refused-scan s t rows (Scan-Refused r) k p l e = (cc, refl)
 
@@ -103,8 +107,10 @@ pub refused-stays : (s t : State) (rows : List ℤ) (ts ss ms : List ℕ) (k p :
 unfolding feedOf
 refused-stays s t rows ts ss ms k p = go (inRange s)
   where
-    go : (b : Bool) → (pick b (byScan s rows (scannedOf (s .past) (s .frames .begun) ts ss ms) (packets ts ss ms)) (refusedBy s rows 9 0)) .answer ≡ Refused k p t
-        → (t ≡ s) × ((pick b (byScan s rows (scannedOf (s .past) (s .frames .begun) ts ss ms) (packets ts ss ms)) (refusedBy s rows 9 0)) .rows ≡ rows)
+    go : (b : Bool) → (pick b (byScan s rows (scannedOf (s .past) (s .frames .begun) ts ss ms) (packets ts ss ms))
+        (refusedBy s rows 9 0)) .answer ≡ Refused k p t
+        → (t ≡ s) × ((pick b (byScan s rows (scannedOf (s .past) (s .frames .begun) ts ss ms) (packets ts ss ms))
+        (refusedBy s rows 9 0)) .rows ≡ rows)
     go true e = refused-scan s t rows (scannedOf (s .past) (s .frames .begun) ts ss ms) k p (packets ts ss ms) e
     go false e = (cc, refl)
 
@@ -114,10 +120,12 @@ pub record From (s t : State) (l : List Packet) : Type 0 where
   pub passes : Passes (s .past) l
   pub state : t ≡ stateAfter (rulesOf (s .numbers)) s l
 
-accepted-room : (s t : State) (rows : List ℤ) (n : ℕ) (l : List Packet) → (roomFor s rows n l) .answer ≡ Accepted t → t ≡ stateAfter (rulesOf (s .numbers)) s l
+accepted-room : (s t : State) (rows : List ℤ) (n : ℕ) (l : List Packet) → (roomFor s rows n l) .answer ≡ Accepted t → t
+    ≡ stateAfter (rulesOf (s .numbers)) s l
 accepted-room s t rows n l = go (leb (n * 10) (length rows))
   where
-    go : (b : Bool) → (pick b (acceptedAs s rows l) (refusedBy s rows 15 (s .past .packets))) .answer ≡ Accepted t → t ≡ stateAfter (rulesOf (s .numbers)) s l
+    go : (b : Bool) → (pick b (acceptedAs s rows l) (refusedBy s rows 15 (s .past .packets))) .answer ≡ Accepted t → t
+        ≡ stateAfter (rulesOf (s .numbers)) s l
     go true e = cc
     go false e = let z : _≡_ {A = ℕ} 0 1 = cc in absurd (omega arith)
 
@@ -125,8 +133,10 @@ pub accepted-from : (s t : State) (rows : List ℤ) (l : List Packet) → (feedA
 unfolding feedAll
 accepted-from s t rows l = go (inRange s) refl (scanOf (s .past) (s .frames .begun) 0 l) refl
   where
-    go : (b : Bool) → inRange s ≡ b → (x : Scanned) → scanOf (s .past) (s .frames .begun) 0 l ≡ x → (pick b (byScan s rows x l) (refusedBy s rows 9 0)) .answer ≡ Accepted t → From s t l
-    go true e (Fine n) f g = record { in-range = e; passes = scan-runs l (rulesOf (s .numbers)) s 0 n f .0; state = accepted-room s t rows n l g }
+    go : (b : Bool) → inRange s ≡ b → (x : Scanned) → scanOf (s .past) (s .frames .begun) 0 l ≡ x
+        → (pick b (byScan s rows x l) (refusedBy s rows 9 0)) .answer ≡ Accepted t → From s t l
+    go true e (Fine n) f g = record
+        { in-range = e; passes = scan-runs l (rulesOf (s .numbers)) s 0 n f .0; state = accepted-room s t rows n l g }
     go true e (Scan-Refused r) f g = let z : _≡_ {A = ℕ} 0 1 = cc in absurd (omega arith)
     go false e x f g = let z : _≡_ {A = ℕ} 0 1 = cc in absurd (omega arith)
 
@@ -135,12 +145,14 @@ unfolding feedAll scanOf fold rowsAfter numbers laid
 nothing-fed s rows e = rw e (rw (le-leb 0 (length rows) (omega arith)))
 
 -- slices of one length are their packets
-pub feed-slices : (s : State) (rows : List ℤ) (ts ss ms : List ℕ) → OneLength ts ss ms → feedOf s rows ts ss ms ≡ feedAll s rows (packets ts ss ms)
+pub feed-slices : (s : State) (rows : List ℤ) (ts ss ms : List ℕ) → OneLength ts ss ms → feedOf s rows ts ss ms
+    ≡ feedAll s rows (packets ts ss ms)
 unfolding feedOf feedAll
 feed-slices s rows ts ss ms o = rw (lengths-same (s .past) (s .frames .begun) ts ss ms o)
 
 -- a scan's refusal is the call's
-pub refused-call : (s : State) (rows : List ℤ) (l : List Packet) (r : Refusal) → inRange s ≡ true → scanOf (s .past) (s .frames .begun) 0 l ≡ Scan-Refused r
+pub refused-call : (s : State) (rows : List ℤ) (l : List Packet) (r : Refusal) → inRange s ≡ true
+    → scanOf (s .past) (s .frames .begun) 0 l ≡ Scan-Refused r
     → feedAll s rows l ≡ refusedBy s rows (r .number) (r .place)
 unfolding feedAll
 refused-call s rows l r e f = rw (e, f)

@@ -20,7 +20,8 @@ module _ (s : State) where
   -- ---- from the tests to the facts
 
   sound-by : setUpOf (s .numbers) ≡ 0
-      → every (pastRanges s) ≡ true → every (bucketRanges s) ≡ true → every (countRanges s) ≡ true → every (openRanges s) ≡ true → every (keptRanges s) ≡ true → Sound s
+      → every (pastRanges s) ≡ true → every (bucketRanges s) ≡ true → every (countRanges s) ≡ true → every (openRanges s) ≡ true
+      → every (keptRanges s) ≡ true → Sound s
   unfolding rulesOf
   sound-by accepted p b c o k =
       let named = leb (bufferFrame (s .frames .buffer)) (s .past .packets) in
@@ -57,7 +58,11 @@ module _ (s : State) where
           top = leb-true _ _ (k .two);
           deficit = leb-true _ _ (k .four);
           late = leb-true _ _ (k .three);
-          answered = record { frame = leb-true _ _ (and-left named placed (k .five)); place = leb-true _ _ (and-right named placed (k .five)) };
+          answered = record {
+            frame = leb-true _ _ (and-left named placed (k .five));
+            place = leb-true _ _
+                (and-right named placed (k .five));
+          };
         };
       }
 
@@ -65,7 +70,8 @@ module _ (s : State) where
   unfolding inRange
   sound-of e =
       let set-up = eqb (setUpOf (s .numbers)) 0 in
-      let groups = every (every (pastRanges s) ∷ every (bucketRanges s) ∷ every (countRanges s) ∷ every (openRanges s) ∷ every (keptRanges s) ∷ []) in
+      let groups = every (every (pastRanges s) ∷ every (bucketRanges s) ∷ every (countRanges s) ∷ every (openRanges s) ∷ every
+      (keptRanges s) ∷ []) in
       let ranges = five-of _ _ _ _ _ (and-right set-up groups e) in
       sound-by (eqb-true _ _ (and-left set-up groups e)) (ranges .one) (ranges .two) (ranges .three) (ranges .four) (ranges .five)
 

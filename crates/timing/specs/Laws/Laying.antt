@@ -16,11 +16,13 @@ use Rattle.timing.specs.Step.{numbers}
 use Rattle.timing.specs.Feed.{closing, Laid}
 
 module _ (rules : Rules) (s : State) (at : ℕ) (before : List ℤ) where
-  one-row : s .frames .begun ≡ true → numbers (closing rules s) ≡ numbersOf (rowOf (rules .plan) (s .frames .closed) (s .frames .marked) (s .frames .current))
+  one-row : s .frames .begun ≡ true → numbers (closing rules s)
+      ≡ numbersOf (rowOf (rules .plan) (s .frames .closed) (s .frames .marked) (s .frames .current))
   unfolding numbers
   one-row e = rw e (append-nil _)
 
-  pub lays-one : {after : List ℤ} (row : Row) → s .frames .begun ≡ true → row ≡ rowOf (rules .plan) (s .frames .closed) (s .frames .marked) (s .frames .current)
+  pub lays-one : {after : List ℤ} (row : Row) → s .frames .begun ≡ true → row
+      ≡ rowOf (rules .plan) (s .frames .closed) (s .frames .marked) (s .frames .current)
       → after ≡ laid at (numbersOf row) before → Laid rules s at before (at + 10) after
   lays-one row e f g = record { next = rw (one-row e); rows = g ∙ rw (f, one-row e) }
 

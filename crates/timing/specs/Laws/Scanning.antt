@@ -39,7 +39,8 @@ pub begun-step : (rules : Rules) (s : State) (p : Packet) → (stepOf rules s p)
 unfolding stepOf arriveOf markOf F.arriveOf F.closeOf
 begun-step rules s p = go (marked p)
   where
-    go : (m : Bool) → (pick m (markOf rules (arriveOf rules s (p .time) (p .stamp)) (p .time)) (arriveOf rules s (p .time) (p .stamp))) .frames .begun ≡ (s .frames .begun || m)
+    go : (m : Bool) → (pick m (markOf rules (arriveOf rules s (p .time) (p .stamp)) (p .time)) (arriveOf rules s (p .time) (p .stamp)))
+        .frames .begun ≡ (s .frames .begun || m)
     go true = or-true (s .frames .begun)
     go false = or-false (s .frames .begun)
 
@@ -60,7 +61,8 @@ unfolding scanOf
 fine-goes past begun k n p ps = go (eqb (numberOf past p) 0) refl
   where
     go : (t : Bool) → eqb (numberOf past p) 0 ≡ t
-        → pick t (scanOf (nextOf past (p .time)) (begun || marked p) (k + closes begun p) ps) (Refused (record { number = numberOf past p; place = past .packets })) ≡ Fine n
+        → pick t (scanOf (nextOf past (p .time)) (begun || marked p) (k + closes begun p) ps)
+        (Refused (record { number = numberOf past p; place = past .packets })) ≡ Fine n
         → (numberOf past p ≡ 0) × (scanOf (nextOf past (p .time)) (begun || marked p) (k + closes begun p) ps ≡ Fine n)
     go true e f = (eqb-true (numberOf past p) 0 e, f)
     go false e f = let z : _≡_ {A = ℕ} 0 1 = cc in absurd (omega arith)
@@ -75,7 +77,9 @@ unfolding Passes rowsAfter
 scan-runs [] rules s k n e = (tt, omega (arith, fine-none (s .past) (s .frames .begun) k n e))
 scan-runs (p ∷ ps) rules s k n e =
     let g = fine-goes (s .past) (s .frames .begun) k n p ps e in
-    let ih = scan-runs ps rules (stepOf rules s p) (k + closes (s .frames .begun) p) n (rw (step-past rules s p, begun-step rules s p) (g .1)) in
-    let both : length (rowsOf rules s p ++ rowsAfter rules (stepOf rules s p) ps) ≡ length (rowsOf rules s p) + length (rowsAfter rules (stepOf rules s p) ps) =
+    let ih = scan-runs ps rules (stepOf rules s p) (k + closes (s .frames .begun) p) n
+    (rw (step-past rules s p, begun-step rules s p) (g .1)) in
+    let both : length (rowsOf rules s p ++ rowsAfter rules (stepOf rules s p) ps)
+    ≡ length (rowsOf rules s p) + length (rowsAfter rules (stepOf rules s p) ps) =
     length-append (rowsOf rules s p) (rowsAfter rules (stepOf rules s p) ps) in
     ((g .0, subst (λ (q : Past). Passes q ps) (step-past rules s p) (ih .0)), omega (arith, ih .1, rows-count rules s p))

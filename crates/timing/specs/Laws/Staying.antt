@@ -26,7 +26,8 @@ use Rattle.timing.specs.Feed.{Arrives, Lays}
 use Rattle.timing.specs.Laws.Planning.{planned, spacing-some, reach-fits, drains-few, guess-fits}
 
 -- the bucket names no more than the packets
-judged-first : (v : Network) (above : Bool) (first last m : ℕ) → networkFirst v ≤ m → first ≤ m → networkFirst (B.judged v above first last) ≤ m
+judged-first : (v : Network) (above : Bool) (first last m : ℕ) → networkFirst v ≤ m → first ≤ m
+    → networkFirst (B.judged v above first last) ≤ m
 judged-first Pass true first last m h k = k
 judged-first Pass false first last m h k = h
 judged-first (Burst r) above first last m h k = h
@@ -75,7 +76,8 @@ module _ (s : State) (p : Packet) (x : Sound s) (e : numberOf (s .past) p ≡ 0)
         (planned (s .numbers) (x .accepted)) (x .frames) next;
   }
 
-  kept-arrived : Kept (rulesOf (s .numbers) .plan) (F.arriveOf (rulesOf (s .numbers) .plan) (s .frames) (p .time) (p .stamp)) (firstOf (s .past) (p .time)) (p .time) (s .past .packets + 1)
+  kept-arrived : Kept (rulesOf (s .numbers) .plan) (F.arriveOf (rulesOf (s .numbers) .plan) (s .frames) (p .time) (p .stamp))
+      (firstOf (s .past) (p .time)) (p .time) (s .past .packets + 1)
   kept-arrived = R.kept-arrive (rulesOf (s .numbers) .plan) (s .frames) (s .past .first) (s .past .last) (s .past .packets) (p .time)
       (planned (s .numbers) (x .accepted)) (x .frames) (p .stamp) (firstOf (s .past) (p .time)) next (accepted .in-order) same first-order
 
@@ -97,8 +99,10 @@ module _ (s : State) (p : Packet) (x : Sound s) (e : numberOf (s .past) p ≡ 0)
     frames = kept-arrived;
   }
     where
-      started : pick (leb (s .bucket .level) (drainedOf (rulesOf (s .numbers)) (s .past) (p .time) - s .drained)) (s .past .packets) (s .bucket .start) ≤ s .past .packets + 1
-      started = pick-either (λ k. k ≤ s .past .packets + 1) (leb (s .bucket .level) (drainedOf (rulesOf (s .numbers)) (s .past) (p .time) - s .drained))
+      started : pick (leb (s .bucket .level) (drainedOf (rulesOf (s .numbers)) (s .past) (p .time) - s .drained)) (s .past .packets)
+          (s .bucket .start) ≤ s .past .packets + 1
+      started = pick-either (λ k. k ≤ s .past .packets + 1)
+          (leb (s .bucket .level) (drainedOf (rulesOf (s .numbers)) (s .past) (p .time) - s .drained))
           (λ z. omega arith) (λ z. omega (arith, x .start))
 
   pub few-closed : (arriveOf (rulesOf (s .numbers)) s (p .time) (p .stamp)) .frames .closed ≤ 1000000000
@@ -138,7 +142,8 @@ module _ (s : State) (p : Packet) (x : Sound s) (e : numberOf (s .past) p ≡ 0)
   -- a row can be made of the frame that the packet closes
   pub rows-made : (arriveOf (rulesOf (s .numbers)) s (p .time) (p .stamp)) .frames .begun ≡ true
       → Rowable (rulesOf (s .numbers) .plan) ((arriveOf (rulesOf (s .numbers)) s (p .time) (p .stamp)) .frames .closed)
-      ((arriveOf (rulesOf (s .numbers)) s (p .time) (p .stamp)) .frames .marked) ((arriveOf (rulesOf (s .numbers)) s (p .time) (p .stamp)) .frames .current)
+      ((arriveOf (rulesOf (s .numbers)) s (p .time) (p .stamp)) .frames .marked)
+      ((arriveOf (rulesOf (s .numbers)) s (p .time) (p .stamp)) .frames .current)
   unfolding arriveOf F.arriveOf
   rows-made b = R.rowable (rulesOf (s .numbers) .plan) (s .frames) (s .past .first) (s .past .last) (s .past .packets) (p .time)
       (planned (s .numbers) (x .accepted)) (x .frames) (p .stamp) (firstOf (s .past) (p .time)) next (accepted .in-order) same first-order b

@@ -26,7 +26,8 @@ broken-row-requires c κs = let a = c .before .before .before .args in
 returns-2 : tie.Need-returns-2
 returns-2 c = let a = c .before .before .before .before .args in
     let k = c .before .before .before .kind in
-    c .broken-row .ensures ∙ rw (c .before .detail .ensures) (row-broken (a .plan) (a .number) (a .self) (a .marked) (k .result) (k .ensures) (c .before .before .if1 .left))
+    c .broken-row .ensures ∙ rw (c .before .detail .ensures)
+    (row-broken (a .plan) (a .number) (a .self) (a .marked) (k .result) (k .ensures) (c .before .before .if1 .left))
 
 pub row-spec : {M : Type 1} → statement M
 row-spec =

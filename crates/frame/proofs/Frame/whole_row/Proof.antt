@@ -57,7 +57,8 @@ returns c = let s = c .before .before .before .before .before .before .before in
     let v = c .before .before .before .before .before .video-latency in
     let m = c .before .before .before .difference2 in
     let fpt = toZ-ofZ {w = w64} (record { sfits = d .ok }) ∙ d .ensures in
-    let offset = offset-read (27 * a .self .first) (a .self .stamp) (a .self .phase) (a .plan .period) (omega arith) (omega arith) (omega arith)
+    let offset = offset-read (27 * a .self .first) (a .self .stamp) (a .self .phase) (a .plan .period) (omega arith) (omega arith)
+    (omega arith)
     (d .ensures) (v .ensures) (record { sfits = d .ok }) (record { sfits = v .ok }) in
     let latency = toZ-ofZ {w = w64} (record { sfits = v .ok }) ∙ v .ensures in
     λ j. record {

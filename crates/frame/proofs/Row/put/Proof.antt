@@ -15,7 +15,8 @@ use Rattle.frame.proofs.Row.put.Statement.{statement}
 use Rattle.frame.proofs.Row.put.Tie as tie
 
 abbrev Inv-loop : tie.InvT-loop
-Inv-loop rows₀ at numbers k₀ rows k = (laid (at + k) (drop k numbers) rows ≡ laid at numbers rows₀) × (k ≤ 10) × (length rows ≡ length rows₀) × (length numbers ≡ 10)
+Inv-loop rows₀ at numbers k₀ rows k = (laid (at + k) (drop k numbers) rows ≡ laid at numbers rows₀) × (k ≤ 10)
+    × (length rows ≡ length rows₀) × (length numbers ≡ 10)
 
 abbrev μ-loop : tie.MeasureT-loop
 μ-loop rows₀ at numbers k₀ rows k = 10 - k
@@ -50,7 +51,8 @@ loop-less c = search needs
 loop-again : tie.Need-loop-again Inv-loop μ-loop
 loop-again c = let l = c .before .before .loop in
     let ten = c .before .before .before .numbers .result in (
-      rw (toZ-ofZ {w = w64} (record { sfits = c .rows .given })) (laid-turn _ (l .k) ten (l .rows) (pos 0) (omega (arith, l .inv .3)) ∙ l .inv .0),
+      rw (toZ-ofZ {w = w64} (record { sfits = c .rows .given }))
+          (laid-turn _ (l .k) ten (l .rows) (pos 0) (omega (arith, l .inv .3)) ∙ l .inv .0),
       omega arith,
       simp length-set (l .inv .2),
       l .inv .3,

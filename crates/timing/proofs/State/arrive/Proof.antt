@@ -39,7 +39,8 @@ unfolding arriveOf
 returns c = let n = c .before .before .before in
     let i = n .before in
     let a = i .before .before .before .before .before .before .before .before .args in
-    let grains : i .before .grains .result ≡ 27 * elapsedOf (a .self .past) (a .t) = i .before .grains .ensures ∙ ap (λ (n : ℕ). 27 * n) (i .before .before .elapsed .ensures) in
+    let grains : i .before .grains .result ≡ 27 * elapsedOf (a .self .past) (a .t) = i .before .grains .ensures
+    ∙ ap (λ (n : ℕ). 27 * n) (i .before .before .elapsed .ensures) in
     let drained : i .instants .result ≡ drainedOf (a .rules) (a .self .past) (a .t) =
     i .instants .ensures ∙ ap (λ (n : ℕ). instants n (a .rules .spacing) (a .rules .share)) grains in
     let drains : c .before .before .less .result ≡ drainedOf (a .rules) (a .self .past) (a .t) - a .self .drained =
@@ -48,7 +49,8 @@ returns c = let n = c .before .before .before in
       numbers = a .self .numbers;
       past = (n .next .ensures) j;
       drained = drained j;
-      bucket = (c .before .step .ensures ∙ ap (λ (d : ℕ). B.stepOf (a .self .bucket) (a .self .past .packets) d (a .rules .limit)) drains) j;
+      bucket = (c .before .step .ensures
+          ∙ ap (λ (d : ℕ). B.stepOf (a .self .bucket) (a .self .past .packets) d (a .rules .limit)) drains) j;
       frames = (c .arrive .ensures) j;
     }
 

@@ -48,8 +48,10 @@ run-requires c κs = let k = c .before .before .before .before .before in
     let i = y .before .before .before .in-range in
     let a = y .before .before .before .before .before .before .before .args in
     let e = sym (i .ensures) ∙ not-false (i .result) (y .before .before .if1 .left) in (
-      one-length (a .self) (now (a .rows)) (now (a .arrivals)) (now (a .stamps)) (now (a .markers)) e (y .scan .ensures) (k .scanned .given .1),
-      runs (a .self) (now (a .rows)) (now (a .arrivals)) (now (a .stamps)) (now (a .markers)) e (y .scan .ensures) (k .scanned .given .1) (c .before .rules .ensures) (c .before .before .before .if2 .left),
+      one-length (a .self) (now (a .rows)) (now (a .arrivals)) (now (a .stamps)) (now (a .markers)) e (y .scan .ensures)
+          (k .scanned .given .1),
+      runs (a .self) (now (a .rows)) (now (a .arrivals)) (now (a .stamps)) (now (a .markers)) e (y .scan .ensures)
+          (k .scanned .given .1) (c .before .rules .ensures) (c .before .before .before .if2 .left),
     )
 
 same-length : tie.Need-same-length

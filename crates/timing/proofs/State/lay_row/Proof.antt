@@ -20,7 +20,8 @@ same-length c = search needs
 
 returns : tie.Need-returns
 returns c = let s = c .before .before .before .before .before .before .before in
-    lays-one (s .args .rules) (s .args .self) (s .args .at) _ (c .before .before .before .row .result) (c .before .before .before .before .before .if1 .taken)
+    lays-one (s .args .rules) (s .args .self) (s .args .at) _ (c .before .before .before .row .result)
+    (c .before .before .before .before .before .if1 .taken)
     (c .before .before .before .row .ensures) (c .before .put .ensures)
 
 returns-2 : tie.Need-returns-2

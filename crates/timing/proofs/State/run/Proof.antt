@@ -14,7 +14,8 @@ use Rattle.timing.proofs.State.run.Statement.{statement}
 use Rattle.timing.proofs.State.run.Tie as tie
 
 abbrev Inv-loop : tie.InvT-loop
-Inv-loop rules arrivals stamps markers rows₀ s₀ at₀ i₀ rows s at i = Loop rules s₀ (packets arrivals stamps markers) rows₀ s (packetsFrom i arrivals stamps markers) at rows × (i ≤ length arrivals)
+Inv-loop rules arrivals stamps markers rows₀ s₀ at₀ i₀ rows s at i = Loop rules s₀ (packets arrivals stamps markers) rows₀ s
+    (packetsFrom i arrivals stamps markers) at rows × (i ≤ length arrivals)
 
 abbrev μ-loop : tie.MeasureT-loop
 μ-loop rules arrivals stamps markers rows₀ s₀ at₀ i₀ rows s at i = length arrivals - i
@@ -46,13 +47,15 @@ lay-row-requires : tie.Need-lay-row-requires Inv-loop μ-loop
 lay-row-requires c κs = let k = c .before .before .before .before .before .before in
     let l = k .before in
     let s = l .before .before .before .before in
-    rw (c .before .before .arrive .ensures) (runs-lays (loop-runs (packets-cons (s .pre .0) (l .loop .i) (k .loop-test .taken)) (l .loop .inv .0)) (c .before .if1 .taken))
+    rw (c .before .before .arrive .ensures)
+    (runs-lays (loop-runs (packets-cons (s .pre .0) (l .loop .i) (k .loop-test .taken)) (l .loop .inv .0)) (c .before .if1 .taken))
 
 mark-requires : tie.Need-mark-requires Inv-loop μ-loop
 mark-requires c κs = let k = c .before .before .before .before .before .before .before .before in
     let l = k .before in
     let s = l .before .before .before .before in
-    rw (c .before .before .before .before .arrive .ensures) (runs-closed (loop-runs (packets-cons (s .pre .0) (l .loop .i) (k .loop-test .taken)) (l .loop .inv .0)))
+    rw (c .before .before .before .before .arrive .ensures)
+    (runs-closed (loop-runs (packets-cons (s .pre .0) (l .loop .i) (k .loop-test .taken)) (l .loop .inv .0)))
 
 add-i : tie.Need-add-i Inv-loop μ-loop
 add-i c = let k = c .before .before .before .before .before in
@@ -62,13 +65,21 @@ add-i c = let k = c .before .before .before .before .before in
 loop-less : tie.Need-loop-less Inv-loop μ-loop
 loop-less c = search needs
 
-turn : (c : tie.Joined1 Inv-loop μ-loop) → Turn (c .before .before .before .before .before .before .before .before .before .before .args .rules) (c .before .before .before .before .before .before .loop .s) (lent (now (c .before .before .before .before .before .before .before .before .before .before .args .arrivals)) (now (c .before .before .before .before .before .before .before .before .before .before .args .stamps)) (now (c .before .before .before .before .before .before .before .before .before .before .args .markers)) (c .before .before .before .before .before .before .loop .i)) (c .before .before .before .before .before .before .loop .at) (c .before .before .before .before .before .before .loop .rows) (c .if1 .s) (c .if1 .at) (c .if1 .rows)
+turn : (c : tie.Joined1 Inv-loop μ-loop)
+    → Turn (c .before .before .before .before .before .before .before .before .before .before .args .rules)
+    (c .before .before .before .before .before .before .loop .s)
+    (lent (now (c .before .before .before .before .before .before .before .before .before .before .args .arrivals))
+    (now (c .before .before .before .before .before .before .before .before .before .before .args .stamps))
+    (now (c .before .before .before .before .before .before .before .before .before .before .args .markers))
+    (c .before .before .before .before .before .before .loop .i)) (c .before .before .before .before .before .before .loop .at)
+    (c .before .before .before .before .before .before .loop .rows) (c .if1 .s) (c .if1 .at) (c .if1 .rows)
 turn c =
     let l = c .before .before .before .before .before .before .loop in
     let a = c .before .before .before .before .before .before .before .before .before .before .args in
     let p = lent (now (a .arrivals)) (now (a .stamps)) (now (a .markers)) (l .i) in
     ⊎-elim
-    (λ w. rw (w .6, w .7, w .5) (turn-marked (a .rules) (l .s) p (l .at) (l .rows) (c .before .arrive .ensures) (w .0 .taken) (w .4 .ensures) (w .2 .ensures)))
+    (λ w. rw (w .6, w .7, w .5) (turn-marked (a .rules) (l .s) p (l .at) (l .rows) (c .before .arrive .ensures) (w .0 .taken)
+    (w .4 .ensures) (w .2 .ensures)))
     (λ w. rw (w .2, w .3, w .1) (turn-plain (a .rules) (l .s) p (l .at) (l .rows) (c .before .arrive .ensures) (w .0 .left)))
     (c .if1 .came)
 
