@@ -1,4 +1,6 @@
 -- Each number of the frame by the function that makes it.
+use Prim.Native.Nat.{ℕ, _+_, max}
+use mathlib.Core.Path.{_∙_, ap}
 use Rattle.frame.specs.Step.{countedOf}
 use borrow.Author.Needs.{needs}
 use Rattle.frame.proofs.Frame.counted.Statement.{statement}
@@ -27,7 +29,20 @@ greater-requires-2 c κs = search needs
 
 returns : tie.Need-returns
 unfolding countedOf
-returns c = cc
+returns c = let g = c .before .before in
+    let l = g .before .before in
+    let a = l .before .before .before .args in
+    λ j. record {
+      held = a .self .held + 1;
+      first = a .self .first;
+      stamp = a .self .stamp;
+      phase = a .self .phase;
+      differs = (l .before .lowest .ensures) j;
+      reads = a .reads;
+      top = (g .greater .ensures ∙ ap (max (a .self .top)) (g .before .less .ensures)) j;
+      deficit = (c .greater2 .ensures ∙ ap (max (a .self .deficit)) (c .before .less2 .ensures)) j;
+      late = (l .lowest2 .ensures) j;
+    }
 
 pub counted-spec : {M : Type 1} → statement M
 counted-spec =
