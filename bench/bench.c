@@ -1,0 +1,274 @@
+/* Times the proved measurement and its C twin over the same arrays, in one process, and compares their results.
+   Any difference ends the program with status 1. The twin is there twice, by two compilers: the ratio to the one that
+   the proved code was compiled by too is of the code alone; the other's has the compilers in it. */
+#define _POSIX_C_SOURCE 199309L
+#include "feed.h"
+
+#include <inttypes.h>
+#include <stdio.h>
+#include <stdlib.h>
+#include <string.h>
+#include <time.h>
+
+#define ROW 10
+#define SUMMARY 9
+#define UNTOUCHED 0x5555555555555555ll
+#define DEFAULT_TRO 0xFFFFFFFFu
+#define RATE 6 /* 50 frames a second */
+#define FRAME_NS 20000000ull
+#define TICKS_PER_FRAME 1800u
+#define LONGEST_NS 590000000000ull /* a list longer than 600 s is refused */
+#define ROUNDS 7
+
+struct list {
+    size_t count;
+    uint64_t *arrivals;
+    uint32_t *stamps;
+    uint8_t *markers;
+};
+
+struct stream {
+    uint8_t rate, schedule, class;
+    uint16_t height;
+    uint32_t n;
+    uint16_t maxudp;
+    uint32_t tro;
+};
+
+/* splitmix64: small, and the same numbers on every machine. */
+static uint64_t seed = 2110;
+static uint64_t any(void)
+{
+    uint64_t x = seed += 0x9E3779B97F4A7C15ull;
+    x = (x ^ (x >> 30)) * 0xBF58476D1CE4E5B9ull;
+    x = (x ^ (x >> 27)) * 0x94D049BB133111EBull;
+    return x ^ (x >> 31);
+}
+static uint64_t below(uint64_t m) { return any() % m; }
+
+static void *room(size_t bytes)
+{
+    void *p = malloc(bytes ? bytes : 1);
+    if (!p) {
+        fprintf(stderr, "bench: no memory for %zu bytes\n", bytes);
+        exit(2);
+    }
+    return p;
+}
+
+static struct list new_list(size_t count)
+{
+    struct list l = {count, room(count * sizeof(uint64_t)), room(count * sizeof(uint32_t)), room(count)};
+    return l;
+}
+
+static void free_list(struct list l)
+{
+    free(l.arrivals);
+    free(l.stamps);
+    free(l.markers);
+}
+
+/* A sender on the gapped schedule: the packets of a frame lie 24/25 of it apart in all, each up to two spacings late. */
+static struct list jittered(size_t count, uint32_t n)
+{
+    struct list l = new_list(count);
+    const uint64_t spacing = FRAME_NS * 24 / 25 / n;
+    const uint64_t epoch = 1700000000ull * 50; /* frames since the SMPTE epoch */
+    uint64_t before = 0;
+    for (size_t i = 0; i < count; i++) {
+        uint64_t frame = epoch + i / n, place = i % n;
+        uint64_t t = frame * FRAME_NS + 700000 + place * (FRAME_NS * 24 / 25) / n + (n > 1 ? below(2 * spacing) : below(1000));
+        before = l.arrivals[i] = t < before ? before : t;
+        l.stamps[i] = (uint32_t)(frame * TICKS_PER_FRAME);
+        l.markers[i] = place == n - 1;
+    }
+    return l;
+}
+
+static uint8_t fed(feed_function *feed, struct stream s, struct list l, int64_t *rows, size_t row_count, uint64_t *out)
+{
+    return feed(s.rate, s.schedule, s.class, s.height, s.n, s.maxudp, s.tro, l.arrivals, l.count, l.stamps, l.count, l.markers,
+                l.count, rows, row_count, out, SUMMARY);
+}
+
+static void differ(const char *what, struct stream s, size_t count, size_t place, int64_t proved, int64_t twin)
+{
+    printf("DIFFERENT: %s %zu: proved %" PRId64 ", twin %" PRId64 "; rate %u schedule %u class %u height %u n %u maxudp %u tro %u, %zu packets\n",
+           what, place, proved, twin, s.rate, s.schedule, s.class, s.height, s.n, s.maxudp, s.tro, count);
+    exit(1);
+}
+
+/* Both fill buffers that held one known value; all of each is compared, so that a number too many shows too. */
+static uint8_t agree_with(feed_function *twin_function, struct stream s, struct list l, size_t row_count)
+{
+    int64_t *a = room(row_count * sizeof *a), *b = room(row_count * sizeof *b);
+    uint64_t x[SUMMARY], y[SUMMARY];
+    for (size_t i = 0; i < row_count; i++) a[i] = b[i] = UNTOUCHED;
+    for (int i = 0; i < SUMMARY; i++) x[i] = y[i] = UNTOUCHED;
+    uint8_t proved = fed(vtiming_feed, s, l, a, row_count, x), twin = fed(twin_function, s, l, b, row_count, y);
+    if (proved != twin) differ("answer", s, l.count, 0, proved, twin);
+    for (size_t i = 0; i < row_count; i++)
+        if (a[i] != b[i]) differ("row number", s, l.count, i, a[i], b[i]);
+    for (size_t i = 0; i < SUMMARY; i++)
+        if (x[i] != y[i]) differ("summary number", s, l.count, i, (int64_t)x[i], (int64_t)y[i]);
+    free(a);
+    free(b);
+    return proved;
+}
+
+static uint8_t agree(struct stream s, struct list l, size_t row_count)
+{
+    agree_with(kit_twin_feed, s, l, row_count);
+    return agree_with(twin_feed, s, l, row_count);
+}
+
+/* Short lists of every sort: all rates and classes, frames short, long and of two timestamps, bursts, long pauses, refusals. */
+static void agree_on_short_lists(unsigned lists)
+{
+    unsigned by_answer[256] = {0};
+    for (unsigned k = 0; k < lists; k++) {
+        struct stream s;
+        s.rate = (uint8_t)(1 + below(8));
+        s.schedule = (uint8_t)below(2);
+        s.class = (uint8_t)(below(2) ? 3 * below(2) : 1u + s.schedule);
+        s.height = below(2) ? 1080 : 720;
+        s.n = (uint32_t)(below(4) ? 1 + below(8) : 1 + below(20000));
+        s.maxudp = below(2) ? 1460 : 8960;
+        s.tro = below(2) ? DEFAULT_TRO : (uint32_t)below(16000);
+        if (below(20) == 0) switch (below(7)) { /* one number that set-up refuses */
+            case 0: s.rate = 9; break;
+            case 1: s.schedule = 2; break;
+            case 2: s.class = 4; break;
+            case 3: s.height = 0; break;
+            case 4: s.n = 20001; break;
+            case 5: s.maxudp = 1500; break;
+            default: s.tro = 50000; break;
+        }
+        struct list l = new_list(below(200));
+        uint64_t t = below(2) ? any() >> below(40) : below(100000000);
+        uint64_t step = 1 + FRAME_NS / (s.n ? s.n : 1);
+        uint32_t stamp = (uint32_t)any();
+        if (t > UINT64_MAX - 2000000000000ull) t -= 2000000000000ull;
+        uint64_t held = 0;
+        for (size_t i = 0; i < l.count; i++) {
+            l.arrivals[i] = t;
+            l.stamps[i] = below(100) ? stamp : (uint32_t)any();
+            held++;
+            l.markers[i] = below(30) ? held >= s.n : (uint8_t)below(2);
+            if (l.markers[i]) {
+                held = 0;
+                stamp += TICKS_PER_FRAME;
+            }
+            t += below(8) ? below(2 * step) : below(2) ? 0 : below(20 * step);
+        }
+        if (l.count > 0 && below(20) == 0) {
+            size_t i = below(l.count);
+            if (below(2)) l.markers[i] = 2;
+            else l.arrivals[i] = below(2) ? l.arrivals[i] / 2 : l.arrivals[i] + 600000000001ull;
+        }
+        by_answer[agree(s, l, below(10) ? 2000 : below(200))]++;
+        free_list(l);
+    }
+    printf("%u short lists: the two agree;", lists);
+    for (int i = 0; i < 256; i++)
+        if (by_answer[i]) printf(" %s%d: %u", i ? "refused by " : "answer ", i, by_answer[i]);
+    printf("\n");
+}
+
+static double now(void)
+{
+    struct timespec t;
+    clock_gettime(CLOCK_MONOTONIC, &t);
+    return (double)t.tv_sec * 1e9 + (double)t.tv_nsec;
+}
+
+static volatile uint64_t sink;
+
+/* The floor: each number of the three arrays read once. */
+static void read_all(struct list l)
+{
+    uint64_t sum = 0;
+    for (size_t i = 0; i < l.count; i++) sum += l.arrivals[i] ^ l.stamps[i] ^ l.markers[i];
+    sink = sum;
+}
+
+static void keep_least(double *least, double x)
+{
+    if (*least == 0 || x < *least) *least = x;
+}
+
+/* Nanoseconds for so many calls. */
+static double timed(feed_function *feed, size_t calls, struct stream s, struct list l, int64_t *rows, size_t row_count)
+{
+    uint64_t out[SUMMARY];
+    double start = now();
+    for (size_t k = 0; k < calls; k++) fed(feed, s, l, rows, row_count, out);
+    return now() - start;
+}
+
+struct ratios {
+    double same, system;
+};
+
+static struct ratios measure(uint32_t n, size_t wanted)
+{
+    struct stream s = {RATE, 0, 1, 1080, n, 1460, DEFAULT_TRO};
+    /* A stream of few packets a frame reaches 600 s first: then the list is as long as may be, and is fed again and again. */
+    size_t longest = LONGEST_NS / FRAME_NS * n, count = wanted < longest ? wanted : longest;
+    size_t calls = (wanted + count - 1) / count;
+    struct list l = jittered(count, n);
+    size_t row_count = (count / n + 1) * ROW;
+    uint8_t answer = agree(s, l, row_count);
+    if (answer != 0) {
+        printf("DIFFERENT: the list is refused, by %u\n", answer);
+        exit(1);
+    }
+
+    int64_t *rows = room(row_count * sizeof *rows);
+    memset(rows, 0, row_count * sizeof *rows);
+    double proved = 0, kit = 0, system = 0, floor = 0;
+    for (int round = 0; round < ROUNDS; round++) {
+        keep_least(&proved, timed(vtiming_feed, calls, s, l, rows, row_count));
+        keep_least(&kit, timed(kit_twin_feed, calls, s, l, rows, row_count));
+        keep_least(&system, timed(twin_feed, calls, s, l, rows, row_count));
+        double start = now();
+        for (size_t k = 0; k < calls; k++) read_all(l);
+        keep_least(&floor, now() - start);
+    }
+    /* A list that is refused at its last packet is scanned and not measured: what the scan costs. */
+    double scan = 0;
+    l.markers[count - 1] = 2;
+    for (int round = 0; round < ROUNDS; round++) keep_least(&scan, timed(vtiming_feed, calls, s, l, rows, row_count));
+
+    double packets = (double)count * (double)calls;
+    struct ratios r = {proved / kit, proved / system};
+    printf("%6" PRIu32 " %9zu %6zu %9.2f %9.2f %9.2f %9.2f %9.2f %9.2f %9.2f\n", n, count, calls, proved / packets, scan / packets,
+           kit / packets, system / packets, floor / packets, r.same, r.system);
+    fflush(stdout);
+    free(rows);
+    free_list(l);
+    return r;
+}
+
+int main(void)
+{
+    agree_on_short_lists(20000);
+    printf("1080p50, gapped, narrow, a jittered sender; the least of %d rounds, the two taking turns.\n", ROUNDS);
+    printf("Rows were cleared once, before the first round, and not between; nothing was flushed from a cache.\n");
+    printf("Nanoseconds a packet: proved, its scan alone, the twin by the proved code's compiler, the twin by the system's,\n");
+    printf("and the arrays read once; RATIO is proved to twin, by the same compiler and by the system's.\n");
+    printf("%6s %9s %6s %9s %9s %9s %9s %9s %9s %9s\n", "n", "packets", "calls", "proved", "scan", "twin", "twin/sys", "read",
+           "RATIO", "RATIO/sys");
+    static const size_t counts[] = {100000, 1000000, 4000000};
+    static const uint32_t sizes[] = {1, 100, 4320, 20000};
+    struct ratios worst = {0, 0};
+    for (size_t j = 0; j < sizeof sizes / sizeof *sizes; j++)
+        for (size_t k = 0; k < sizeof counts / sizeof *counts; k++) {
+            struct ratios r = measure(sizes[j], counts[k]);
+            if (r.same > worst.same) worst.same = r.same;
+            if (r.system > worst.system) worst.system = r.system;
+        }
+    printf("All results were the same. The highest ratio is %.2f by the same compiler, %.2f by the system's.\n", worst.same, worst.system);
+    return 0;
+}
