@@ -254,7 +254,7 @@ static struct ratios measure(uint32_t n, size_t wanted)
 int main(void)
 {
     agree_on_short_lists(20000);
-    printf("1080p50, gapped, narrow, a jittered sender; the least of %d rounds, the two taking turns.\n", ROUNDS);
+    printf("1080p50, gapped, narrow, a jittered sender; the least of %d rounds, taking turns.\n", ROUNDS);
     printf("Rows were cleared once, before the first round, and not between; nothing was flushed from a cache.\n");
     printf("Nanoseconds a packet: proved, its scan alone, the twin by the proved code's compiler, the twin by the system's,\n");
     printf("and the arrays read once; RATIO is proved to twin, by the same compiler and by the system's.\n");

@@ -1,4 +1,5 @@
-/* The functions that bench.c compares. A Rattle slice is a pointer and a length. */
+/* The measurement as C calls it, and the twins that bench.c compares with it; compare/host calls it too. A Rattle slice
+   is a pointer and a length. */
 #ifndef FEED_H
 #define FEED_H
 

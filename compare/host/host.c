@@ -1,15 +1,12 @@
 /* Reads record files, hands their packets to the proved measurement and writes what it answers, as the program would
    print it, to FILE.got. It knows the layout of a well-formed file and nothing of measuring: a file whose records are not
    well formed is answered `format`, since reading those is the record reader's business and not compared here. */
+#include "../../bench/feed.h"
+
 #include <inttypes.h>
 #include <stdint.h>
 #include <stdio.h>
 #include <stdlib.h>
-
-uint8_t vtiming_feed(uint8_t rate, uint8_t schedule, uint8_t class, uint16_t height, uint32_t n, uint16_t maxudp, uint32_t tro,
-                     const uint64_t *arrivals, size_t arrival_count, const uint32_t *stamps, size_t stamp_count,
-                     const uint8_t *markers, size_t marker_count, int64_t *rows, size_t row_count, uint64_t *out,
-                     size_t out_count);
 
 enum { PARAMETERS = 19, RECORD = 16, ROW = 10, SUMMARY = 9 };
 
