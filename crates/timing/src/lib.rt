@@ -101,7 +101,7 @@ impl StreamNumbers {
     pub const GRAINS_PER_TICK: u64 = 300000;
 
     // The grains of a time in nanoseconds that is short enough, as 600 s are.
-    pub fn grains(ns: u64) -> u64
+    fn grains(ns: u64) -> u64
         requires { ⌜ ns ≤ 600000000000 ⌝ }
         ensures { λ r. ⌜ r ≡ grainsOf ns ⌝ }
     {
