@@ -1,38 +1,22 @@
 -- A stream set up and fed in one call: the number that comes back, and what the lent slices hold then.
 use mathlib.Core.Path.{_≡_}
-use mathlib.Core.List.{List, [], _∷_}
+use mathlib.Core.List.{List}
 use Prim.Native.Nat.{ℕ}
 use lib.Dec.{ltb}
 use lib.IntN.{ℤ}
 use lib.ListN.{length}
 use Rattle.laws.specs.Choose.{pick}
 use Rattle.laws.specs.Lay.{laid}
-use Rattle.bucket.specs.Paper.{networkNumber, networkFirst, networkLast}
-use Rattle.frame.specs.Paper.{bufferNumber, bufferFrame, bufferPlace}
 use Rattle.timing.specs.declared.StreamNumbers.{StreamNumbers}
 use Rattle.timing.specs.declared.State.{State}
 use Rattle.timing.specs.declared.SetUp.{SetUp}
 use Rattle.timing.specs.declared.SetUp.the-variants.{Fresh, Refused as Not-Set-Up}
 use Rattle.timing.specs.declared.Fed.{Fed}
 use Rattle.timing.specs.declared.Fed.the-variants.{Accepted, Refused}
-use Rattle.timing.specs.Answers.{setUpAs}
+use Rattle.timing.specs.Answers.{setUpAs, summaryOf}
 use Rattle.timing.specs.Feed.{Outcome, feedOf}
 
--- "nine numbers (packets, frames, peak; network [..], first, last; buffer [..], frame, packet or peak [..])"
-abbrev pub summaryOf : State → List ℕ
-summaryOf s =
-    s .past .packets
-    ∷ s .frames .closed
-    ∷ s .bucket .peak
-    ∷ networkNumber (s .bucket .network)
-    ∷ networkFirst (s .bucket .network)
-    ∷ networkLast (s .bucket .network)
-    ∷ bufferNumber (s .frames .buffer)
-    ∷ bufferFrame (s .frames .buffer)
-    ∷ bufferPlace (s .frames .buffer)
-    ∷ []
-
--- laid into the lent numbers where all nine fit
+-- the nine numbers of a state, laid into the lent numbers where they fit
 unfoldable pub summed : State → List ℕ → List ℕ
 summed s out = pick (ltb (length out) 9) out (laid 0 (summaryOf s) out)
 

@@ -4,12 +4,10 @@
 ghost use mathlib.Core.Path.{_≡_};
 ghost use Rattle.feeder.specs.Whole.{summed, wholeOf, Is};
 use timing::Fed;
+use timing::SUMMARY;
 use timing::SetUp;
 use timing::State;
 use timing::StreamNumbers;
-
-// How many numbers sum up a state.
-const SUMMARY: usize = 9;
 
 // Packets, frames, peak and the numbers of the two answers, where they fit.
 fn summarise(s: State, out: &mut [u64])
@@ -18,20 +16,12 @@ fn summarise(s: State, out: &mut [u64])
     if out.len() < SUMMARY {
         return;
     }
-    let past = s.past;
-    let bucket = s.bucket;
-    let network = bucket.network;
-    let frames = s.frames;
-    let buffer = frames.buffer;
-    out[0] = past.packets;
-    out[1] = frames.closed;
-    out[2] = bucket.peak;
-    out[3] = network.number();
-    out[4] = network.first();
-    out[5] = network.last();
-    out[6] = buffer.number();
-    out[7] = buffer.frame();
-    out[8] = buffer.place();
+    let nine = s.summary();
+    let mut k = 0;
+    while k < SUMMARY {
+        out[k] = nine[k];
+        k += 1;
+    }
 }
 
 // 0, or the number by which set-up or the call refuses. Accepted, the rows are written, and the nine numbers

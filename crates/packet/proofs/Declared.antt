@@ -98,3 +98,14 @@ module _ (l : List Packet) where
       pick-either (λ s. s ≡ Fine n → refusalAt l i ≡ 0) (ltb (firstRefused l) (length l))
       (λ t f. absurd (fine-refused n _ (sym f)))
       (λ t f. eqb-true _ 0 (not-false _ (low .before i (omega (arith, ltb-false (firstRefused l) (length l) t))))) e
+
+  -- and counts the frames that close
+  pub fine-count : (n : ℕ) → declared l ≡ Fine n → n ≡ count (closesAt l) (length l)
+  unfolding declared
+  fine-count n e = go (ltb (firstRefused l) (length l)) e
+    where
+      go : (t : Bool) → pick t (Refused (record { number = refusalAt l (firstRefused l); place = firstRefused l }))
+          (Fine (count (closesAt l) (length l))) ≡ Fine n
+          → n ≡ count (closesAt l) (length l)
+      go true e = let z : _≡_ {A = ℕ} 0 1 = cc in absurd (omega arith)
+      go false e = cc

@@ -22,7 +22,7 @@ use Rattle.record.specs.Write.{fileLength, Writes}
 use Rattle.record.specs.Paper.{versionFits, kindOf, numbersAt, packetAt, formatRefusal, setUpOf, parametersRefusal, packetRefusal}
 use Rattle.record.specs.Paper.{Ending, done, stopped, Packets, packetsIn, file, refused, endedFile, asFile, fileOf}
 use Rattle.record.specs.Layout.{parameterRecord, recordsOf, bytesIn}
-use Rattle.record.proofs.Writing.{length-file, written-done, writes-done}
+use Rattle.record.proofs.Writing.{length-file, answers-done, writes-done}
 use Rattle.record.proofs.Format.{formed, kind-of-14}
 use Rattle.record.proofs.Reading.{neither, packet-here, parameters-here, packets-end, packets-stop, packets-go}
 use Rattle.record.proofs.Reading.{reading-20, reading-stop, reading-go}
@@ -96,6 +96,40 @@ version-again : (s : List ℕ) → getD s 0 0 ≡ 1 → 1 ∷ drop 1 s ≡ s
 version-again [] e = absurd (omega arith)
 version-again (b ∷ s) e = rw e
 
+-- what an accepted file holds: its stream numbers and its packets, all accepted
+pub record FileHolds (s : List ℕ) (numbers : Numbers) (ps : List Packet) : Type 0 where
+  pub set-up : setUpOf numbers ≡ 0
+  pub all-read : packetsIn nothing 19 (drop 19 s) ≡ record { accepted = ps; ending = done }
+  pub closed : ℕ
+  pub scan-fine : scanOf nothing false 0 ps ≡ scan.Fine closed
+
+pub file-holds : (s : List ℕ) (numbers : Numbers) (ps : List Packet) → fileOf s ≡ file numbers ps → FileHolds s numbers ps
+file-holds s numbers ps e = go (versionFits s) refl (ℕ-discrete (parametersRefusal (drop 1 s)) 0)
+  where
+    r : Packets
+    r = packetsIn nothing 19 (drop 19 s)
+
+    ends : (d : Ending) → r .ending ≡ d → endedFile (numbersAt (drop 1 s)) (r .accepted) d ≡ file numbers ps
+        → parametersRefusal (drop 1 s) ≡ 0 → FileHolds s numbers ps
+    ends (stopped n o) q f z = absurd (refused-file n o numbers ps f)
+    ends done q f z =
+        let e-numbers : numbersAt (drop 1 s) ≡ numbers = cc in
+        let e-packets : r .accepted ≡ ps = cc in
+        let scans = packets-scan (length (drop 19 s)) nothing false 0 19 (drop 19 s) (omega arith) (omega arith) q in
+        let fine = neither (formatRefusal 1 (drop 1 s)) (setUpOf (numbersAt (drop 1 s))) z .1 in
+        record {
+          set-up = sym (ap setUpOf e-numbers) ∙ fine;
+          all-read = λ j. record { accepted = e-packets j; ending = q j };
+          closed = scans .0;
+          scan-fine = sym (ap (scanOf nothing false 0) e-packets) ∙ scans .1;
+        }
+
+    go : (t : Bool) → versionFits s ≡ t → Dec (parametersRefusal (drop 1 s) ≡ 0) → FileHolds s numbers ps
+    go false v d = absurd (refused-file 20 0 numbers ps (sym (ap asFile (reading-20 s v)) ∙ e))
+    go true v (no n) =
+        absurd (refused-file _ 1 numbers ps (sym (ap asFile (reading-stop s _ v refl (omega arith))) ∙ e))
+    go true v (yes z) = ends (r .ending) refl (sym (ap asFile (reading-go s v z)) ∙ e) z
+
 -- and so is a whole file
 module _ (s : List ℕ) (b : Bytes s) where
   head-again : versionFits s ≡ true → parametersRefusal (drop 1 s) ≡ 0 → 1 ∷ (parameterRecord (numbersAt (drop 1 s)) ++ drop 19 s) ≡ s
@@ -127,31 +161,6 @@ module _ (s : List ℕ) (b : Bytes s) where
           absurd (refused-file _ 1 numbers ps (sym (ap asFile (reading-stop s _ v refl (omega arith))) ∙ e))
       go true v (yes z) = ends (r .ending) refl (sym (ap asFile (reading-go s v z)) ∙ e) v z
 
-  -- its stream numbers and its packets are accepted
-  pub file-accepted : (numbers : Numbers) (ps : List Packet) → fileOf s ≡ file numbers ps
-      → (n : ℕ) × (setUpOf numbers ≡ 0) × (scanOf nothing false 0 ps ≡ scan.Fine n)
-  file-accepted numbers ps e = go (versionFits s) refl (ℕ-discrete (parametersRefusal (drop 1 s)) 0)
-    where
-      r : Packets
-      r = packetsIn nothing 19 (drop 19 s)
-
-      ends : (d : Ending) → r .ending ≡ d → endedFile (numbersAt (drop 1 s)) (r .accepted) d ≡ file numbers ps
-          → parametersRefusal (drop 1 s) ≡ 0 → (n : ℕ) × (setUpOf numbers ≡ 0) × (scanOf nothing false 0 ps ≡ scan.Fine n)
-      ends (stopped n o) q f z = absurd (refused-file n o numbers ps f)
-      ends done q f z =
-          let e-numbers : numbersAt (drop 1 s) ≡ numbers = cc in
-          let e-packets : r .accepted ≡ ps = cc in
-          let scans = packets-scan (length (drop 19 s)) nothing false 0 19 (drop 19 s) (omega arith) (omega arith) q in
-          let fine = neither (formatRefusal 1 (drop 1 s)) (setUpOf (numbersAt (drop 1 s))) z .1 in
-          (scans .0, sym (ap setUpOf e-numbers) ∙ fine, sym (ap (scanOf nothing false 0) e-packets) ∙ scans .1)
-
-      go : (t : Bool) → versionFits s ≡ t → Dec (parametersRefusal (drop 1 s) ≡ 0)
-          → (n : ℕ) × (setUpOf numbers ≡ 0) × (scanOf nothing false 0 ps ≡ scan.Fine n)
-      go false v d = absurd (refused-file 20 0 numbers ps (sym (ap asFile (reading-20 s v)) ∙ e))
-      go true v (no n) =
-          absurd (refused-file _ 1 numbers ps (sym (ap asFile (reading-stop s _ v refl (omega arith))) ∙ e))
-      go true v (yes z) = ends (r .ending) refl (sym (ap asFile (reading-go s v z)) ∙ e) z
-
   -- the writer, given room for the file, writes it again
   pub writer-again : (numbers : Numbers) (ts ss ms out after : List ℕ) (w : Written) → OneLength ts ss ms
       → fileOf s ≡ file numbers (packets ts ss ms) → length s ≤ length out → Writes numbers ts ss ms out w after
@@ -159,11 +168,11 @@ module _ (s : List ℕ) (b : Bytes s) where
   writer-again numbers ts ss ms out after w same e room h =
       let ps = packets ts ss ms in
       let again = file-again numbers ps e in
-      let fine = file-accepted numbers ps e in
+      let holds = file-holds s numbers ps e in
       let size : fileLength (length ts) ≡ length s =
       sym (length-file numbers ps ∙ ap fileLength (packets-length ts ss ms same)) ∙ ap length again in
-      let scanned = lengths-same nothing false ts ss ms same ∙ fine .2 in
+      let scanned = lengths-same nothing false ts ss ms same ∙ holds .scan-fine in
       let done-so : w ≡ Done (length s) =
-      h .answered ∙ written-done numbers ts ss ms out (fine .1) scanned (omega arith) ∙ ap Done size in
+      h .answered ∙ sym (answers-done numbers ts ss ms (length out) (holds .set-up) scanned (omega arith)) ∙ ap Done size in
       let wrote = subst (λ v. Writes numbers ts ss ms out v after) done-so h in
       (done-so, writes-done numbers ts ss ms out after (length s) wrote ∙ again)

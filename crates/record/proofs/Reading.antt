@@ -120,6 +120,16 @@ module _ (past : Past) (at : ℕ) (l : List ℕ) where
       (by-same (length l - 1) (length (drop 16 l)) (nextOf past (packetAt l .time)) (at + 16) (drop 16 l) (omega arith)
       (rw length-drop (omega (arith, here .sixteen))) (omega arith))
 
+  -- where nothing is refused up to the end, what is there is a packet's record, and it is accepted
+  pub packets-accepted : 1 < at → 0 < length l → packetsIn past at l .ending ≡ done → packetRefusal past at l ≡ 0
+  packets-accepted h some e = go (ℕ-discrete (packetRefusal past at l) 0)
+    where
+      go : Dec (packetRefusal past at l ≡ 0) → packetRefusal past at l ≡ 0
+      go (yes f) = f
+      go (no n) =
+          let stops = ap (λ r. r .ending) (packets-stop _ some refl (omega arith)) in
+          let z : _≡_ {A = ℕ} 0 1 = cc in omega arith
+
 -- the file from its first byte
 
 module _ (s : List ℕ) where

@@ -36,7 +36,7 @@ pub written-accepted : (s : Numbers) (ts ss ms out after : List ℕ) (n : ℕ) �
     → ((i : ℕ) → getD ts i 0 < 18446744073709551616) → ((i : ℕ) → getD ss i 0 < 4294967296)
     → Writes s ts ss ms out (Done n) after → fileOf (take n after) ≡ file s (packets ts ss ms)
 written-accepted s ts ss ms out after n hs ht hm w =
-    let was = was-written s ts ss ms out n (w .answered) in
+    let was = was-written s ts ss ms (length out) n (w .answered) in
     let scanned = scanned-fine nothing false ts ss ms (was .closed) (was .scan-fine) in
     ap fileOf (writes-done s ts ss ms out after n w)
     ∙ ap asFile (file-written s (packets ts ss ms) (was .closed) hs (packets-held ts ss ms ht hm) (was .set-up) (scanned .1))

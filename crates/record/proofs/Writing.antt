@@ -59,59 +59,47 @@ pub scan-of : (ts ss ms : List ℕ) {past : Past} {a : Scanned} → past ≡ not
     → scannedOf nothing false ts ss ms ≡ a
 scan-of ts ss ms e f = sym (f ∙ ap (λ p. scannedOf p false ts ss ms) e)
 
-module _ (s : Numbers) (ts ss ms : List ℕ) (out : List ℕ) where
-  written-set-up : (n : ℕ) → setUpOf s ≡ n → 0 < n → Refused n 0 ≡ writtenOf s ts ss ms (length out)
+-- the answer, for so many lent bytes
+module _ (s : Numbers) (ts ss ms : List ℕ) (room : ℕ) where
+  pub answers-set-up : (n : ℕ) → setUpOf s ≡ n → 0 < n → Refused n 0 ≡ writtenOf s ts ss ms room
   unfolding writtenOf
-  written-set-up n e p = rw (e, ne-eqb n 0 (λ z. omega arith))
-
-  pub refuses-set-up : (n : ℕ) → setUpOf s ≡ n → 0 < n → Writes s ts ss ms out (Refused n 0) out
-  refuses-set-up n e p = record { answered = written-set-up n e p; left = refl }
+  answers-set-up n e p = rw (e, ne-eqb n 0 (λ z. omega arith))
 
   module _ (fine : setUpOf s ≡ 0) where
     scanned : {a : Scanned} → scannedOf nothing false ts ss ms ≡ a
-        → writtenOf s ts ss ms (length out) ≡ scanning a (fileLength (length ts)) (length out)
+        → writtenOf s ts ss ms room ≡ scanning a (fileLength (length ts)) room
     unfolding writtenOf
     scanned e = rw (eq-eqb (setUpOf s) 0 fine, e)
 
-    pub refuses-scan : {r : Refusal} {w : Written} → scannedOf nothing false ts ss ms ≡ scan.Refused r → w ≡ Refused (r .number) (r .place)
-        → Writes s ts ss ms out w out
-    refuses-scan e f = record { answered = f ∙ sym (scanned e); left = rw f refl }
+    pub answers-scan : {r : Refusal} {w : Written} → scannedOf nothing false ts ss ms ≡ scan.Refused r → w ≡ Refused (r .number) (r .place)
+        → w ≡ writtenOf s ts ss ms room
+    answers-scan e f = f ∙ sym (scanned e)
 
     module _ {closed : ℕ} (e : scannedOf nothing false ts ss ms ≡ scan.Fine closed) where
-      pub refuses-24 : length out < fileLength (length ts) → Writes s ts ss ms out (Refused 24 0) out
-      refuses-24 h = record {
-        answered = sym (scanned e ∙ rw (lt-leb (fileLength (length ts)) (length out) h));
-        left = refl;
-      }
+      pub answers-24 : room < fileLength (length ts) → Refused 24 0 ≡ writtenOf s ts ss ms room
+      answers-24 h = sym (scanned e ∙ rw (lt-leb (fileLength (length ts)) room h))
 
-      pub written-done : fileLength (length ts) ≤ length out → writtenOf s ts ss ms (length out) ≡ Done (fileLength (length ts))
-      written-done h = scanned e ∙ rw (le-leb (fileLength (length ts)) (length out) h)
+      pub answers-done : fileLength (length ts) ≤ room → Done (fileLength (length ts)) ≡ writtenOf s ts ss ms room
+      answers-done h = sym (scanned e ∙ rw (le-leb (fileLength (length ts)) room h))
 
-      pub same-slices : OneLength ts ss ms
-      same-slices = scanned-fine nothing false ts ss ms closed e .0
+-- a scan that is fine: slices of one length, and by 14 at most 1,000,000,000 packets
+module _ (ts ss ms : List ℕ) {closed : ℕ} (e : scannedOf nothing false ts ss ms ≡ scan.Fine closed) where
+  pub same-slices : OneLength ts ss ms
+  same-slices = scanned-fine nothing false ts ss ms closed e .0
 
-      as-many : length (packets ts ss ms) ≡ length ts
-      as-many = packets-length ts ss ms same-slices
+  as-many : length (packets ts ss ms) ≡ length ts
+  as-many = packets-length ts ss ms same-slices
 
-      -- 14 leaves at most 1,000,000,000 packets
-      pub few-packets : length ts ≤ 1000000000
-      few-packets = go (decLe (length ts) 1000000000)
-        where
-          go : Dec (length ts ≤ 1000000000) → length ts ≤ 1000000000
-          go (yes h) = h
-          go (no n) =
-              let l = packets ts ss ms in
-              let all = sym (scan-declared l) ∙ scanned-fine nothing false ts ss ms closed e .1 in
-              let here = fine-everywhere l closed 1000000000 all (omega (arith, as-many)) in
-              absurd (omega (arith, accepted _ _ _ (refusal-at l 1000000000 ∙ here) .few))
-
-      pub writes-file : {after : List ℕ} → fileLength (length ts) ≤ length out
-          → after ≡ sets (sets out 0 (headOf s)) 19 (recordsOf (packets ts ss ms))
-          → Writes s ts ss ms out (Done (fileLength (length ts))) after
-      writes-file h f = record {
-        answered = sym (written-done h);
-        left = f ∙ rw as-many at (file-stored s (packets ts ss ms) out (rw as-many h));
-      }
+  pub few-packets : length ts ≤ 1000000000
+  few-packets = go (decLe (length ts) 1000000000)
+    where
+      go : Dec (length ts ≤ 1000000000) → length ts ≤ 1000000000
+      go (yes h) = h
+      go (no n) =
+          let l = packets ts ss ms in
+          let all = sym (scan-declared l) ∙ scanned-fine nothing false ts ss ms closed e .1 in
+          let here = fine-everywhere l closed 1000000000 all (omega (arith, as-many)) in
+          absurd (omega (arith, accepted _ _ _ (refusal-at l 1000000000 ∙ here) .few))
 
 -- what an answer of done says
 
@@ -123,31 +111,46 @@ fitting-done needed room n =
     pick-either (λ w. Done n ≡ w → (needed ≤ room) × (n ≡ needed)) (leb needed room)
     (λ t e. (leb-true needed room t, cc)) (λ t e. absurd (done-refused n 24 0 e))
 
-pub record WasWritten (s : Numbers) (ts ss ms out : List ℕ) (n : ℕ) : Type 0 where
+pub record WasWritten (s : Numbers) (ts ss ms : List ℕ) (room n : ℕ) : Type 0 where
   pub set-up : setUpOf s ≡ 0
   pub closed : ℕ
   pub scan-fine : scannedOf nothing false ts ss ms ≡ scan.Fine closed
-  pub room : fileLength (length ts) ≤ length out
+  pub enough : fileLength (length ts) ≤ room
   pub size : n ≡ fileLength (length ts)
 
-pub was-written : (s : Numbers) (ts ss ms out : List ℕ) (n : ℕ) → Done n ≡ writtenOf s ts ss ms (length out) → WasWritten s ts ss ms out n
+pub was-written : (s : Numbers) (ts ss ms : List ℕ) (room n : ℕ) → Done n ≡ writtenOf s ts ss ms room → WasWritten s ts ss ms room n
 unfolding writtenOf
-was-written s ts ss ms out n =
-    pick-either (λ w. Done n ≡ w → WasWritten s ts ss ms out n) (eqb (setUpOf s) 0)
+was-written s ts ss ms room n =
+    pick-either (λ w. Done n ≡ w → WasWritten s ts ss ms room n) (eqb (setUpOf s) 0)
     (λ t e. go (scannedOf nothing false ts ss ms) refl (eqb-true (setUpOf s) 0 t) e) (λ t e. absurd (done-refused n _ 0 e))
   where
     go : (a : Scanned) → scannedOf nothing false ts ss ms ≡ a → setUpOf s ≡ 0
-        → Done n ≡ scanning a (fileLength (length ts)) (length out) → WasWritten s ts ss ms out n
+        → Done n ≡ scanning a (fileLength (length ts)) room → WasWritten s ts ss ms room n
     go (scan.Fine k) f u e =
-        let d = fitting-done (fileLength (length ts)) (length out) n e in
-        record { set-up = u; closed = k; scan-fine = f; room = d .0; size = d .1 }
+        let d = fitting-done (fileLength (length ts)) room n e in
+        record { set-up = u; closed = k; scan-fine = f; enough = d .0; size = d .1 }
     go (scan.Refused r) f u e = absurd (done-refused n _ _ e)
+
+-- refused, the lent bytes stay; else they are the file and what was beyond it
+pub leaves-all : (s : Numbers) (ts ss ms out : List ℕ) {w : Written} {n o : ℕ} → w ≡ writtenOf s ts ss ms (length out) → w ≡ Refused n o
+    → Writes s ts ss ms out w out
+leaves-all s ts ss ms out e f = record { answered = e; left = rw f refl }
+
+pub writes-file : (s : Numbers) (ts ss ms out : List ℕ) {after : List ℕ} {n : ℕ} → WasWritten s ts ss ms (length out) n
+    → Done n ≡ writtenOf s ts ss ms (length out)
+    → after ≡ sets (sets out 0 (headOf s)) 19 (recordsOf (packets ts ss ms)) → Writes s ts ss ms out (Done n) after
+writes-file s ts ss ms out w e g =
+    let many = as-many ts ss ms (w .scan-fine) in
+    record {
+      answered = e;
+      left = g ∙ rw (w .size) (rw many at (file-stored s (packets ts ss ms) out (rw many (w .enough))));
+    }
 
 -- then the file stands in front
 pub writes-done : (s : Numbers) (ts ss ms out after : List ℕ) (n : ℕ) → Writes s ts ss ms out (Done n) after
     → take n after ≡ bytesIn s (packets ts ss ms)
 writes-done s ts ss ms out after n w =
-    let was = was-written s ts ss ms out n (w .answered) in
+    let was = was-written s ts ss ms (length out) n (w .answered) in
     let same = scanned-fine nothing false ts ss ms (was .closed) (was .scan-fine) .0 in
     let file = bytesIn s (packets ts ss ms) in
     let long : length file ≡ n =

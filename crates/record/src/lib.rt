@@ -19,7 +19,7 @@ ghost use Rattle.packet.specs.Step.{nothing};
 ghost use Rattle.record.specs.Paper.{numbersAt, kindLength, setUpOf, packetsIn};
 ghost use Rattle.record.specs.Step.{itemOf, pieceOf, scrapOf, Whole, packetOf};
 ghost use Rattle.record.specs.Layout.{packetWith, packetRecord, headOf, recordsOf};
-ghost use Rattle.record.specs.Write.{scanning, Writes, Fitting};
+ghost use Rattle.record.specs.Write.{scanning, writtenOf, Writes, Fitting};
 ghost use Rattle.record.specs.Walk.{Countable, fresh, tallied, closing, refusedBy, finish, checkedOf};
 
 // The stream numbers, kept as written: class 0 and a TRO of all ones stay what they are.
@@ -415,15 +415,15 @@ fn check_packets(numbers: Numbers, from: Cursor, s: &[u8]) -> Checked
     }
 }
 
-// The whole record file of these stream numbers and packets into lent bytes, or nothing where it is refused.
-pub fn write(
+// What the writer would answer for so many lent bytes. It writes nothing.
+pub fn would_write(
     numbers: Numbers,
     arrivals: &[u64],
     stamps: &[u32],
     markers: &[u8],
-    out: &mut [u8],
+    room: usize,
 ) -> Written
-    ensures { λ r. ⌜ Writes numbers (now (arrivals .entry)) (now (stamps .entry)) (now (markers .entry)) (now (out .entry)) r (now (out .exit)) ⌝ }
+    ensures { λ r. ⌜ r ≡ writtenOf numbers (now (arrivals .entry)) (now (stamps .entry)) (now (markers .entry)) room ⌝ }
 {
     let number = numbers.refusal();
     if number != 0 {
@@ -437,15 +437,32 @@ pub fn write(
         return refused_scan(scanned);
     };
     let needed = 19 + 16 * arrivals.len();
-    if out.len() < needed {
+    if room < needed {
         return Written::Refused {
             number: 24,
             place: 0,
         };
     }
+    Written::Done { bytes: needed }
+}
+
+// The whole record file of these stream numbers and packets into lent bytes, or nothing where it is refused.
+pub fn write(
+    numbers: Numbers,
+    arrivals: &[u64],
+    stamps: &[u32],
+    markers: &[u8],
+    out: &mut [u8],
+) -> Written
+    ensures { λ r. ⌜ Writes numbers (now (arrivals .entry)) (now (stamps .entry)) (now (markers .entry)) (now (out .entry)) r (now (out .exit)) ⌝ }
+{
+    let answer = would_write(numbers, arrivals, stamps, markers, out.len());
+    let Written::Done { bytes } = answer else {
+        return answer;
+    };
     write_parameters(numbers, out);
     write_packets(arrivals, stamps, markers, out);
-    Written::Done { bytes: needed }
+    Written::Done { bytes: bytes }
 }
 
 // The refusal of a scan; a scan that refuses nothing does not come here.

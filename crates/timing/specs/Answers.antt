@@ -1,10 +1,13 @@
--- Set-up, the verdict and the graph: what each answers, for every input.
+-- Set-up, the verdict, the summary and the graph: what each answers, for every input.
 use mathlib.Core.Bool.{Bool, true, false}
+use mathlib.Core.List.{List, [], _∷_}
 use Prim.Native.Nat.{ℕ}
 use lib.Dec.{eqb}
 use lib.IntN.{ℤ, pos}
 use lib.Ieee.{Float, binary64, ofInt, div, inFloat}
 use Rattle.laws.specs.Choose.{pick}
+use Rattle.bucket.specs.Paper.{networkNumber, networkFirst, networkLast}
+use Rattle.frame.specs.Paper.{bufferNumber, bufferFrame, bufferPlace}
 use Rattle.timing.specs.declared.StreamNumbers.{StreamNumbers}
 use Rattle.timing.specs.declared.State.{State}
 use Rattle.timing.specs.declared.SetUp.{SetUp}
@@ -27,6 +30,21 @@ setUpAs x = pick (eqb (setUpOf x) 0) (Fresh (freshOf x)) (Refused (setUpOf x))
 -- "The verdict holds the network answer and the buffer answer."
 unfoldable pub verdictOf : State → Judged
 verdictOf s = pick (inRange s) (Given (record { network = s .bucket .network; buffer = s .frames .buffer })) (Not-Judged 9)
+
+-- "nine numbers (packets, frames, peak; network 0 pass or 1 burst, first, last; buffer 0 none, 1 pass, 2 under or 3 over, frame, packet
+-- or peak; 0 where there is none)"
+unfoldable pub summaryOf : State → List ℕ
+summaryOf s =
+    s .past .packets
+    ∷ s .frames .closed
+    ∷ s .bucket .peak
+    ∷ networkNumber (s .bucket .network)
+    ∷ networkFirst (s .bucket .network)
+    ∷ networkLast (s .bucket .network)
+    ∷ bufferNumber (s .frames .buffer)
+    ∷ bufferFrame (s .frames .buffer)
+    ∷ bufferPlace (s .frames .buffer)
+    ∷ []
 
 -- "FPT, margin and VL as microseconds, each the grains as a double (nothing lost) divided once by 27000."
 unfoldable pub microsecondsOf : ℤ → Float

@@ -14,7 +14,7 @@ ghost use lib.ListN.{length};
 ghost use Rattle.packet.specs.Paper.{OneLength, packets};
 ghost use lib.Dec.{T};
 ghost use lib.Ieee.{binary64, inFloat};
-ghost use Rattle.timing.specs.Answers.{setUpAs, verdictOf, microsecondsOf, graphOf};
+ghost use Rattle.timing.specs.Answers.{setUpAs, verdictOf, summaryOf, microsecondsOf, graphOf};
 ghost use Rattle.timing.specs.Feed.{Arrives, Lays, Laid, Runs, Ran, refusedAs, feedOf, Is};
 use bucket::Bucket;
 use bucket::Network;
@@ -23,6 +23,9 @@ use frame::Frames;
 use frame::Plan;
 use packet::Past;
 use packet::Scanned;
+
+// How many numbers sum up a state.
+pub const SUMMARY: usize = 9;
 
 // The seven numbers that a stream is set up with, as a record file holds them.
 pub struct StreamNumbers {
@@ -314,7 +317,7 @@ fn less(a: u64, b: u64) -> u64
 
 impl State {
     // The packet arrives: it is in the bucket, and in the open frame if there is one.
-    fn arrive(self, rules: Rules, t: u64, stamp: u32) -> State
+    pub fn arrive(self, rules: Rules, t: u64, stamp: u32) -> State
         requires { ⌜ Arrives rules self t ⌝ }
         ensures { λ r. ⌜ r ≡ arriveOf rules self t stamp ⌝ }
     {
@@ -336,7 +339,7 @@ impl State {
     }
 
     // The packet that arrived at t is a marker.
-    fn mark(mut self, rules: Rules, t: u64) -> State
+    pub fn mark(mut self, rules: Rules, t: u64) -> State
         requires { ⌜ self .frames .closed ≤ 1000000000 ⌝ }
         ensures { λ r. ⌜ r ≡ markOf rules self t ⌝ }
     {
@@ -454,6 +457,31 @@ impl State {
         let frames = self.frames;
         let buffer = frames.buffer;
         Judged::Given(Verdict { network, buffer })
+    }
+}
+
+impl State {
+    // The nine numbers that sum up a state, in document 01's order: packets, frames and peak, the network answer and
+    // the buffer answer.
+    pub fn summary(self) -> [u64; SUMMARY]
+        ensures { λ r. ⌜ r ≡ summaryOf self ⌝ }
+    {
+        let past = self.past;
+        let bucket = self.bucket;
+        let network = bucket.network;
+        let frames = self.frames;
+        let buffer = frames.buffer;
+        [
+            past.packets,
+            frames.closed,
+            bucket.peak,
+            network.number(),
+            network.first(),
+            network.last(),
+            buffer.number(),
+            buffer.frame(),
+            buffer.place(),
+        ]
     }
 }
 

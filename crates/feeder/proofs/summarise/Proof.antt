@@ -1,116 +1,83 @@
--- The nine stores are what is laid, the answers' numbers by their contracts.
-use lib.ListN.{length-set}
+-- What is left of the nine numbers, laid from the next place on, gives the end; each turn lays one.
+use mathlib.Core.Path.{_≡_, refl, _∙_}
+use Prim.Native.Nat.{_+_, _-_, _≤_}
 use native.Mathlib.Omega.{arith}
+use native.Mathlib.Nat.{zero-add}
+use lib.ListN.{length, drop, length-set}
 use borrow.Author.Tests.{lt-ltb, le-ltb}
-use Rattle.laws.specs.Lay.{laid}
-use Rattle.feeder.specs.Whole.{summed}
 use borrow.Author.Needs.{needs}
+use Rattle.feeder.specs.Whole.{summed}
+use Rattle.laws.specs.Lay.{laid, laid-turn, laid-done}
 use Rattle.feeder.proofs.summarise.Statement.{statement}
 use Rattle.feeder.proofs.summarise.Tie as tie
 
--- src/lib.rt:17:9
-returns : tie.Need-returns
+abbrev Inv-loop : tie.InvT-loop
+Inv-loop out₀ nine k₀ out k =
+    (laid k (drop k nine) out ≡ laid 0 nine out₀) × (k ≤ 9) × (length out ≡ length out₀) × (length nine ≡ 9)
+
+abbrev μ-loop : tie.MeasureT-loop
+μ-loop out₀ nine k₀ out k = 9 - k
+
+returns : tie.Need-returns Inv-loop μ-loop
 unfolding summed
 returns c = rw (lt-ltb _ 9 (c .if1 .taken))
 
--- src/lib.rt:24:5
-slice-write-out : tie.Need-slice-write-out
+summary-requires : tie.Need-summary-requires Inv-loop μ-loop
+summary-requires c κs = search needs
+
+loop-holds : tie.Need-loop-holds Inv-loop μ-loop
+loop-holds c = (refl, omega arith, refl, search needs)
+
+mul-out : tie.Need-mul-out Inv-loop μ-loop
+mul-out c = search needs
+
+array-read-out : tie.Need-array-read-out Inv-loop μ-loop
+array-read-out c = search needs
+
+mul-out-2 : tie.Need-mul-out-2 Inv-loop μ-loop
+mul-out-2 c = search needs
+
+slice-write-out : tie.Need-slice-write-out Inv-loop μ-loop
 slice-write-out c = search needs
 
--- src/lib.rt:25:5
-slice-write-out-2 : tie.Need-slice-write-out-2
-slice-write-out-2 c = simp length-set (omega arith)
+add-k : tie.Need-add-k Inv-loop μ-loop
+add-k c = search needs
 
--- src/lib.rt:26:5
-slice-write-out-3 : tie.Need-slice-write-out-3
-slice-write-out-3 c = simp length-set (omega arith)
+loop-less : tie.Need-loop-less Inv-loop μ-loop
+loop-less c = search needs
 
--- src/lib.rt:27:14
-number-requires : tie.Need-number-requires
-number-requires c κs = search needs
+loop-again : tie.Need-loop-again Inv-loop μ-loop
+loop-again c =
+    let l = c .before .loop in
+    let nine = c .before .before .summary .result in
+    (rw (zero-add (l .k), zero-add (l .k + 1)) at (laid-turn 0 (l .k) nine (l .out) 0 (omega (arith, l .inv .3))) ∙ l .inv .0, omega arith, simp length-set (l .inv .2), l .inv .3)
 
--- src/lib.rt:27:5
-slice-write-out-4 : tie.Need-slice-write-out-4
-slice-write-out-4 c = simp length-set (omega arith)
+same-length : tie.Need-same-length Inv-loop μ-loop
+same-length c = search needs
 
--- src/lib.rt:28:14
-first-requires : tie.Need-first-requires
-first-requires c κs = search needs
-
--- src/lib.rt:28:5
-slice-write-out-5 : tie.Need-slice-write-out-5
-slice-write-out-5 c = simp length-set (omega arith)
-
--- src/lib.rt:29:14
-last-requires : tie.Need-last-requires
-last-requires c κs = search needs
-
--- src/lib.rt:29:5
-slice-write-out-6 : tie.Need-slice-write-out-6
-slice-write-out-6 c = simp length-set (omega arith)
-
--- src/lib.rt:30:14
-number-requires-2 : tie.Need-number-requires-2
-number-requires-2 c κs = search needs
-
--- src/lib.rt:30:5
-slice-write-out-7 : tie.Need-slice-write-out-7
-slice-write-out-7 c = simp length-set (omega arith)
-
--- src/lib.rt:31:14
-frame-requires : tie.Need-frame-requires
-frame-requires c κs = search needs
-
--- src/lib.rt:31:5
-slice-write-out-8 : tie.Need-slice-write-out-8
-slice-write-out-8 c = simp length-set (omega arith)
-
--- src/lib.rt:32:14
-place-requires : tie.Need-place-requires
-place-requires c κs = search needs
-
--- src/lib.rt:32:5
-slice-write-out-9 : tie.Need-slice-write-out-9
-slice-write-out-9 c = simp length-set (omega arith)
-
--- src/lib.rt:15:1
-same-length : tie.Need-same-length
-same-length c = simp length-set
-
--- src/lib.rt:15:1
-returns-2 : tie.Need-returns-2
-unfolding summed laid
+returns-2 : tie.Need-returns-2 Inv-loop μ-loop
+unfolding summed
 returns-2 c =
-    let after-number = c .before .before .before .before .before in
-    rw (le-ltb _ 9 (after-number .before .before .before .before .if1 .left))
-    (rw (
-      after-number .number .ensures,
-      c .before .before .before .before .first .ensures,
-      c .before .before .before .last .ensures,
-      c .before .before .number2 .ensures,
-      c .before .frame .ensures,
-      c .place .ensures,
-    ))
+    let l = c .before .loop in
+    let summed-up = c .before .before in
+    rw (le-ltb _ 9 (summed-up .before .if1 .left), ← summed-up .summary .ensures)
+    (laid-done 0 (l .k) (summed-up .summary .result) (l .out) (omega (arith, l .inv .3)) (rw (zero-add (l .k)) (l .inv .0)))
 
 pub summarise-spec : {M : Type 1} → statement M
 summarise-spec =
     tie.close
     (tie.spec
+    Inv-loop
+    μ-loop
     returns
+    summary-requires
+    loop-holds
+    mul-out
+    array-read-out
+    mul-out-2
     slice-write-out
-    slice-write-out-2
-    slice-write-out-3
-    number-requires
-    slice-write-out-4
-    first-requires
-    slice-write-out-5
-    last-requires
-    slice-write-out-6
-    number-requires-2
-    slice-write-out-7
-    frame-requires
-    slice-write-out-8
-    place-requires
-    slice-write-out-9
+    add-k
+    loop-less
+    loop-again
     same-length
     returns-2)

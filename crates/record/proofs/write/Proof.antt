@@ -1,104 +1,53 @@
--- The writer: each return is one law, from what was refused before it; the stores are the whole file's, one after the other.
-use mathlib.Core.Path.{sym, ap, _∙_}
-use mathlib.Core.List.{[]}
+-- The writer: refused, nothing is stored; else the stores are the whole file's, one after the other.
+use mathlib.Core.Path.{sym, _∙_}
 use native.Mathlib.Omega.{arith}
 use borrow.Author.Needs.{needs}
-use Rattle.record.specs.Write.{scanning}
-use Rattle.record.proofs.Writing.{scan-of, refuses-set-up, refuses-scan, refuses-24, same-slices, few-packets, writes-file}
+use Rattle.record.proofs.Writing.{same-slices, was-written, leaves-all, writes-file}
 use Rattle.record.proofs.write.Statement.{statement}
 use Rattle.record.proofs.write.Tie as tie
 
-refusal-requires : tie.Need-refusal-requires
-refusal-requires c κs = search needs
+would-write-requires : tie.Need-would-write-requires
+would-write-requires c κs = search needs
 
-returns : tie.Need-returns
-returns c = refuses-set-up _ _ _ _ _ _ (sym (c .before .refusal .ensures)) (omega arith)
-
-none-requires : tie.Need-none-requires
-none-requires c κs = search needs
-
-scan-requires : tie.Need-scan-requires
-scan-requires c κs = search needs
+enum-known-answer : tie.Need-enum-known-answer
+enum-known-answer c = search needs
 
 enum-told : tie.Need-enum-told
 enum-told c = search needs
 
-enum-told-2 : tie.Need-enum-told-2
-enum-told-2 c = search needs
-
-refused-scan-requires : tie.Need-refused-scan-requires
-refused-scan-requires c κs = search needs
-
-returns-2 : tie.Need-returns-2
-returns-2 c =
-    let after-scan = c .before .before .before in
-    let set-up = after-scan .before .before in
-    let fine = sym (set-up .before .refusal .ensures) ∙ set-up .if1 .left in
-    let scanned = scan-of _ _ _ (after-scan .before .none .ensures) (after-scan .scan .ensures) ∙ c .before .enum-told2 .given .1 in
-    refuses-scan _ _ _ _ _ fine scanned (c .refused-scan .ensures ∙ ap (λ a. scanning a 0 0) (c .before .enum-told2 .given .1))
-
-mul-needed : tie.Need-mul-needed
-mul-needed c = search needs
-
-add-needed : tie.Need-add-needed
-add-needed c =
-    let told = c in
-    let after-scan = told .before .before in
-    let set-up = after-scan .before .before in
-    let fine = sym (set-up .before .refusal .ensures) ∙ set-up .if1 .left in
-    let scanned = scan-of _ _ _ (after-scan .before .none .ensures) (after-scan .scan .ensures) ∙ told .enum-told .given .1 in
-    omega (arith, few-packets _ _ _ _ [] fine scanned)
-
-returns-3 : tie.Need-returns-3
-returns-3 c =
-    let told = c .before in
-    let after-scan = told .before .before in
-    let set-up = after-scan .before .before in
-    let fine = sym (set-up .before .refusal .ensures) ∙ set-up .if1 .left in
-    let scanned = scan-of _ _ _ (after-scan .before .none .ensures) (after-scan .scan .ensures) ∙ told .enum-told .given .1 in
-    refuses-24 _ _ _ _ _ fine scanned (omega arith)
+returns : tie.Need-returns
+returns c = leaves-all _ _ _ _ _ (c .before .before .would-write .ensures) (c .enum-told .given .1)
 
 write-parameters-requires : tie.Need-write-parameters-requires
-write-parameters-requires c κs = record { inside = omega arith }
+write-parameters-requires c κs =
+    let told = c .before .before in
+    let was = was-written _ _ _ _ _ _ (sym (told .answer .given .1) ∙ told .before .before .would-write .ensures) in
+    record { inside = omega (arith, was .enough) }
 
 write-packets-requires : tie.Need-write-packets-requires
 write-packets-requires c κs =
     let told = c .before .before .before .before .before .before in
-    let after-scan = told .before .before in
-    let set-up = after-scan .before .before in
-    let fine = sym (set-up .before .refusal .ensures) ∙ set-up .if1 .left in
-    let scanned = scan-of _ _ _ (after-scan .before .none .ensures) (after-scan .scan .ensures) ∙ told .enum-told .given .1 in
-    record { same = same-slices _ _ _ _ [] fine scanned; room = search needs }
+    let was = was-written _ _ _ _ _ _ (sym (told .answer .given .1) ∙ told .before .before .would-write .ensures) in
+    record { same = same-slices _ _ _ (was .scan-fine); room = omega (arith, was .enough) }
 
 same-length : tie.Need-same-length
 same-length c = search needs
 
-returns-4 : tie.Need-returns-4
-returns-4 c =
+returns-2 : tie.Need-returns-2
+returns-2 c =
     let told = c .before .before .before .before .before .before .before .before .before in
-    let after-scan = told .before .before in
-    let set-up = after-scan .before .before in
-    let fine = sym (set-up .before .refusal .ensures) ∙ set-up .if1 .left in
-    let scanned = scan-of _ _ _ (after-scan .before .none .ensures) (after-scan .scan .ensures) ∙ told .enum-told .given .1 in
-    let room = c .before .before .before .before .before .before .before .before .if2 .left in
-    writes-file _ _ _ _ _ fine scanned (omega (arith, room)) (cc)
+    let answered = sym (told .answer .given .1) ∙ told .before .before .would-write .ensures in
+    writes-file _ _ _ _ _ (was-written _ _ _ _ _ _ answered) answered (cc)
 
 pub write-spec : {M : Type 1} → statement M
 write-spec =
     tie.close
     (tie.spec
-    refusal-requires
-    returns
-    none-requires
-    scan-requires
+    would-write-requires
+    enum-known-answer
     enum-told
-    enum-told-2
-    refused-scan-requires
-    returns-2
-    mul-needed
-    add-needed
-    returns-3
+    returns
     write-parameters-requires
     write-packets-requires
     same-length
-    returns-4)
+    returns-2)

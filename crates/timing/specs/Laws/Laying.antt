@@ -16,7 +16,7 @@ use Rattle.timing.specs.Step.{numbers}
 use Rattle.timing.specs.Feed.{closing, Laid}
 
 module _ (rules : Rules) (s : State) (at : ℕ) (before : List ℤ) where
-  one-row : s .frames .begun ≡ true → numbers (closing rules s)
+  pub one-row : s .frames .begun ≡ true → numbers (closing rules s)
       ≡ numbersOf (rowOf (rules .plan) (s .frames .closed) (s .frames .marked) (s .frames .current))
   unfolding numbers
   one-row e = rw e (append-nil _)

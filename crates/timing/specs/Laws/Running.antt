@@ -52,7 +52,7 @@ step-past rules s p = go (marked p)
     go false = refl
 
 -- what a marker closes after the packet has arrived is what the packet writes
-closes-rows : (rules : Rules) (s : State) (p : Packet) → marked p ≡ true → closing rules (arriveOf rules s (p .time) (p .stamp))
+pub closes-rows : (rules : Rules) (s : State) (p : Packet) → marked p ≡ true → closing rules (arriveOf rules s (p .time) (p .stamp))
     ≡ rowsOf rules s p
 unfolding arriveOf F.arriveOf F.rowsOf
 closes-rows rules s p e = rw e

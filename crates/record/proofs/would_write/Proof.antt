@@ -1,0 +1,84 @@
+-- What the writer answers: each return is one law, from what was refused before it.
+use mathlib.Core.Path.{sym, ap, _∙_}
+use native.Mathlib.Omega.{arith}
+use borrow.Author.Needs.{needs}
+use Rattle.record.specs.Write.{scanning}
+use Rattle.record.proofs.Writing.{scan-of, answers-set-up, answers-scan, answers-24, answers-done, few-packets}
+use Rattle.record.proofs.would_write.Statement.{statement}
+use Rattle.record.proofs.would_write.Tie as tie
+
+refusal-requires : tie.Need-refusal-requires
+refusal-requires c κs = search needs
+
+returns : tie.Need-returns
+returns c = answers-set-up _ _ _ _ _ _ (sym (c .before .refusal .ensures)) (omega arith)
+
+none-requires : tie.Need-none-requires
+none-requires c κs = search needs
+
+scan-requires : tie.Need-scan-requires
+scan-requires c κs = search needs
+
+enum-told : tie.Need-enum-told
+enum-told c = search needs
+
+enum-told-2 : tie.Need-enum-told-2
+enum-told-2 c = search needs
+
+refused-scan-requires : tie.Need-refused-scan-requires
+refused-scan-requires c κs = search needs
+
+returns-2 : tie.Need-returns-2
+returns-2 c =
+    let after-scan = c .before .before .before in
+    let set-up = after-scan .before .before in
+    let fine = sym (set-up .before .refusal .ensures) ∙ set-up .if1 .left in
+    let scanned = scan-of _ _ _ (after-scan .before .none .ensures) (after-scan .scan .ensures) ∙ c .before .enum-told2 .given .1 in
+    answers-scan _ _ _ _ _ fine scanned (c .refused-scan .ensures ∙ ap (λ a. scanning a 0 0) (c .before .enum-told2 .given .1))
+
+mul-needed : tie.Need-mul-needed
+mul-needed c = search needs
+
+add-needed : tie.Need-add-needed
+add-needed c =
+    let told = c in
+    let after-scan = told .before .before in
+    let set-up = after-scan .before .before in
+    let fine = sym (set-up .before .refusal .ensures) ∙ set-up .if1 .left in
+    let scanned = scan-of _ _ _ (after-scan .before .none .ensures) (after-scan .scan .ensures) ∙ told .enum-told .given .1 in
+    omega (arith, few-packets _ _ _ scanned)
+
+returns-3 : tie.Need-returns-3
+returns-3 c =
+    let told = c .before in
+    let after-scan = told .before .before in
+    let set-up = after-scan .before .before in
+    let fine = sym (set-up .before .refusal .ensures) ∙ set-up .if1 .left in
+    let scanned = scan-of _ _ _ (after-scan .before .none .ensures) (after-scan .scan .ensures) ∙ told .enum-told .given .1 in
+    answers-24 _ _ _ _ _ fine scanned (omega arith)
+
+returns-4 : tie.Need-returns-4
+returns-4 c =
+    let told = c .before in
+    let after-scan = told .before .before in
+    let set-up = after-scan .before .before in
+    let fine = sym (set-up .before .refusal .ensures) ∙ set-up .if1 .left in
+    let scanned = scan-of _ _ _ (after-scan .before .none .ensures) (after-scan .scan .ensures) ∙ told .enum-told .given .1 in
+    answers-done _ _ _ _ _ fine scanned (omega arith)
+
+pub would-write-spec : {M : Type 1} → statement M
+would-write-spec =
+    tie.close
+    (tie.spec
+    refusal-requires
+    returns
+    none-requires
+    scan-requires
+    enum-told
+    enum-told-2
+    refused-scan-requires
+    returns-2
+    mul-needed
+    add-needed
+    returns-3
+    returns-4)
