@@ -10,7 +10,7 @@ use lib.Dec.{ltb}
 use lib.ListN.{length, set, length-append}
 use borrow.Author.Tests.{ltb-false, lt-ltb, le-ltb}
 use Rattle.laws.specs.Choose.{pick}
-use Rattle.text.specs.Decimal.{digitsOf, digits}
+use Rattle.text.specs.Decimal.{digitsBy, digitsOf, digits}
 use Rattle.text.specs.Lines.{Part}
 use Rattle.text.proofs.Parts.{part-then, part-kept, part-byte}
 
@@ -22,7 +22,7 @@ tenth k x h = div-lt-iff-lt-mul {k = 10} {x = x} {y = 10 ^ k} (omega arith) .1 (
 more-room : (k x : ℕ) → x < 10 ^ suc k → digitsOf (suc (suc k)) x ≡ digitsOf (suc k) x
 unfolding digitsOf
 more-room zero x h = rw (lt-ltb x 10 h)
-more-room (suc k) x h = ap (λ (l : List ℕ). pick (ltb x 10) [] l ++ ((48 + x % 10) ∷ [])) (more-room k (x / 10) (tenth (suc k) x h))
+more-room (suc k) x h = ap (digitsBy x) (more-room k (x / 10) (tenth (suc k) x h))
 
 pub one-digit : (k x : ℕ) → x < 10 → digitsOf (suc k) x ≡ (48 + x) ∷ []
 unfolding digitsOf

@@ -13,10 +13,14 @@ abbrev pub codes : String → List ℕ
 codes end = []
 codes (c then s) = code c ∷ codes s
 
--- the digits of a number that has at most so many: those of a tenth of it, where it has more than one, and then the last
+-- the digits of x, given those of a tenth of it: these, where x has more than one digit, and then the last
+abbrev pub digitsBy : ℕ → List ℕ → List ℕ
+digitsBy x tenth = pick (ltb x 10) [] tenth ++ ((48 + x % 10) ∷ [])
+
+-- the digits of a number that has at most so many
 unfoldable pub digitsOf : ℕ → ℕ → List ℕ
 digitsOf zero x = []
-digitsOf (suc most) x = pick (ltb x 10) [] (digitsOf most (x / 10)) ++ ((48 + x % 10) ∷ [])
+digitsOf (suc most) x = digitsBy x (digitsOf most (x / 10))
 
 -- a number of 64 bits has at most twenty
 abbrev pub digits : ℕ → List ℕ

@@ -1,4 +1,5 @@
 -- The number itself falls: its tenth is put first, and then its last digit, which is the law of `digits` for one digit more.
+use native.Mathlib.Omega.{arith}
 use borrow.Author.Needs.{needs}
 use Rattle.text.proofs.Digits.{number-one, number-room, number-more}
 use Prim.Native.Nat.{ℕ, _<_}
@@ -60,7 +61,7 @@ put-number-returns : (t : ℕ) → put-number-lts.Need-returns (
   put-number-below t,
   put-number.Post,
 ) (put-number-at t) put-number.Post
-put-number-returns t c = number-one _ _ _ _ (c .before .if1 .taken) (c .digit .ensures)
+put-number-returns t c = number-one (c .before .before .before .args .x) _ _ _ (omega arith) (c .digit .ensures)
 
 put-number-put-number-requires : (t : ℕ) → put-number-lts.Need-put-number-requires (
   digit-reads.Asked,
@@ -113,9 +114,8 @@ put-number-returns-2 : (t : ℕ) → put-number-lts.Need-returns-2 (
 ) (put-number-at t) put-number.Post
 put-number-returns-2 t c =
     let tenth = c .before .before .before in
-    let test = tenth .before .before in
-    let start = test .before .before in
-    number-more (start .args .x) (start .fits .x .fits) (tenth .put-number .ensures) _ (test .if1 .left) (c .digit2 .ensures)
+    let start = tenth .before .before .before .before in
+    number-more (start .args .x) (start .fits .x .fits) (tenth .put-number .ensures) _ (omega arith) (c .digit2 .ensures)
 
 pub +put-number-spec : {M : Type 1} → statement M
 +put-number-spec = close μ-put-number λ t. put-number-lts.spec (
