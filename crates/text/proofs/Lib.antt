@@ -5,4 +5,7 @@ pub mod Signs
 pub mod Fields
 pub mod Grouping
 pub mod Read
+pub mod Apart
+pub mod RowsApart
+pub mod LastApart
 pub mod Examples
