@@ -19,11 +19,6 @@ part-then {m} {n} {at} {k} {r} {a} {b} {before} p q = record {
 pub part-kept : {m at k : ℕ} {a before after : List ℕ} → Part m a at before k after → length after ≡ length before
 part-kept {m} {at} {k} {a} {before} p = ap length (p .bytes) ∙ laid-length at a before
 
--- where there was room for m and n bytes, and a part of at most m was put, there is room for n
-pub part-room : {m at k : ℕ} {a before after : List ℕ} (n : ℕ) → Part m a at before k after → at + (m + n) ≤ length before
-    → k + n ≤ length after
-part-room n p h = omega (arith, part-kept p, p .next, p .short)
-
 -- a greater bound, and the same bytes grouped in another way
 pub part-is : {m n at k : ℕ} {a b before after : List ℕ} → m ≤ n → a ≡ b → Part m a at before k after → Part n b at before k after
 part-is {m} {n} {at} h e p = record {
