@@ -1,0 +1,64 @@
+-- The three lines that document 01 says the program prints, as bytes; and what it is that a line was put into lent bytes.
+use mathlib.Core.Path.{_≡_}
+use mathlib.Core.List.{List, [], _∷_, _++_}
+use Prim.Native.Nat.{ℕ, _+_, _≤_}
+use lib.IntN.{ℤ}
+use lib.ListN.{length}
+use Rattle.laws.specs.Lay.{laid}
+use Rattle.bucket.specs.declared.Network.{Network}
+use Rattle.bucket.specs.declared.Network.the-variants.{Pass as Passes, Burst}
+use Rattle.frame.specs.declared.Row.{Row}
+use Rattle.frame.specs.declared.Buffer.{Buffer}
+use Rattle.frame.specs.declared.Buffer.the-variants.{None, Pass, Under, Over}
+use Rattle.frame.specs.Step.{numbersOf}
+use Rattle.text.specs.Decimal.{codes, digits, signed}
+
+-- a space before each number
+unfoldable pub fields : List ℤ → List ℕ
+fields [] = []
+fields (z ∷ zs) = codes " " ++ signed z ++ fields zs
+
+-- "It prints `frame` and the ten numbers of each row as it closes"
+unfoldable pub rowLine : Row → List ℕ
+rowLine row = codes "frame" ++ fields (numbersOf row) ++ codes "\n"
+
+-- a word and two numbers
+abbrev pub pairWords : List ℕ → ℕ → ℕ → List ℕ
+pairWords word first second = word ++ digits first ++ codes " " ++ digits second
+
+-- "then one last line: packets, frames closed, peak, verdicts (as `network burst 0 4`, `buffer under 0 3`)"
+abbrev pub countWords : (packets closed peak : ℕ) → List ℕ
+countWords packets closed peak =
+    codes "packets " ++ digits packets ++ codes " frames " ++ digits closed ++ codes " peak " ++ digits peak
+
+abbrev pub networkWords : Network → List ℕ
+networkWords Passes = codes "pass"
+networkWords (Burst run) = pairWords (codes "burst ") (run .first) (run .last)
+
+abbrev pub bufferWords : Buffer → List ℕ
+bufferWords None = codes "none"
+bufferWords Pass = codes "pass"
+bufferWords (Under p) = pairWords (codes "under ") (p .frame) (p .place)
+bufferWords (Over p) = pairWords (codes "over ") (p .frame) (p .place)
+
+unfoldable pub summaryLine : (packets closed peak : ℕ) → Network → Buffer → List ℕ
+summaryLine packets closed peak network buffer =
+    countWords packets closed peak ++ codes " network " ++ networkWords network ++ codes " buffer " ++ bufferWords buffer ++ codes "\n"
+
+-- "or, after the rows closed before a refusal, `refused`, number, offset."
+unfoldable pub refusalLine : (number offset : ℕ) → List ℕ
+refusalLine number offset = pairWords (codes "refused ") number offset ++ codes "\n"
+
+-- ---- a line put into lent bytes
+
+-- the line stands there from `at` on and ends before `then`; all else is as it was
+pub record Put (line : List ℕ) (at : ℕ) (before : List ℕ) (then : ℕ) (after : List ℕ) : Type 0 where
+  pub next : then ≡ at + length line
+  pub bytes : after ≡ laid at line before
+  pub short : length line ≤ 256
+
+-- and so of a part of a line, which has at most so many bytes
+pub record Part (most : ℕ) (part : List ℕ) (at : ℕ) (before : List ℕ) (then : ℕ) (after : List ℕ) : Type 0 where
+  pub next : then ≡ at + length part
+  pub bytes : after ≡ laid at part before
+  pub short : length part ≤ most

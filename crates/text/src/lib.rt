@@ -1,0 +1,170 @@
+// How the program's lines are written, into lent bytes: a number in decimal, a row's line, and the last line of a file that was
+// measured or refused.
+// It knows `frame` and `bucket`, for what a row and the answers are. It must never know how they came about, nor where the bytes go.
+ghost use mathlib.Core.List.{_++_};
+ghost use Prim.Native.Nat.{_+_, _≤_, _<_};
+ghost use mathlib.Core.Path.{_≡_};
+ghost use lib.ListN.{length};
+ghost use Rattle.text.specs.Decimal.{codes, digits, signed};
+ghost use Rattle.text.specs.Lines.{Put, Part, fields, rowLine, summaryLine, refusalLine};
+ghost use Rattle.text.specs.Lines.{pairWords, countWords, networkWords, bufferWords};
+use bucket::Network;
+use frame::Buffer;
+use frame::ROW;
+use frame::Row;
+
+// No line is longer.
+pub const LINE: usize = 256;
+
+fn digit(x: u64) -> u8
+    requires { ⌜ x < 10 ⌝ }
+    ensures { λ r. ⌜ r ≡ 48 + x ⌝ }
+{
+    48 + x as u8
+}
+
+// The digits of a tenth of x, and then the last: at most twenty calls deep.
+fn put_number(x: u64, out: &mut [u8], at: usize) -> usize
+    requires { ⌜ at + 20 ≤ length (now out) ⌝ }
+    ensures { λ r. ⌜ Part 20 (digits x) at (now (out .entry)) r (now (out .exit)) ⌝ }
+{
+    if x < 10 {
+        out[at] = digit(x);
+        return at + 1;
+    }
+    let next = put_number(x / 10, out, at);
+    out[next] = digit(x % 10);
+    next + 1
+}
+
+fn put_word(word: &[u8], out: &mut [u8], at: usize) -> usize
+    requires { ⌜ at + length (now word) ≤ length (now out) ⌝ }
+    ensures { λ r. ⌜ Part (length (now (word .entry))) (now (word .entry)) at (now (out .entry)) r (now (out .exit)) ⌝ }
+{
+    let mut k = 0;
+    while k < word.len() {
+        out[at + k] = word[k];
+        k += 1;
+    }
+    at + k
+}
+
+// A word and then a number.
+fn put_named(word: &[u8], x: u64, out: &mut [u8], at: usize) -> usize
+    requires { ⌜ at + (length (now word) + 20) ≤ length (now out) ⌝ }
+    ensures { λ r. ⌜ Part (length (now (word .entry)) + 20) (now (word .entry) ++ digits x) at (now (out .entry)) r (now (out .exit)) ⌝ }
+{
+    let next = put_word(word, out, at);
+    put_number(x, out, next)
+}
+
+// The size of the least i64 is 2^63: one is taken off before the sign is, and put back after.
+fn put_signed(x: i64, out: &mut [u8], at: usize) -> usize
+    requires { ⌜ at + 21 ≤ length (now out) ⌝ }
+    ensures { λ r. ⌜ Part 21 (signed x) at (now (out .entry)) r (now (out .exit)) ⌝ }
+{
+    if 0 <= x {
+        return put_number(x as u64, out, at);
+    }
+    let below = (-1 - x) as u64;
+    put_named(b"-", below + 1, out, at)
+}
+
+fn put_field(x: i64, out: &mut [u8], at: usize) -> usize
+    requires { ⌜ at + 22 ≤ length (now out) ⌝ }
+    ensures { λ r. ⌜ Part 22 (codes " " ++ signed x) at (now (out .entry)) r (now (out .exit)) ⌝ }
+{
+    let next = put_word(b" ", out, at);
+    put_signed(x, out, next)
+}
+
+fn put_fields(numbers: [i64; ROW], out: &mut [u8], at: usize) -> usize
+    requires { ⌜ at + 220 ≤ length (now out) ⌝ }
+    ensures { λ r. ⌜ Part 220 (fields numbers) at (now (out .entry)) r (now (out .exit)) ⌝ }
+{
+    let mut next = at;
+    let mut k = 0;
+    while k < ROW {
+        next = put_field(numbers[k], out, next);
+        k += 1;
+    }
+    next
+}
+
+// `frame` and the ten numbers of a row.
+pub fn put_row(row: Row, out: &mut [u8], at: usize) -> usize
+    requires { ⌜ at + 256 ≤ length (now out) ⌝ }
+    ensures { λ r. ⌜ Put (rowLine row) at (now (out .entry)) r (now (out .exit)) ⌝ }
+{
+    let frame = put_word(b"frame", out, at);
+    let next = put_fields(row.numbers(), out, frame);
+    put_word(b"\n", out, next)
+}
+
+fn put_pair(word: &[u8], first: u64, second: u64, out: &mut [u8], at: usize) -> usize
+    requires { ⌜ at + (length (now word) + 41) ≤ length (now out) ⌝ }
+    ensures { λ r. ⌜ Part (length (now (word .entry)) + 41) (pairWords (now (word .entry)) first second) at
+        (now (out .entry)) r (now (out .exit)) ⌝ }
+{
+    let next = put_named(word, first, out, at);
+    put_named(b" ", second, out, next)
+}
+
+fn put_counts(packets: u64, closed: u64, peak: u64, out: &mut [u8], at: usize) -> usize
+    requires { ⌜ at + 82 ≤ length (now out) ⌝ }
+    ensures { λ r. ⌜ Part 82 (countWords packets closed peak) at (now (out .entry)) r (now (out .exit)) ⌝ }
+{
+    let frames = put_named(b"packets ", packets, out, at);
+    let greatest = put_named(b" frames ", closed, out, frames);
+    put_named(b" peak ", peak, out, greatest)
+}
+
+fn put_network(network: Network, out: &mut [u8], at: usize) -> usize
+    requires { ⌜ at + 60 ≤ length (now out) ⌝ }
+    ensures { λ r. ⌜ Part 60 (codes " network " ++ networkWords network) at (now (out .entry)) r (now (out .exit)) ⌝ }
+{
+    match network {
+        Network::Pass => put_word(b" network pass", out, at),
+        Network::Burst(run) => put_pair(b" network burst ", run.first, run.last, out, at),
+    }
+}
+
+fn put_buffer(buffer: Buffer, out: &mut [u8], at: usize) -> usize
+    requires { ⌜ at + 60 ≤ length (now out) ⌝ }
+    ensures { λ r. ⌜ Part 60 (codes " buffer " ++ bufferWords buffer) at (now (out .entry)) r (now (out .exit)) ⌝ }
+{
+    match buffer {
+        Buffer::None => put_word(b" buffer none", out, at),
+        Buffer::Pass => put_word(b" buffer pass", out, at),
+        Buffer::Under(p) => put_pair(b" buffer under ", p.frame, p.place, out, at),
+        Buffer::Over(p) => put_pair(b" buffer over ", p.frame, p.place, out, at),
+    }
+}
+
+// The last line of a file that was measured.
+pub fn put_summary(
+    packets: u64,
+    closed: u64,
+    peak: u64,
+    network: Network,
+    buffer: Buffer,
+    out: &mut [u8],
+    at: usize,
+) -> usize
+    requires { ⌜ at + 256 ≤ length (now out) ⌝ }
+    ensures { λ r. ⌜ Put (summaryLine packets closed peak network buffer) at (now (out .entry)) r (now (out .exit)) ⌝ }
+{
+    let counted = put_counts(packets, closed, peak, out, at);
+    let judged = put_network(network, out, counted);
+    let next = put_buffer(buffer, out, judged);
+    put_word(b"\n", out, next)
+}
+
+// The last line of a file that was refused.
+pub fn put_refusal(number: u8, offset: u64, out: &mut [u8], at: usize) -> usize
+    requires { ⌜ at + 256 ≤ length (now out) ⌝ }
+    ensures { λ r. ⌜ Put (refusalLine number offset) at (now (out .entry)) r (now (out .exit)) ⌝ }
+{
+    let next = put_pair(b"refused ", number as u64, offset, out, at);
+    put_word(b"\n", out, next)
+}
