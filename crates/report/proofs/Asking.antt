@@ -1,0 +1,190 @@
+-- A file is asked for and the room after it: the count of frames that the check gives tells how long the report is. So what is asked
+-- decides the number, the offset and the bytes, and a file that is fine can be measured.
+use mathlib.Core.Path.{_≡_, refl, sym, ap, subst, _∙_}
+use mathlib.Core.Bool.{Bool, true, false}
+use mathlib.Core.List.{List, [], _∷_, _++_, map}
+use Prim.Native.Nat.{ℕ, _+_, _-_, _*_, _/_, _≤_, _<_}
+use native.Mathlib.Omega.{arith}
+use lib.Dec.{leb}
+use lib.IntN.{ℤ, pos}
+use lib.ListN.{length, drop, length-append, length-map}
+use lib.Seq.{sets}
+use borrow.Author.Tests.{le-leb, lt-leb, leb-true, leb-false}
+use Rattle.laws.specs.Choose.{pick}
+use Rattle.laws.specs.Count.{count}
+use Rattle.packet.specs.declared.Scanned.the-variants as scan
+use Rattle.packet.specs.Paper.{Packet, closesAt}
+use Rattle.packet.specs.Step.{nothing, scanOf}
+use Rattle.packet.proofs.Declared.{scan-declared, fine-count}
+use Rattle.timing.specs.declared.StreamNumbers.{StreamNumbers}
+use Rattle.timing.specs.declared.State.{State}
+use Rattle.timing.specs.Step.{rulesOf, freshOf, numbers}
+use Rattle.timing.specs.Answers.{summaryOf}
+use Rattle.timing.specs.Laws.Scanning.{numbers-length, scan-runs}
+use Rattle.record.specs.declared.Numbers.{Numbers}
+use Rattle.record.specs.declared.Checked.{Checked}
+use Rattle.record.specs.declared.Checked.the-variants as checked
+use Rattle.record.specs.Paper.{done, packetsIn, Packets, File, file, refused, fileOf}
+use Rattle.record.specs.Walk.{asChecked, checkedOf}
+use Rattle.record.proofs.ReadWrite.{FileHolds, file-holds}
+use Rattle.report.specs.declared.Asked.{Asked}
+use Rattle.report.specs.declared.Asked.the-variants.{Fine, Refused}
+use Rattle.report.specs.Paper.{streamOf, stateOf, rowsOf, reportOf, inBytes, encoded, bytesFor, answer, answered, answerOf, filled, filledBy}
+use Rattle.report.specs.Step.{needed, asAsked, askedOf, packetsOf, Measurable, Measured, Measures}
+use Rattle.report.proofs.Bytes.{nine, length-stored, length-encoded, encoded-append, naturals, front-last}
+
+-- the room, divided: fewer than nine numbers; then the rows
+pub too-few : (closed room : ℕ) → room / 8 < 9 → false ≡ leb (needed closed) room
+too-few closed room h = sym (lt-leb (needed closed) room (omega arith))
+
+pub enough-or-not : (closed room : ℕ) → 9 ≤ room / 8 → leb closed ((room / 8 - 9) / 10) ≡ leb (needed closed) room
+enough-or-not closed room h = go (leb closed ((room / 8 - 9) / 10)) refl
+  where
+    go : (t : Bool) → leb closed ((room / 8 - 9) / 10) ≡ t → t ≡ leb (needed closed) room
+    go true e = sym (le-leb (needed closed) room (omega (arith, leb-true closed ((room / 8 - 9) / 10) e)))
+    go false e = sym (lt-leb (needed closed) room (omega (arith, leb-false closed ((room / 8 - 9) / 10) e)))
+
+-- ---- how long a report is
+
+length-naturals : (xs : List ℕ) → length (map pos xs) ≡ length xs
+length-naturals xs = length-map xs pos
+
+length-report : (x : StreamNumbers) (ps : List Packet) → length (encoded (reportOf x ps)) ≡ 8 * (9 + length (numbers (rowsOf x ps)))
+length-report x ps =
+    length-encoded (reportOf x ps)
+    ∙ ap (λ (n : ℕ). 8 * n)
+    (length-append (map pos (summaryOf (stateOf x ps))) (numbers (rowsOf x ps))
+    ∙ rw (length-naturals (summaryOf (stateOf x ps)), nine (stateOf x ps)))
+
+-- as many rows as frames are counted
+rows-closed : (x : StreamNumbers) (ps : List Packet) (n : ℕ) → scanOf nothing false 0 ps ≡ scan.Fine n
+    → length (rowsOf x ps) ≡ count (closesAt ps) (length ps)
+rows-closed x ps n e =
+    let runs = scan-runs ps (rulesOf x) (freshOf x) 0 n e in
+    omega (arith, runs .1, fine-count ps n (sym (scan-declared ps) ∙ e))
+
+length-needed : (s : List ℕ) (x : Numbers) (ps : List Packet) → FileHolds s x ps
+    → length (bytesFor x ps) ≡ needed (count (closesAt ps) (length ps))
+length-needed s x ps h =
+    length-report (streamOf x) ps
+    ∙ rw (numbers-length (rowsOf (streamOf x) ps), rows-closed (streamOf x) ps (h .closed) (h .scan-fine))
+
+-- ---- the check's answer, and what is asked
+
+module _ (s : List ℕ) (room : ℕ) where
+  pub asked-refused : (n o : ℕ) → checkedOf s ≡ checked.Refused n o → Refused n o ≡ askedOf s room
+  unfolding checkedOf askedOf
+  asked-refused n o e = go (fileOf s) e
+    where
+      go : (f : File) → asChecked f ≡ checked.Refused n o → Refused n o ≡ asAsked (length s) room f
+      go (file x ps) e = let z : _≡_ {A = ℕ} 0 1 = cc in absurd (omega arith)
+      go (refused m p) e = cc
+
+  asked-by : (x : Numbers) (packets closed : ℕ) → checkedOf s ≡ checked.Fine x packets closed
+      → pick (leb (needed closed) room) (Fine (streamOf x)) (Refused 15 (length s)) ≡ askedOf s room
+  unfolding checkedOf askedOf
+  asked-by x packets closed e = go (fileOf s) refl e
+    where
+      go : (f : File) → fileOf s ≡ f → asChecked f ≡ checked.Fine x packets closed
+          → pick (leb (needed closed) room) (Fine (streamOf x)) (Refused 15 (length s)) ≡ asAsked (length s) room f
+      go (refused m p) g e = let z : _≡_ {A = ℕ} 0 1 = cc in absurd (omega arith)
+      go (file y ps) g e =
+          let same : y ≡ x = cc in
+          let as-many : count (closesAt ps) (length ps) ≡ closed = cc in
+          let long = length-needed s y ps (file-holds s y ps g) ∙ ap needed as-many in
+          sym (rw (long, same))
+
+  pub asked-room : (x : Numbers) (packets closed : ℕ) → checkedOf s ≡ checked.Fine x packets closed → leb (needed closed) room ≡ true
+      → Fine (streamOf x) ≡ askedOf s room
+  asked-room x packets closed e t = sym (rw t) ∙ asked-by x packets closed e
+
+  pub asked-15 : (x : Numbers) (packets closed : ℕ) → checkedOf s ≡ checked.Fine x packets closed → leb (needed closed) room ≡ false
+      → Refused 15 (length s) ≡ askedOf s room
+  asked-15 x packets closed e t = sym (rw t) ∙ asked-by x packets closed e
+
+  -- a file that is fine, with room for its report
+  pub record Fits (x : StreamNumbers) : Type 0 where
+    pub written : Numbers
+    pub ps : List Packet
+    pub is-file : fileOf s ≡ file written ps
+    pub enough : length (bytesFor written ps) ≤ room
+    pub stream : streamOf written ≡ x
+
+  pub asked-fine : (x : StreamNumbers) → askedOf s room ≡ Fine x → Fits x
+  unfolding askedOf
+  asked-fine x e = go (fileOf s) refl e
+    where
+      go : (f : File) → fileOf s ≡ f → asAsked (length s) room f ≡ Fine x → Fits x
+      go (refused m p) g e = let z : _≡_ {A = ℕ} 0 1 = cc in absurd (omega arith)
+      go (file y ps) g e = by (leb (length (bytesFor y ps)) room) refl e
+        where
+          by : (t : Bool) → leb (length (bytesFor y ps)) room ≡ t
+              → pick t (Fine (streamOf y)) (Refused 15 (length s)) ≡ Fine x → Fits x
+          by true q e = record { written = y; ps = ps; is-file = g; enough = leb-true _ _ q; stream = cc }
+          by false q e = let z : _≡_ {A = ℕ} 0 1 = cc in absurd (omega arith)
+
+  pub asked-number : (n o : ℕ) → askedOf s room ≡ Refused n o → answerOf s room ≡ answer n o
+  unfolding askedOf answerOf
+  asked-number n o e = go (fileOf s) e
+    where
+      go : (f : File) → asAsked (length s) room f ≡ Refused n o → answered (length s) room f ≡ answer n o
+      go (refused m p) e = cc
+      go (file y ps) e = by (leb (length (bytesFor y ps)) room) e
+        where
+          by : (t : Bool) → pick t (Fine (streamOf y)) (Refused 15 (length s)) ≡ Refused n o
+              → pick t (answer 0 0) (answer 15 (length s)) ≡ answer n o
+          by true e = let z : _≡_ {A = ℕ} 0 1 = cc in absurd (omega arith)
+          by false e = cc
+
+  pub fine-number : (x : StreamNumbers) → Fits x → answerOf s room ≡ answer 0 0
+  unfolding answerOf
+  fine-number x h = ap (answered (length s) room) (h .is-file) ∙ rw (le-leb _ room (h .enough))
+
+  pub fits-packets : (x : StreamNumbers) (h : Fits x) → packetsOf s ≡ h .ps
+  fits-packets x h = ap (λ (r : Packets). r .accepted) (file-holds s (h .written) (h .ps) (h .is-file) .all-read)
+
+  pub fits-measurable : (x : StreamNumbers) → Fits x → Measurable x s room
+  fits-measurable x h =
+      let holds = file-holds s (h .written) (h .ps) (h .is-file) in
+      let long = length-report (streamOf (h .written)) (h .ps) in
+      record {
+        set-up = rw (← h .stream) (holds .set-up);
+        whole = ap (λ (r : Packets). r .ending) (holds .all-read);
+        fits = rw (← h .stream, fits-packets x h) (omega (arith, h .enough));
+      }
+
+-- ---- the lent bytes
+
+pub refused-leaves : (s out : List ℕ) (n o : ℕ) → askedOf s (length out) ≡ Refused n o → out ≡ filledBy s out
+unfolding askedOf filledBy
+refused-leaves s out n o e = go (fileOf s) e
+  where
+    go : (f : File) → asAsked (length s) (length out) f ≡ Refused n o → out ≡ filled out f
+    go (refused m p) e = refl
+    go (file y ps) e = by (leb (length (bytesFor y ps)) (length out)) e
+      where
+        by : (t : Bool) → pick t (Fine (streamOf y)) (Refused 15 (length s)) ≡ Refused n o
+            → out ≡ pick t (bytesFor y ps ++ drop (length (bytesFor y ps)) out) out
+        by true e = let z : _≡_ {A = ℕ} 0 1 = cc in absurd (omega arith)
+        by false e = refl
+
+-- the rows behind, and then the nine numbers in front, are the report
+pub report-filled : (s out : List ℕ) (x : StreamNumbers) {state : State} {rows after : List ℕ} → Fits s (length out) x
+    → Measured x s out state rows → after ≡ sets rows 0 (inBytes (summaryOf state)) → after ≡ filledBy s out
+unfolding filledBy
+report-filled s out x {state} {rows} {after} h m e =
+    let y = streamOf (h .written) in
+    let front = inBytes (summaryOf (stateOf y (h .ps))) in
+    let behind = encoded (numbers (rowsOf y (h .ps))) in
+    let whole : bytesFor (h .written) (h .ps) ≡ front ++ behind =
+    encoded-append (map pos (summaryOf (stateOf y (h .ps)))) (numbers (rowsOf y (h .ps)))
+    ∙ ap (λ (l : List ℕ). inBytes l ++ behind) (naturals (summaryOf (stateOf y (h .ps)))) in
+    let long : length front ≡ 72 = length-stored (summaryOf (stateOf y (h .ps))) ∙ rw (nine (stateOf y (h .ps))) in
+    let both = length-append front behind in
+    let size = ap length whole in
+    let stored : after ≡ sets (sets out 72 behind) 0 front =
+    e ∙ rw (m .state-is, m .rows-are, fits-packets s (length out) x h, ← h .stream) in
+    stored
+    ∙ ap (λ (k : ℕ). sets (sets out k behind) 0 front) (sym long)
+    ∙ front-last front behind out (omega (arith, h .enough))
+    ∙ sym (ap (filled out) (h .is-file) ∙ rw (le-leb _ (length out) (h .enough), whole))

@@ -1,0 +1,121 @@
+-- What is left of the file, from the state and the bytes so far, gives what the whole gives (Measuring); a record is 16 bytes.
+use Prim.Native.Nat.{_-_}
+use mathlib.Core.Path.{refl}
+use mathlib.Core.Logic.{⊎-elim}
+use native.Mathlib.Omega.{arith}
+use lib.ListN.{length}
+use borrow.Author.Needs.{needs}
+use Rattle.report.proofs.Measuring.{Loop, loop-begins, sixteen, packet-arrives, packet-lays, packet-closed, turn-passes, turn-closes, loop-ends, measured-from}
+use Rattle.report.proofs.measure.Statement.{statement}
+use Rattle.report.proofs.measure.Tie as tie
+
+abbrev Inv-loop : tie.InvT-loop
+Inv-loop file out₀ rules s₀ from₀ at₀ out s from at = Loop (s₀ .numbers) file out₀ rules s from at out
+
+abbrev μ-loop : tie.MeasureT-loop
+μ-loop file out₀ rules s₀ from₀ at₀ out s from at = length file - from
+
+rules-requires : tie.Need-rules-requires Inv-loop μ-loop
+rules-requires c κs = search needs
+
+fresh-requires : tie.Need-fresh-requires Inv-loop μ-loop
+fresh-requires c κs = search needs
+
+loop-holds : tie.Need-loop-holds Inv-loop μ-loop
+loop-holds c =
+    let start = c .before .before .before .before in
+    rw (c .fresh .ensures) (loop-begins _ _ _ (start .pre) (c .before .rules .ensures) refl)
+
+add-read64 : tie.Need-add-read64 Inv-loop μ-loop
+add-read64 c = omega (arith, sixteen (c .before .loop .inv) (c .loop-test .taken))
+
+read64-requires : tie.Need-read64-requires Inv-loop μ-loop
+read64-requires c κs = record { inside = omega (arith, sixteen (c .before .loop .inv) (c .loop-test .taken)) }
+
+add-read32 : tie.Need-add-read32 Inv-loop μ-loop
+add-read32 c = omega (arith, sixteen (c .before .before .loop .inv) (c .before .loop-test .taken))
+
+read32-requires : tie.Need-read32-requires Inv-loop μ-loop
+read32-requires c κs = record { inside = omega (arith, sixteen (c .before .before .loop .inv) (c .before .loop-test .taken)) }
+
+arrive-requires : tie.Need-arrive-requires Inv-loop μ-loop
+arrive-requires c κs =
+    let turn = c .before .before in
+    packet-arrives (turn .before .loop .inv) (turn .loop-test .taken) (c .before .read64 .ensures) (c .read32 .ensures) refl
+
+add-if1 : tie.Need-add-if1 Inv-loop μ-loop
+add-if1 c =
+    let turn = c .before .before .before in
+    omega (arith, sixteen (turn .before .loop .inv) (turn .loop-test .taken), turn .before .before .before .before .before .before .good)
+
+shared-slice-read-if1 : tie.Need-shared-slice-read-if1 Inv-loop μ-loop
+shared-slice-read-if1 c =
+    let turn = c .before .before .before .before in
+    omega (arith, sixteen (turn .before .loop .inv) (turn .loop-test .taken))
+
+put-closed-requires : tie.Need-put-closed-requires Inv-loop μ-loop
+put-closed-requires c κs =
+    let arrived = c .before .before .before in
+    let turn = arrived .before .before .before in
+    packet-lays (turn .before .loop .inv) (turn .loop-test .taken) (arrived .before .before .read64 .ensures) (arrived .before .read32 .ensures) refl
+    (arrived .arrive .ensures) (c .before .if1 .taken)
+
+mark-requires : tie.Need-mark-requires Inv-loop μ-loop
+mark-requires c κs =
+    let arrived = c .before .before .before .before .before .before in
+    let turn = arrived .before .before .before in
+    packet-closed (turn .before .loop .inv) (turn .loop-test .taken) (arrived .before .before .read64 .ensures) (arrived .before .read32 .ensures) refl
+    (arrived .arrive .ensures)
+
+add-from : tie.Need-add-from Inv-loop μ-loop
+add-from c =
+    let turn = c .before .before .before .before .before in
+    omega (arith, sixteen (turn .before .loop .inv) (turn .loop-test .taken), turn .before .before .before .before .before .before .good)
+
+loop-less : tie.Need-loop-less Inv-loop μ-loop
+loop-less c =
+    let turn = c .before .before .before .before .before in
+    omega (arith, sixteen (turn .before .loop .inv) (turn .loop-test .taken))
+
+loop-again : tie.Need-loop-again Inv-loop μ-loop
+loop-again c =
+    let arrived = c .before .before in
+    let turn = arrived .before .before .before in
+    let k = turn .before .loop .inv in
+    let some = turn .loop-test .taken in
+    let t = arrived .before .before .read64 .ensures in
+    let stamp = arrived .before .read32 .ensures in
+    ⊎-elim
+    (λ w. rw (w .7, w .8, w .6) (turn-closes k some t stamp refl (arrived .arrive .ensures) (w .0 .taken) (w .2 .ensures) (w .5 .ensures)))
+    (λ w. rw (w .2, w .3, w .1) (turn-passes k some t stamp refl (arrived .arrive .ensures) (w .0 .left)))
+    (c .if1 .came)
+
+same-length : tie.Need-same-length Inv-loop μ-loop
+same-length c = search needs
+
+returns : tie.Need-returns Inv-loop μ-loop
+returns c = measured-from (c .before .before .fresh .ensures) (loop-ends (c .before .loop .inv) (omega arith))
+
+pub measure-spec : {M : Type 1} → statement M
+measure-spec =
+    tie.close
+    (tie.spec
+    Inv-loop
+    μ-loop
+    rules-requires
+    fresh-requires
+    loop-holds
+    add-read64
+    read64-requires
+    add-read32
+    read32-requires
+    arrive-requires
+    add-if1
+    shared-slice-read-if1
+    put-closed-requires
+    mark-requires
+    add-from
+    loop-less
+    loop-again
+    same-length
+    returns)

@@ -1,0 +1,93 @@
+-- What is left of the ten numbers, stored from the next place on, gives the end; each turn stores one.
+use mathlib.Core.Path.{_≡_, refl, sym, ap, _∙_}
+use mathlib.Core.List.{map}
+use Prim.Native.Nat.{_+_, _-_, _*_, _≤_}
+use native.Mathlib.Omega.{arith}
+use native.Mathlib.Nat.{add-zero}
+use lib.ListN.{length, drop}
+use lib.Seq.{sets, length-sets}
+use Rattle.report.proofs.Bytes.{length-signs, sign-passed, store-turn, store-done}
+use borrow.Author.Needs.{needs}
+use Rattle.report.specs.Paper.{signed, inBytes, encoded}
+use Rattle.report.proofs.put_row.Statement.{statement}
+use Rattle.report.proofs.put_row.Tie as tie
+
+abbrev Inv-loop : tie.InvT-loop
+Inv-loop out₀ at numbers k₀ out k =
+    (sets out (8 * (at + k)) (inBytes (drop k (map signed numbers))) ≡ sets out₀ (8 * at) (encoded numbers)) × (k ≤ 10)
+    × (length out ≡ length out₀) × (length numbers ≡ 10)
+
+abbrev μ-loop : tie.MeasureT-loop
+μ-loop out₀ at numbers k₀ out k = 10 - k
+
+numbers-requires : tie.Need-numbers-requires Inv-loop μ-loop
+numbers-requires c κs = search needs
+
+loop-holds : tie.Need-loop-holds Inv-loop μ-loop
+loop-holds c = (rw add-zero, omega arith, refl, ap length (c .numbers .ensures))
+
+add-write64 : tie.Need-add-write64 Inv-loop μ-loop
+add-write64 c = search needs
+
+mul-write64 : tie.Need-mul-write64 Inv-loop μ-loop
+mul-write64 c = search needs
+
+mul-bits : tie.Need-mul-bits Inv-loop μ-loop
+mul-bits c = search needs
+
+array-copy-out-bits : tie.Need-array-copy-out-bits Inv-loop μ-loop
+array-copy-out-bits c = search needs
+
+bits-requires : tie.Need-bits-requires Inv-loop μ-loop
+bits-requires c κs = search needs
+
+write64-requires : tie.Need-write64-requires Inv-loop μ-loop
+write64-requires c κs = search needs
+
+add-k : tie.Need-add-k Inv-loop μ-loop
+add-k c = search needs
+
+loop-less : tie.Need-loop-less Inv-loop μ-loop
+loop-less c = search needs
+
+loop-again : tie.Need-loop-again Inv-loop μ-loop
+loop-again c =
+    let turn = c .before .before .before .before .before .before .before in
+    let l = turn .loop in
+    let ten = turn .before .numbers .result in
+    let x = c .before .before .before .bits .ensures in (
+      rw (c .before .before .write64 .ensures)
+          (store-turn _ _ (l .k) _ (map signed ten) (l .out) (omega arith) (omega (arith, l .inv .3, length-signs ten)) (x ∙ sign-passed ten (l .k) (record { sfits = c .before .before .before .before .bits-arg .given })) ∙ l .inv .0),
+      omega arith,
+      search needs,
+      l .inv .3,
+    )
+
+same-length : tie.Need-same-length Inv-loop μ-loop
+same-length c = search needs
+
+returns : tie.Need-returns Inv-loop μ-loop
+returns c =
+    let l = c .before .loop in
+    let ten = c .before .before .numbers .result in
+    store-done _ (l .k) (map signed ten) (l .out) (omega (arith, l .inv .3, length-signs ten)) (l .inv .0) ∙ rw (c .before .before .numbers .ensures)
+
+pub put-row-spec : {M : Type 1} → statement M
+put-row-spec =
+    tie.close
+    (tie.spec
+    Inv-loop
+    μ-loop
+    numbers-requires
+    loop-holds
+    add-write64
+    mul-write64
+    mul-bits
+    array-copy-out-bits
+    bits-requires
+    write64-requires
+    add-k
+    loop-less
+    loop-again
+    same-length
+    returns)

@@ -1,0 +1,60 @@
+-- Set-up's refusal, then the room, then the four stores: one law each (Calls).
+use mathlib.Core.Path.{sym, _∙_}
+use native.Mathlib.Omega.{arith}
+use lib.ListN.{length-set}
+use Rattle.report.proofs.Calls.{limits-refused, limits-short, limits-done}
+use borrow.Author.Needs.{needs}
+use Rattle.report.proofs.vtiming_limits.Statement.{statement}
+use Rattle.report.proofs.vtiming_limits.Tie as tie
+
+refusal-requires : tie.Need-refusal-requires
+refusal-requires c κs = search needs
+
+cast-result : tie.Need-cast-result
+cast-result c = search needs
+
+returns : tie.Need-returns
+returns c = limits-refused _ _ _ (sym (c .before .refusal .ensures)) (omega arith)
+
+returns-2 : tie.Need-returns-2
+returns-2 c = limits-short _ _ (sym (c .before .before .refusal .ensures) ∙ c .before .if1 .left) (c .if2 .taken)
+
+rules-requires : tie.Need-rules-requires
+rules-requires c κs = search needs
+
+slice-write-out : tie.Need-slice-write-out
+slice-write-out c = search needs
+
+slice-write-out-2 : tie.Need-slice-write-out-2
+slice-write-out-2 c = simp length-set (omega arith)
+
+slice-write-out-3 : tie.Need-slice-write-out-3
+slice-write-out-3 c = simp length-set (omega arith)
+
+slice-write-out-4 : tie.Need-slice-write-out-4
+slice-write-out-4 c = simp length-set (omega arith)
+
+same-length : tie.Need-same-length
+same-length c = search needs
+
+returns-3 : tie.Need-returns-3
+returns-3 c =
+    let not-short = c .before .before in
+    let set-up = not-short .before in
+    limits-done _ _ (sym (set-up .before .refusal .ensures) ∙ set-up .if1 .left) (omega arith) (rw (c .before .rules .ensures))
+
+pub vtiming-limits-spec : {M : Type 1} → statement M
+vtiming-limits-spec =
+    tie.close
+    (tie.spec
+    refusal-requires
+    cast-result
+    returns
+    returns-2
+    rules-requires
+    slice-write-out
+    slice-write-out-2
+    slice-write-out-3
+    slice-write-out-4
+    same-length
+    returns-3)

@@ -1,0 +1,67 @@
+-- What is asked decides: refused, nothing is stored; fine, the rows are stored and then the nine numbers (Asking).
+use mathlib.Core.Path.{sym, ap, _∙_}
+use native.Mathlib.Omega.{arith}
+use Rattle.report.specs.Paper.{Answer}
+use Rattle.report.proofs.Asking.{asked-fine, fine-number, asked-number, fits-measurable, refused-leaves, report-filled}
+use borrow.Author.Needs.{needs}
+use Rattle.report.proofs.vtiming_measure.Statement.{statement}
+use Rattle.report.proofs.vtiming_measure.Tie as tie
+
+ask-requires : tie.Need-ask-requires
+ask-requires c κs = search needs
+
+enum-known-asked : tie.Need-enum-known-asked
+enum-known-asked c = search needs
+
+measure-requires : tie.Need-measure-requires
+measure-requires c κs =
+    let told = c .before .before in
+    fits-measurable _ _ _ (asked-fine _ _ _ (sym (told .before .before .ask .ensures) ∙ told .asked .given .1))
+
+put-summary-requires : tie.Need-put-summary-requires
+put-summary-requires c κs =
+    let told = c .before .before .before .before .before .before in
+    let fits = asked-fine _ _ _ (sym (told .before .before .ask .ensures) ∙ told .asked .given .1) in
+    let room = fits-measurable _ _ _ fits .fits in
+    omega (arith, room)
+
+enum-known-asked-2 : tie.Need-enum-known-asked-2
+enum-known-asked-2 c = search needs
+
+cast-result : tie.Need-cast-result
+cast-result c = search needs
+
+same-length : tie.Need-same-length
+same-length c = search needs
+
+returns : tie.Need-returns
+returns c =
+    let told = c .before .before .before .before .before .before .before .before .before in
+    let fits = asked-fine _ _ _ (sym (told .before .before .ask .ensures) ∙ told .asked .given .1) in
+    record {
+      number-is = sym (ap (λ (a : Answer). a .number) (fine-number _ _ _ fits));
+      bytes-are = report-filled _ _ _ fits (c .before .before .before .before .before .before .measure .ensures) (c .before .before .put-summary .ensures);
+    }
+
+returns-2 : tie.Need-returns-2
+returns-2 c =
+    let told = c .before in
+    let refused = sym (told .before .before .ask .ensures) ∙ told .asked2 .given .1 in
+    record {
+      number-is = sym (ap (λ (a : Answer). a .number) (asked-number _ _ _ _ refused));
+      bytes-are = refused-leaves _ _ _ _ refused;
+    }
+
+pub vtiming-measure-spec : {M : Type 1} → statement M
+vtiming-measure-spec =
+    tie.close
+    (tie.spec
+    ask-requires
+    enum-known-asked
+    measure-requires
+    put-summary-requires
+    enum-known-asked-2
+    cast-result
+    same-length
+    returns
+    returns-2)

@@ -1,0 +1,105 @@
+-- The C functions: the sentences of document 01, each above what renders it, on what the reader (crate record) and the measurement
+-- (crate timing) say of a file. This page is what a reader must believe of them.
+use mathlib.Core.List.{List, [], _∷_, _++_, map}
+use Prim.Native.Nat.{ℕ}
+use lib.Dec.{leb, eqb}
+use lib.IntN.{ℤ, pos}
+use lib.ListN.{length, drop}
+use mir.Val.{ofZ}
+use mir.Syntax.{w64}
+use Rattle.laws.specs.Choose.{pick}
+use Rattle.bigendian.specs.Number.{bytesOf}
+use Rattle.packet.specs.Paper.{Packet}
+use Rattle.timing.specs.declared.StreamNumbers.{StreamNumbers}
+use Rattle.timing.specs.declared.State.{State}
+use Rattle.timing.specs.Step.{setUpOf, rulesOf, freshOf, stateAfter, rowsAfter, numbers}
+use Rattle.timing.specs.Answers.{summaryOf}
+use Rattle.frame.specs.declared.Row.{Row}
+use Rattle.record.specs.declared.Numbers.{Numbers}
+use Rattle.record.specs.declared.Written.{Written}
+use Rattle.record.specs.declared.Written.the-variants.{Done, Refused}
+use Rattle.record.specs.Paper.{File, file, refused, fileOf}
+
+-- a record's stream numbers, as the measurement takes them
+abbrev pub streamOf : Numbers → StreamNumbers
+streamOf s = record {
+  rate = s .rate;
+  schedule = s .schedule;
+  class = s .class;
+  height = s .height;
+  n = s .n;
+  maxudp = s .maxudp;
+  tro = s .tro;
+}
+
+-- the state after the packets of a stream, and the rows of the frames that they close
+abbrev pub stateOf : StreamNumbers → List Packet → State
+stateOf x ps = stateAfter (rulesOf x) (freshOf x) ps
+
+abbrev pub rowsOf : StreamNumbers → List Packet → List Row
+rowsOf x ps = rowsAfter (rulesOf x) (freshOf x) ps
+
+-- "fills lent bytes with nine numbers (packets, frames, peak; [..]), then the rows"
+abbrev pub reportOf : StreamNumbers → List Packet → List ℤ
+reportOf x ps = map pos (summaryOf (stateOf x ps)) ++ numbers (rowsOf x ps)
+
+-- "Each number is 8 bytes, signed, big-endian."
+abbrev pub signed : ℤ → ℕ
+signed z = ofZ w64 z
+
+unfoldable pub inBytes : List ℕ → List ℕ
+inBytes [] = []
+inBytes (x ∷ xs) = bytesOf 8 x ++ inBytes xs
+
+abbrev pub encoded : List ℤ → List ℕ
+encoded zs = inBytes (map signed zs)
+
+-- the bytes of a file's report
+abbrev pub bytesFor : Numbers → List Packet → List ℕ
+bytesFor s ps = encoded (reportOf (streamOf s) ps)
+
+-- the refusal number and the offset: "both are 0 when accepted"
+pub record Answer : Type 0 where
+  pub number : ℕ
+  pub offset : ℕ
+
+abbrev pub answer : ℕ → ℕ → Answer
+answer number offset = record { number = number; offset = offset }
+
+-- "Too few bytes is 15 at the file's length, after all else"
+abbrev pub answered : ℕ → ℕ → File → Answer
+answered size room (file s ps) = pick (leb (length (bytesFor s ps)) room) (answer 0 0) (answer 15 size)
+answered size room (refused number offset) = answer number offset
+
+-- what is answered of a file and so many lent bytes
+unfoldable pub answerOf : List ℕ → ℕ → Answer
+answerOf s room = answered (length s) room (fileOf s)
+
+-- "bytes beyond stay"; "refused, it writes nothing"
+abbrev pub filled : List ℕ → File → List ℕ
+filled out (file s ps) = pick (leb (length (bytesFor s ps)) (length out)) (bytesFor s ps ++ drop (length (bytesFor s ps)) out) out
+filled out (refused number offset) = out
+
+-- and what the lent bytes hold then
+unfoldable pub filledBy : List ℕ → List ℕ → List ℕ
+filledBy s out = filled out (fileOf s)
+
+-- the writer's answer as a number, 0 where it wrote, and as a place
+abbrev pub writtenNumber : Written → ℕ
+writtenNumber (Done n) = 0
+writtenNumber (Refused number place) = number
+
+abbrev pub writtenPlace : Written → ℕ
+writtenPlace (Done n) = 0
+writtenPlace (Refused number place) = place
+
+-- a stream's frame length and TRO in grains, C_MAX and VRX_FULL in packets
+abbrev pub limitsOf : StreamNumbers → List ℕ
+limitsOf x = rulesOf x .plan .period ∷ rulesOf x .plan .tro ∷ rulesOf x .limit ∷ rulesOf x .plan .full ∷ []
+
+-- 1 to 7 of set-up; then 15 where fewer than the four numbers are lent
+unfoldable pub limitsNumber : StreamNumbers → ℕ → ℕ
+limitsNumber x room = pick (eqb (setUpOf x) 0) (pick (leb 4 room) 0 15) (setUpOf x)
+
+unfoldable pub limitsLeft : StreamNumbers → List ℕ → List ℕ
+limitsLeft x out = pick (eqb (limitsNumber x (length out)) 0) (limitsOf x ++ drop 4 out) out

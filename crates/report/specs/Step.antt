@@ -1,0 +1,93 @@
+-- A file measured part by part: what each part of the code asks and gives, in the words of Paper.
+use mathlib.Core.Path.{_≡_}
+use mathlib.Core.List.{List, [], _∷_, _++_}
+use Prim.Native.Nat.{ℕ, _+_, _*_, _/_, _≤_}
+use lib.Dec.{leb, eqb}
+use lib.Ieee.{Float}
+use lib.IntN.{ℤ}
+use lib.ListN.{length, drop}
+use lib.Seq.{sets}
+use Rattle.laws.specs.Choose.{pick}
+use Rattle.packet.specs.Paper.{Packet, packets}
+use Rattle.packet.specs.Step.{nothing}
+use Rattle.timing.specs.declared.StreamNumbers.{StreamNumbers}
+use Rattle.timing.specs.declared.Rules.{Rules}
+use Rattle.timing.specs.declared.State.{State}
+use Rattle.timing.specs.declared.Graph.{Graph}
+use Rattle.timing.specs.declared.Drawn.{Drawn}
+use Rattle.timing.specs.declared.Drawn.the-variants.{Figures, Refused as Not-Drawn}
+use Rattle.timing.specs.Step.{setUpOf, numbers}
+use Rattle.timing.specs.Answers.{graphOf}
+use Rattle.timing.specs.Feed.{closing}
+use Rattle.record.specs.declared.Numbers.{Numbers}
+use Rattle.record.specs.declared.Checked.{Checked}
+use Rattle.record.specs.declared.Checked.the-variants as checked
+use Rattle.record.specs.Paper.{done, packetsIn, File, file, refused, fileOf}
+use Rattle.record.specs.Layout.{bytesIn}
+use Rattle.record.specs.Write.{writtenOf, leftBy}
+use Rattle.report.specs.declared.Asked.{Asked}
+use Rattle.report.specs.declared.Asked.the-variants.{Fine, Refused}
+use Rattle.report.specs.Paper.{streamOf, stateOf, rowsOf, encoded, bytesFor, answerOf, filledBy, writtenNumber, limitsNumber, limitsLeft}
+
+-- the bytes of nine numbers, and of ten for each frame closed
+abbrev pub needed : ℕ → ℕ
+needed closed = 8 * (9 + closed * 10)
+
+-- a file and the room for its report
+abbrev pub asAsked : ℕ → ℕ → File → Asked
+asAsked size room (file s ps) = pick (leb (length (bytesFor s ps)) room) (Fine (streamOf s)) (Refused 15 size)
+asAsked size room (refused number offset) = Refused number offset
+
+unfoldable pub askedOf : List ℕ → ℕ → Asked
+askedOf s room = asAsked (length s) room (fileOf s)
+
+abbrev pub refusedBy : Checked → Asked
+refusedBy (checked.Fine s packets closed) = Refused 0 0
+refusedBy (checked.Refused number offset) = Refused number offset
+
+-- ---- the packets of a file that is fine: they come after its first 19 bytes
+
+abbrev pub packetsOf : List ℕ → List Packet
+packetsOf s = packetsIn nothing 19 (drop 19 s) .accepted
+
+-- nothing is refused, and the rows fit behind the nine numbers
+pub record Measurable (x : StreamNumbers) (s : List ℕ) (room : ℕ) : Type 0 where
+  pub set-up : setUpOf x ≡ 0
+  pub whole : packetsIn nothing 19 (drop 19 s) .ending ≡ done
+  pub fits : 9 + length (numbers (rowsOf x (packetsOf s))) ≤ room / 8
+
+pub record Measured (x : StreamNumbers) (s before : List ℕ) (state : State) (after : List ℕ) : Type 0 where
+  pub state-is : state ≡ stateOf x (packetsOf s)
+  pub rows-are : after ≡ sets before 72 (encoded (numbers (rowsOf x (packetsOf s))))
+
+-- the row that a marker closes, if the lead-in is over, put from number `at` on
+pub record Closed (rules : Rules) (s : State) (at : ℕ) (before : List ℕ) (then : ℕ) (after : List ℕ) : Type 0 where
+  pub next : then ≡ at + length (numbers (closing rules s))
+  pub bytes : after ≡ sets before (8 * at) (encoded (numbers (closing rules s)))
+
+-- ---- the C functions: the number, and what the lent slice holds then
+
+pub record Measures (s out : List ℕ) (number : ℕ) (after : List ℕ) : Type 0 where
+  pub number-is : number ≡ answerOf s (length out) .number
+  pub bytes-are : after ≡ filledBy s out
+
+pub record Writes (s : Numbers) (ts ss ms out : List ℕ) (number : ℕ) (after : List ℕ) : Type 0 where
+  pub number-is : number ≡ writtenNumber (writtenOf s ts ss ms (length out))
+  pub bytes-are : after ≡ leftBy (writtenOf s ts ss ms (length out)) (bytesIn s (packets ts ss ms)) out
+
+pub record Limits (x : StreamNumbers) (out : List ℕ) (number : ℕ) (after : List ℕ) : Type 0 where
+  pub number-is : number ≡ limitsNumber x (length out)
+  pub numbers-are : after ≡ limitsLeft x out
+
+-- 16 of the graph; then 15 where fewer than the three doubles are lent
+abbrev pub drawNumber : Drawn → ℕ → ℕ
+drawNumber (Figures g) room = pick (leb 3 room) 0 15
+drawNumber (Not-Drawn number) room = number
+
+abbrev pub drawLeft : Drawn → List Float → List Float
+drawLeft (Figures g) out = pick (leb 3 (length out)) (g .fpt ∷ g .margin ∷ g .latency ∷ drop 3 out) out
+drawLeft (Not-Drawn number) out = out
+
+pub record Draws (fpt margin latency : ℤ) (out : List Float) (number : ℕ) (after : List Float) : Type 0 where
+  pub number-is : number ≡ drawNumber (graphOf fpt margin latency) (length out)
+  pub doubles-are : after ≡ drawLeft (graphOf fpt margin latency) out

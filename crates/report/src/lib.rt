@@ -1,0 +1,311 @@
+// What a program in C calls: a whole record file measured into lent bytes, a record file written, the limits of a stream,
+// and the figures of a graph. include/vtiming.h documents each function; their names are fixed.
+// It knows the record file and the measurement, and puts them together. It must never print, and keeps nothing between calls.
+use bigendian::read32;
+use bigendian::read64;
+use bigendian::write64;
+use frame::Row;
+use record::Checked;
+use record::Numbers;
+use record::Written;
+use timing::Drawn;
+use timing::Rules;
+use timing::SUMMARY;
+use timing::State;
+use timing::StreamNumbers;
+ghost use mathlib.Core.Path.{_≡_};
+ghost use Prim.Native.Nat.{_+_, _*_, _/_, _≤_};
+ghost use lib.Dec.{leb};
+ghost use lib.ListN.{length};
+ghost use lib.Seq.{sets};
+ghost use Rattle.frame.specs.Step.{numbersOf};
+ghost use Rattle.timing.specs.Answers.{summaryOf};
+ghost use Rattle.timing.specs.Feed.{Lays};
+ghost use Rattle.record.specs.Write.{writtenOf};
+ghost use Rattle.report.specs.Paper.{streamOf, inBytes, encoded, answerOf, writtenNumber, writtenPlace};
+ghost use Rattle.report.specs.Step.{refusedBy, needed, askedOf, Closed, Measurable, Measured, Measures, Writes, Limits, Draws};
+
+// What is lent for a file: fine with its stream numbers, or the number and the offset of the refusal.
+enum Asked {
+    Fine(StreamNumbers),
+    Refused { number: u8, offset: u64 },
+}
+
+// The record's stream numbers as the measurement takes them.
+fn stream(numbers: Numbers) -> StreamNumbers
+    ensures { λ r. ⌜ r ≡ streamOf numbers ⌝ }
+{
+    StreamNumbers {
+        rate: numbers.rate,
+        schedule: numbers.schedule,
+        class: numbers.class,
+        height: numbers.height,
+        n: numbers.n,
+        maxudp: numbers.maxudp,
+        tro: numbers.tro,
+    }
+}
+
+// The refusal of a file; a file that is fine does not come here.
+fn refused_by(checked: Checked) -> Asked
+    ensures { λ r. ⌜ r ≡ refusedBy checked ⌝ }
+{
+    match checked {
+        Checked::Refused { number, offset } => Asked::Refused { number, offset },
+        Checked::Fine {
+            numbers: _,
+            packets: _,
+            closed: _,
+        } => Asked::Refused {
+            number: 0,
+            offset: 0,
+        },
+    }
+}
+
+// Whether so many lent bytes hold the nine numbers and the rows of so many frames. Divided, since the product might not fit.
+fn fits(closed: u64, room: usize) -> bool
+    ensures { λ r. ⌜ r ≡ leb (needed closed) room ⌝ }
+{
+    let numbers = room / 8;
+    if numbers < SUMMARY {
+        return false;
+    }
+    closed <= ((numbers - SUMMARY) / frame::ROW) as u64
+}
+
+// One pass that checks the file and counts its frames, then the room. It writes nothing.
+fn ask(file: &[u8], room: usize) -> Asked
+    ensures { λ r. ⌜ r ≡ askedOf (now (file .entry)) room ⌝ }
+{
+    let checked = record::check(file);
+    let Checked::Fine {
+        numbers,
+        packets: _,
+        closed,
+    } = checked
+    else {
+        return refused_by(checked);
+    };
+    if fits(closed, room) {
+        return Asked::Fine(stream(numbers));
+    }
+    Asked::Refused {
+        number: 15,
+        offset: file.len() as u64,
+    }
+}
+
+// A row's ten numbers, each 8 bytes with its sign in two's complement, from number `at` of the lent bytes on.
+fn put_row(row: Row, out: &mut [u8], at: usize)
+    requires { ⌜ 8 * (at + 10) ≤ length (now out) ⌝ }
+    ensures { λ _. ⌜ now (out .exit) ≡ sets (now (out .entry)) (8 * at) (encoded (numbersOf row)) ⌝ }
+{
+    let numbers = row.numbers();
+    let mut k = 0;
+    while k < frame::ROW {
+        write64(out, 8 * (at + k), grain::bits(numbers[k]));
+        k += 1;
+    }
+}
+
+// The nine numbers of a state, in front.
+fn put_summary(s: State, out: &mut [u8])
+    requires { ⌜ 72 ≤ length (now out) ⌝ }
+    ensures { λ _. ⌜ now (out .exit) ≡ sets (now (out .entry)) 0 (inBytes (summaryOf s)) ⌝ }
+{
+    let numbers = s.summary();
+    let mut k = 0;
+    while k < SUMMARY {
+        write64(out, 8 * k, numbers[k]);
+        k += 1;
+    }
+}
+
+// The row of the frame that a marker closes now, from number `at` on; where the next one goes.
+fn put_closed(s: State, rules: Rules, out: &mut [u8], at: usize) -> usize
+    requires { ⌜ Lays rules s at (length (now out) / 8) ⌝ }
+    ensures { λ r. ⌜ Closed rules s at (now (out .entry)) r (now (out .exit)) ⌝ }
+{
+    let frames = s.frames;
+    if frames.begun {
+        let plan = rules.plan;
+        put_row(frames.row(plan), out, at);
+        return at + frame::ROW;
+    }
+    at
+}
+
+// The packets of a file that was asked for and is fine, one by one. The heavy step has this one call site.
+fn measure(numbers: StreamNumbers, file: &[u8], out: &mut [u8]) -> State
+    requires { ⌜ Measurable numbers (now file) (length (now out)) ⌝ }
+    ensures { λ r. ⌜ Measured numbers (now (file .entry)) (now (out .entry)) r (now (out .exit)) ⌝ }
+{
+    let rules = numbers.rules();
+    let mut s = numbers.fresh();
+    let mut from = 19;
+    let mut at = SUMMARY;
+    while from < file.len() {
+        let t = read64(file, from + 3);
+        s = s.arrive(rules, t, read32(file, from + 11));
+        if file[from + 15] == 1 {
+            at = put_closed(s, rules, out, at);
+            s = s.mark(rules, t);
+        }
+        from += 16;
+    }
+    s
+}
+
+// A whole file: the refusal number and nothing written; or 0, and the nine numbers and the rows stand in front.
+#[no_mangle]
+pub extern "C" fn vtiming_measure(file: &[u8], out: &mut [u8]) -> u32
+    ensures { λ r. ⌜ Measures (now (file .entry)) (now (out .entry)) r (now (out .exit)) ⌝ }
+{
+    let asked = ask(file, out.len());
+    match asked {
+        Asked::Fine(numbers) => {
+            let s = measure(numbers, file, out);
+            put_summary(s, out);
+            0
+        }
+        Asked::Refused { number, offset: _ } => number as u32,
+    }
+}
+
+// The twin: where that refusal is, for so many lent bytes.
+#[no_mangle]
+pub extern "C" fn vtiming_measure_offset(file: &[u8], room: usize) -> u64
+    ensures { λ r. ⌜ r ≡ answerOf (now (file .entry)) room .offset ⌝ }
+{
+    let asked = ask(file, room);
+    match asked {
+        Asked::Fine(_) => 0,
+        Asked::Refused { number: _, offset } => offset,
+    }
+}
+
+// A record file written: the refusal number and nothing written; or 0, and the file stands in front.
+#[no_mangle]
+pub extern "C" fn vtiming_write(
+    rate: u8,
+    schedule: u8,
+    class: u8,
+    height: u16,
+    n: u32,
+    maxudp: u16,
+    tro: u32,
+    arrivals: &[u64],
+    stamps: &[u32],
+    markers: &[u8],
+    out: &mut [u8],
+) -> u32
+    ensures { λ r. ⌜ Writes (record { rate = rate; schedule = schedule; class = class; height = height; n = n; maxudp = maxudp; tro = tro }) (now (arrivals .entry)) (now (stamps .entry)) (now (markers .entry)) (now (out .entry)) r (now (out .exit)) ⌝ }
+{
+    let numbers = Numbers {
+        rate,
+        schedule,
+        class,
+        height,
+        n,
+        maxudp,
+        tro,
+    };
+    let written = record::write(numbers, arrivals, stamps, markers, out);
+    match written {
+        Written::Done { bytes: _ } => 0,
+        Written::Refused { number, place: _ } => number as u32,
+    }
+}
+
+// The twin: the place of the packet that is refused.
+#[no_mangle]
+pub extern "C" fn vtiming_write_place(
+    rate: u8,
+    schedule: u8,
+    class: u8,
+    height: u16,
+    n: u32,
+    maxudp: u16,
+    tro: u32,
+    arrivals: &[u64],
+    stamps: &[u32],
+    markers: &[u8],
+    room: usize,
+) -> u64
+    ensures { λ r. ⌜ r ≡ writtenPlace (writtenOf (record { rate = rate; schedule = schedule; class = class; height = height; n = n; maxudp = maxudp; tro = tro }) (now (arrivals .entry)) (now (stamps .entry)) (now (markers .entry)) room) ⌝ }
+{
+    let numbers = Numbers {
+        rate,
+        schedule,
+        class,
+        height,
+        n,
+        maxudp,
+        tro,
+    };
+    let written = record::would_write(numbers, arrivals, stamps, markers, room);
+    match written {
+        Written::Done { bytes: _ } => 0,
+        Written::Refused { number: _, place } => place,
+    }
+}
+
+// F and TRO in grains, C_MAX and VRX_FULL in packets; or 1 to 7, then 15, and nothing written.
+#[no_mangle]
+pub extern "C" fn vtiming_limits(
+    rate: u8,
+    schedule: u8,
+    class: u8,
+    height: u16,
+    n: u32,
+    maxudp: u16,
+    tro: u32,
+    out: &mut [u64],
+) -> u32
+    ensures { λ r. ⌜ Limits (record { rate = rate; schedule = schedule; class = class; height = height; n = n; maxudp = maxudp; tro = tro }) (now (out .entry)) r (now (out .exit)) ⌝ }
+{
+    let numbers = StreamNumbers {
+        rate,
+        schedule,
+        class,
+        height,
+        n,
+        maxudp,
+        tro,
+    };
+    let number = numbers.refusal();
+    if number != 0 {
+        return number as u32;
+    }
+    if out.len() < 4 {
+        return 15;
+    }
+    let rules = numbers.rules();
+    let plan = rules.plan;
+    out[0] = plan.period;
+    out[1] = plan.tro;
+    out[2] = rules.limit;
+    out[3] = plan.full;
+    0
+}
+
+// FPT, margin and VL in microseconds; or 16, then 15, and nothing written.
+#[no_mangle]
+pub extern "C" fn vtiming_graph(fpt: i64, margin: i64, latency: i64, out: &mut [f64]) -> u32
+    ensures { λ r. ⌜ Draws fpt margin latency (now (out .entry)) r (now (out .exit)) ⌝ }
+{
+    let drawn = timing::draw(fpt, margin, latency);
+    match drawn {
+        Drawn::Figures(g) => {
+            if out.len() < 3 {
+                return 15;
+            }
+            out[0] = g.fpt;
+            out[1] = g.margin;
+            out[2] = g.latency;
+            0
+        }
+        Drawn::Refused(number) => number as u32,
+    }
+}
