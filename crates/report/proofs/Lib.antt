@@ -3,3 +3,4 @@ pub mod Bytes
 pub mod Asking
 pub mod Calls
 pub mod Measuring
+pub mod Stated
