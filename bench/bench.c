@@ -251,6 +251,99 @@ static struct ratios measure(uint32_t n, size_t wanted)
     return r;
 }
 
+/* ---- the C call over a record file */
+
+struct file {
+    size_t size;
+    uint8_t *bytes;
+};
+
+static void put(uint8_t *b, int count, uint64_t x)
+{
+    for (int k = 0; k < count; k++) b[k] = (uint8_t)(x >> (8 * (count - 1 - k)));
+}
+
+static struct file file_of(struct stream s, struct list l)
+{
+    struct file f = {19 + 16 * l.count, room(19 + 16 * l.count)};
+    uint8_t *b = f.bytes;
+    b[0] = 1, put(b + 1, 2, 16), b[3] = 1, b[4] = s.rate, b[5] = s.schedule, b[6] = s.class;
+    put(b + 7, 2, s.height), put(b + 9, 4, s.n), put(b + 13, 2, s.maxudp), put(b + 15, 4, s.tro);
+    b += 19;
+    for (size_t i = 0; i < l.count; i++, b += 16)
+        put(b, 2, 14), b[2] = 2, put(b + 3, 8, l.arrivals[i]), put(b + 11, 4, l.stamps[i]), b[15] = l.markers[i];
+    return f;
+}
+
+static double timed_file(measure_function *measure, size_t calls, struct file f, uint8_t *out, size_t size)
+{
+    double start = now();
+    for (size_t k = 0; k < calls; k++)
+        if (measure(f.bytes, f.size, out, size) != 0) {
+            printf("DIFFERENT: the file is refused\n");
+            exit(1);
+        }
+    return now() - start;
+}
+
+/* The floor: each byte of the file read once, eight at a time. */
+static void read_bytes(struct file f)
+{
+    uint64_t sum = 0, word;
+    for (size_t i = 0; i + 8 <= f.size; i += 8) {
+        memcpy(&word, f.bytes + i, 8);
+        sum += word;
+    }
+    sink = sum;
+}
+
+static struct ratios measure_file(uint32_t n, size_t wanted)
+{
+    struct stream s = {RATE, 0, 1, 1080, n, 1460, DEFAULT_TRO};
+    size_t longest = LONGEST_NS / FRAME_NS * n, count = wanted < longest ? wanted : longest;
+    size_t calls = (wanted + count - 1) / count;
+    struct list l = jittered(count, n);
+    struct file f = file_of(s, l);
+    free_list(l);
+    size_t size = 8 * (SUMMARY + ROW * (count / n + 1));
+    uint8_t *out = room(size), *twin = room(size);
+    measure_function *twins[] = {kit_twin_measure, twin_measure};
+    for (int k = 0; k < 2; k++) {
+        memset(out, 0x55, size);
+        memset(twin, 0x55, size);
+        timed_file(vtiming_measure, 1, f, out, size);
+        timed_file(twins[k], 1, f, twin, size);
+        if (memcmp(out, twin, size) != 0) {
+            printf("DIFFERENT: the bytes of a file of %zu packets, n %" PRIu32 "\n", count, n);
+            exit(1);
+        }
+    }
+    double proved = 0, kit = 0, system = 0, floor = 0;
+    for (int round = 0; round < ROUNDS; round++) {
+        keep_least(&proved, timed_file(vtiming_measure, calls, f, out, size));
+        keep_least(&kit, timed_file(kit_twin_measure, calls, f, out, size));
+        keep_least(&system, timed_file(twin_measure, calls, f, out, size));
+        double start = now();
+        for (size_t k = 0; k < calls; k++) read_bytes(f);
+        keep_least(&floor, now() - start);
+    }
+    double packets = (double)count * (double)calls;
+    struct ratios r = {proved / kit, proved / system};
+    printf("%6" PRIu32 " %9zu %6zu %9.2f %9s %9.2f %9.2f %9.2f %9.2f %9.2f\n", n, count, calls, proved / packets, "", kit / packets,
+           system / packets, floor / packets, r.same, r.system);
+    fflush(stdout);
+    free(f.bytes);
+    free(out);
+    free(twin);
+    return r;
+}
+
+static void keep_worst(struct ratios *worst, struct ratios r)
+{
+    if (r.same > worst->same) worst->same = r.same;
+    if (r.system > worst->system) worst->system = r.system;
+}
+
 int main(void)
 {
     agree_on_short_lists(20000);
@@ -262,13 +355,13 @@ int main(void)
            "RATIO", "RATIO/sys");
     static const size_t counts[] = {100000, 1000000, 4000000};
     static const uint32_t sizes[] = {1, 100, 4320, 20000};
-    struct ratios worst = {0, 0};
+    struct ratios feed = {0, 0}, file = {0, 0};
     for (size_t j = 0; j < sizeof sizes / sizeof *sizes; j++)
-        for (size_t k = 0; k < sizeof counts / sizeof *counts; k++) {
-            struct ratios r = measure(sizes[j], counts[k]);
-            if (r.same > worst.same) worst.same = r.same;
-            if (r.system > worst.system) worst.system = r.system;
-        }
-    printf("All results were the same. The highest ratio is %.2f by the same compiler, %.2f by the system's.\n", worst.same, worst.system);
+        for (size_t k = 0; k < sizeof counts / sizeof *counts; k++) keep_worst(&feed, measure(sizes[j], counts[k]));
+    printf("The same streams as record files through the C call, which checks, counts, measures and writes; READ is the bytes read once.\n");
+    for (size_t j = 0; j < sizeof sizes / sizeof *sizes; j++)
+        for (size_t k = 0; k < sizeof counts / sizeof *counts; k++) keep_worst(&file, measure_file(sizes[j], counts[k]));
+    printf("All results were the same. The highest ratios: arrays %.2f by the same compiler, %.2f by the system's; files %.2f and %.2f.\n",
+           feed.same, feed.system, file.same, file.system);
     return 0;
 }

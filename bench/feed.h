@@ -1,5 +1,5 @@
-/* The measurement as C calls it, and the twins that bench.c compares with it; compare/host calls it too. A Rattle slice
-   is a pointer and a length. */
+/* The measurement as C calls it, over arrays and over a whole record file, and the twins that bench.c compares with it. A
+   Rattle slice is a pointer and a length. */
 #ifndef FEED_H
 #define FEED_H
 
@@ -17,5 +17,12 @@ typedef uint8_t feed_function(uint8_t rate, uint8_t schedule, uint8_t class, uin
 extern feed_function vtiming_feed;  /* the proved code, from libfeeder.a */
 extern feed_function twin_feed;     /* twin.c, by the system's compiler */
 extern feed_function kit_twin_feed; /* twin.c, by the compiler that made libfeeder.a */
+
+/* A whole record file into bytes: include/vtiming.h. */
+typedef uint32_t measure_function(const uint8_t *file, size_t size, uint8_t *out, size_t room);
+
+extern measure_function vtiming_measure;  /* the proved code, from libreport.a */
+extern measure_function twin_measure;     /* twin.c, by the system's compiler */
+extern measure_function kit_twin_measure; /* twin.c, by the compiler that made libreport.a */
 
 #endif

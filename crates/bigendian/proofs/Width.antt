@@ -97,6 +97,16 @@ pub halves-read : (j k : ℕ) {s : List ℕ} {at a b : ℕ} → Room (j + k) s a
     → a ≡ numberAt j s at → b ≡ numberAt k s (at + j) → a * 256 ^ k + b ≡ numberAt (j + k) s at
 halves-read j k {s} {at} h e f = rw (e, f) (sym (number-halves j k s at (h .inside)))
 
+-- four bytes, one after the other
+pub four-read : {s : List ℕ} {at a b c d : ℕ} → Room 4 s at → a ≡ getD s at 0 → b ≡ getD s (at + 1) 0 → c ≡ getD s (at + 2) 0
+    → d ≡ getD s (at + 3) 0 → ((a * 256 + b) * 256 + c) * 256 + d ≡ numberAt 4 s at
+four-read {s} {at} h ea eb ec ed =
+    let byte = number-byte s in
+    let two = number-halves 1 1 s at (omega (arith, h .inside)) in
+    let three = number-halves 2 1 s at (omega (arith, h .inside)) in
+    let all = number-halves 3 1 s at (omega (arith, h .inside)) in
+    omega (arith, two, three, all, byte at, byte (at + 1), byte (at + 2), byte (at + 3), ea, eb, ec, ed)
+
 -- bytes stored one after the other
 pub sets-join : (u v d : List ℕ) (at : ℕ) → sets d at (u ++ v) ≡ sets (sets d at u) (at + length u) v
 sets-join [] v d at = rw (add-zero at)

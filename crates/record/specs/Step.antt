@@ -9,7 +9,7 @@ use Rattle.laws.specs.Choose.{pick}
 use Rattle.record.specs.declared.Cursor.{Cursor}
 use Rattle.record.specs.declared.Read.{Read}
 use Rattle.record.specs.declared.Read.the-variants.{Version, Parameters, Packet, End, More, Refused}
-use Rattle.record.specs.Paper.{versionFits, bodyLength, numbersAt, packetAt, formatRefusal}
+use Rattle.record.specs.Paper.{versionFits, bodyLength, kindOf, numbersAt, packetAt, formatRefusal}
 
 abbrev pub cursor : ℕ → Cursor
 cursor at = record { at = at }
@@ -54,6 +54,10 @@ pieceOf at w last = pick (last || enough at w) (itemOf at w) More
 -- the answer where fewer than the two bytes of a length are left
 unfoldable pub scrapOf : ℕ → ℕ → Bool → Read
 scrapOf at size last = pick last (pick (eqb size 0) (pick (eqb at 1) (Refused 23 1) End) (Refused 21 at)) More
+
+-- a whole packet's record stands in front
+unfoldable pub standsIn : List ℕ → Bool
+standsIn l = leb 16 (length l) && (eqb (bodyLength l) 14 && eqb (kindOf l) 2)
 
 -- a record is all there, and its length is not 0
 pub record Whole (at body : ℕ) (l : List ℕ) : Type 0 where

@@ -17,7 +17,7 @@ ghost use Rattle.bigendian.specs.Number.{Room};
 ghost use Rattle.packet.specs.Paper.{packets};
 ghost use Rattle.packet.specs.Step.{nothing};
 ghost use Rattle.record.specs.Paper.{numbersAt, kindLength, setUpOf, packetsIn};
-ghost use Rattle.record.specs.Step.{itemOf, pieceOf, scrapOf, Whole, packetOf};
+ghost use Rattle.record.specs.Step.{itemOf, pieceOf, scrapOf, Whole, standsIn, packetOf};
 ghost use Rattle.record.specs.Layout.{packetWith, packetRecord, headOf, recordsOf};
 ghost use Rattle.record.specs.Write.{scanning, writtenOf, Writes, Fitting};
 ghost use Rattle.record.specs.Walk.{Countable, fresh, tallied, closing, refusedBy, finish, checkedOf};
@@ -135,6 +135,22 @@ fn packet_of(s: &[u8], next: Cursor) -> Read
     }
 }
 
+// Whether a whole packet's record stands at an offset.
+fn packet_stands(s: &[u8], at: usize) -> bool
+    ensures { λ r. ⌜ r ≡ standsIn (drop at (now (s .entry))) ⌝ }
+{
+    if s.len() < 16 {
+        return false;
+    }
+    if s.len() - 16 < at {
+        return false;
+    }
+    if read16(s, at) != kind_length(PACKET) {
+        return false;
+    }
+    s[at + 2] == PACKET
+}
+
 // At offset 0.
 fn version(window: &[u8], last: bool) -> Read
     ensures { λ r. ⌜ r ≡ pieceOf 0 (now (window .entry)) last ⌝ }
@@ -176,6 +192,18 @@ impl Cursor {
             return self.read_piece(&s[s.len()..], true);
         }
         self.read_piece(&s[at..], true)
+    }
+
+    // The same after the parameters, where a packet's record mostly stands: that is looked at first, being quick.
+    fn read_next(self, s: &[u8]) -> Read
+        requires { ⌜ 1 < self .at ⌝ }
+        ensures { λ r. ⌜ r ≡ itemOf (self .at) (drop (self .at) (now (s .entry))) ⌝ }
+    {
+        let at = self.at as usize;
+        if packet_stands(s, at) {
+            return packet_of(&s[at..], Cursor { at: self.at + 16 });
+        }
+        self.read(s)
     }
 
     // What stands at the cursor, of which `window` shows the bytes from there on; `last`: no more will come.
@@ -392,7 +420,7 @@ fn check_packets(numbers: Numbers, from: Cursor, s: &[u8]) -> Checked
     let mut cursor = from;
     let mut tally = Tally::none();
     loop {
-        let item = cursor.read(s);
+        let item = cursor.read_next(s);
         let Read::Packet {
             t,
             stamp: _,
