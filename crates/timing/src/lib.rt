@@ -468,16 +468,16 @@ impl State {
     {
         let past = self.past;
         let bucket = self.bucket;
-        let network = bucket.network;
+        let answer = bucket.network;
         let frames = self.frames;
         let buffer = frames.buffer;
         [
             past.packets,
             frames.closed,
             bucket.peak,
-            network.number(),
-            network.first(),
-            network.last(),
+            answer.number(),
+            answer.first(),
+            answer.last(),
             buffer.number(),
             buffer.frame(),
             buffer.place(),
