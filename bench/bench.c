@@ -344,8 +344,25 @@ static void keep_worst(struct ratios *worst, struct ratios r)
     if (r.system > worst->system) worst->system = r.system;
 }
 
-int main(void)
+/* bench N PACKETS FILE: the record file of such a stream, for the programs. */
+static int write_file(uint32_t n, size_t count, const char *name)
 {
+    struct stream s = {RATE, 0, 1, 1080, n, 1460, DEFAULT_TRO};
+    struct list l = jittered(count, n);
+    struct file f = file_of(s, l);
+    FILE *file = fopen(name, "wb");
+    if (!file || fwrite(f.bytes, 1, f.size, file) != f.size || fclose(file) != 0) {
+        perror(name);
+        return 2;
+    }
+    free_list(l);
+    free(f.bytes);
+    return 0;
+}
+
+int main(int argc, char **argv)
+{
+    if (argc == 4) return write_file((uint32_t)strtoul(argv[1], NULL, 10), strtoul(argv[2], NULL, 10), argv[3]);
     agree_on_short_lists(20000);
     printf("1080p50, gapped, narrow, a jittered sender; the least of %d rounds, taking turns.\n", ROUNDS);
     printf("Rows were cleared once, before the first round, and not between; nothing was flushed from a cache.\n");
