@@ -402,7 +402,7 @@ static int tell(void) {
     printf("; buffer:"), told("none", buffers[0]), told("pass", buffers[1]), told("under", buffers[2]), told("over", buffers[3]);
     printf("\n  rooms:"), told("exact", accepted_room[0]), told("larger", accepted_room[1]), told("one short", refused_room[1]);
     told("shorter", refused_room[2]), told("none", refused_room[0]);
-    printf("; files written and then measured:"), told("", round_trips);
+    printf("; files"), told("written and then measured", round_trips);
     printf("\nhost: %" PRIu64 " inputs, %" PRIu64 " calls, 0 different%s\n", inputs, calls_made,
            unseen ? "; but an outcome was NEVER SEEN" : "");
     return unseen;
