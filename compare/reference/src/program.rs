@@ -8,14 +8,17 @@ use std::os::unix::io::AsRawFd;
 use std::path::{Path, PathBuf};
 use std::process::{Child, ChildStdin, Command, Stdio};
 use std::sync::atomic::{AtomicUsize, Ordering};
-use std::sync::Mutex;
+use std::sync::{Arc, Mutex};
 use std::time::{Duration, Instant};
 
 use crate::generate::file;
 use crate::output::expected_output;
+use crate::record::{packet_body, parameters_body, read, record};
 
 /// No file takes the program near as long; one that does has stopped it.
 const LONGEST: Duration = Duration::from_secs(120);
+/// A row that has closed is out long before.
+const LONGEST_FOR_A_ROW: Duration = Duration::from_secs(if cfg!(test) { 1 } else { 10 });
 const AT_ONCE: usize = 2;
 
 pub struct Input {
@@ -59,6 +62,10 @@ pub enum Way {
     /// Through a pipe, each piece once the one before it has been read. The
     /// sizes are gone through again and again.
     Pieces(&'static [usize]),
+    /// Through a pipe, up to the end of each marker packet; the rest is held
+    /// back until the rows closed so far have come out: the program "prints
+    /// `frame` and the ten numbers of each row as it closes".
+    Live,
 }
 
 const BYTES: &[usize] = &[1];
@@ -75,7 +82,37 @@ pub fn pieces_for(length: usize) -> Way {
     })
 }
 
-/// Every file both ways, two programs at a time.
+/// Every way for a file. Row by row for short ones that close a frame: each
+/// row costs the reference a measurement.
+fn ways(bytes: &[u8], text: &str) -> Vec<Way> {
+    let mut ways = vec![Way::Whole, pieces_for(bytes.len())];
+    if bytes.len() <= 1500 && text.starts_with("frame ") {
+        ways.push(Way::Live);
+    }
+    ways
+}
+
+/// Where each marker packet that is accepted ends, and how much text the rows
+/// closed by then make.
+fn row_ends(bytes: &[u8]) -> Vec<(usize, usize)> {
+    let reading = read(bytes);
+    let mut end = match reading.numbers {
+        Some(numbers) => 1 + record(&parameters_body(&numbers)).len(),
+        None => return vec![],
+    };
+    let mut ends = vec![];
+    for packet in &reading.packets {
+        end += record(&packet_body(packet)).len();
+        if packet.marker == 1 {
+            let text = expected_output(&bytes[..end]);
+            let rows = text.lines().filter(|line| line.starts_with("frame "));
+            ends.push((end, rows.map(|line| line.len() + 1).sum()));
+        }
+    }
+    ends
+}
+
+/// Every file in each of its ways, two programs at a time.
 pub fn run_all(inputs: &[Input], command: &[&str], keep: &Path) -> io::Result<Told> {
     let next = AtomicUsize::new(0);
     let tally = Mutex::new(Tally::default());
@@ -109,7 +146,7 @@ pub fn run_all(inputs: &[Input], command: &[&str], keep: &Path) -> io::Result<To
 
 #[derive(Default)]
 struct Tally {
-    runs: u64,
+    runs: BTreeMap<&'static str, u64>,
     last_lines: BTreeMap<String, u64>,
     first: Option<Difference>,
 }
@@ -129,10 +166,10 @@ fn try_file(
     tally: &Mutex<Tally>,
 ) -> io::Result<()> {
     let wanted = expected_output(&input.bytes);
-    for way in [Way::Whole, pieces_for(input.bytes.len())] {
+    for way in ways(&input.bytes, &wanted) {
         let got = run(&input.bytes, way, command, scratch)?;
         let mut tally = tally.lock().unwrap();
-        tally.runs += 1;
+        *tally.runs.entry(way.name()).or_default() += 1;
         if got == wanted {
             continue;
         }
@@ -169,6 +206,16 @@ fn outcomes(text: &str) -> Vec<String> {
         .collect()
 }
 
+impl Way {
+    fn name(&self) -> &'static str {
+        match self {
+            Way::Whole => "whole",
+            Way::Pieces(_) => "in pieces",
+            Way::Live => "row by row",
+        }
+    }
+}
+
 /// What the program prints; any way in which it does not end well is part of
 /// the text, and so a difference.
 pub fn run(bytes: &[u8], way: Way, command: &[&str], scratch: &Path) -> io::Result<String> {
@@ -177,7 +224,7 @@ pub fn run(bytes: &[u8], way: Way, command: &[&str], scratch: &Path) -> io::Resu
             std::fs::write(scratch, bytes)?;
             Stdio::from(File::open(scratch)?)
         }
-        Way::Pieces(_) => Stdio::piped(),
+        Way::Pieces(_) | Way::Live => Stdio::piped(),
     };
     let mut child = Command::new(command[0])
         .args(&command[1..])
@@ -186,35 +233,65 @@ pub fn run(bytes: &[u8], way: Way, command: &[&str], scratch: &Path) -> io::Resu
         .stderr(Stdio::piped())
         .spawn()?;
     let began = Instant::now();
-    let out = child.stdout.take().expect("piped");
-    let err = child.stderr.take().expect("piped");
-    let readers = [
-        std::thread::spawn(move || all_of(out)),
-        std::thread::spawn(move || all_of(err)),
-    ];
-    let in_time = match (way, child.stdin.take()) {
+    let printed = Collected::of(child.stdout.take().expect("piped"));
+    let said = Collected::of(child.stderr.take().expect("piped"));
+    let fault = match (way, child.stdin.take()) {
         (Way::Pieces(sizes), Some(pipe)) => feed(&mut child, pipe, bytes, sizes, began)?,
-        _ => true,
-    } && ends(&mut child, began)?;
-    if !in_time {
+        (Way::Live, Some(pipe)) => feed_rows(&mut child, pipe, bytes, &printed)?,
+        _ => None,
+    };
+    let fault = match fault {
+        None if !ends(&mut child, began)? => Some(ENDLESS),
+        other => other,
+    };
+    if fault.is_some() {
         child.kill()?;
     }
     let status = child.wait()?;
-    let [printed, said] = readers.map(|reader| reader.join().expect("a reader does not panic"));
-    let mut text = String::from_utf8_lossy(&printed?).into_owned();
-    let said = String::from_utf8_lossy(&said?).into_owned();
-    if !in_time {
-        text.push_str("(it did not end)\n");
+    let mut text = printed.text()?;
+    let said = said.text()?;
+    if let Some(fault) = fault {
+        text.push_str(&format!("({})\n", fault));
     } else if !status.success() || !said.is_empty() {
         text.push_str(&format!("(it ended with {}, saying: {})\n", status, said));
     }
     Ok(text)
 }
 
-fn all_of(mut from: impl Read) -> io::Result<Vec<u8>> {
-    let mut bytes = vec![];
-    from.read_to_end(&mut bytes)?;
-    Ok(bytes)
+const ENDLESS: &str = "it did not end";
+const HELD_BACK: &str = "it held back a row that had closed";
+
+/// What comes out of a pipe, as it comes.
+struct Collected {
+    bytes: Arc<Mutex<Vec<u8>>>,
+    reader: std::thread::JoinHandle<io::Result<()>>,
+}
+
+impl Collected {
+    fn of(mut from: impl Read + Send + 'static) -> Collected {
+        let bytes = Arc::new(Mutex::new(vec![]));
+        let filled = bytes.clone();
+        let reader = std::thread::spawn(move || {
+            let mut piece = [0; 1 << 16];
+            loop {
+                match from.read(&mut piece)? {
+                    0 => return Ok(()),
+                    count => filled.lock().unwrap().extend(&piece[..count]),
+                }
+            }
+        });
+        Collected { bytes, reader }
+    }
+
+    fn count(&self) -> usize {
+        self.bytes.lock().unwrap().len()
+    }
+
+    fn text(self) -> io::Result<String> {
+        self.reader.join().expect("a reader does not panic")?;
+        let bytes = self.bytes.lock().unwrap();
+        Ok(String::from_utf8_lossy(&bytes).into_owned())
+    }
 }
 
 fn ends(child: &mut Child, began: Instant) -> io::Result<bool> {
@@ -238,29 +315,58 @@ fn feed(
     bytes: &[u8],
     sizes: &[usize],
     began: Instant,
-) -> io::Result<bool> {
+) -> io::Result<Option<&'static str>> {
     let mut rest = bytes;
     for size in sizes.iter().cycle() {
-        if rest.is_empty() {
-            break;
-        }
         let (piece, after) = rest.split_at((*size).min(rest.len()));
-        match pipe.write_all(piece) {
-            Err(error) if error.kind() == io::ErrorKind::BrokenPipe => break,
-            other => other?,
+        if piece.is_empty() || !taken(&mut pipe, piece)? {
+            break;
         }
         while unread(&pipe)? > 0 {
             if child.try_wait()?.is_some() {
-                return Ok(true);
+                return Ok(None);
             }
             if began.elapsed() > LONGEST {
-                return Ok(false);
+                return Ok(Some(ENDLESS));
             }
             std::thread::yield_now();
         }
         rest = after;
     }
-    Ok(true)
+    Ok(None)
+}
+
+/// Writes up to the end of each row, and waits for that row.
+fn feed_rows(
+    child: &mut Child,
+    mut pipe: ChildStdin,
+    bytes: &[u8],
+    printed: &Collected,
+) -> io::Result<Option<&'static str>> {
+    let mut from = 0;
+    for (end, wanted) in row_ends(bytes) {
+        if !taken(&mut pipe, &bytes[from..end])? {
+            return Ok(None);
+        }
+        from = end;
+        let began = Instant::now();
+        while printed.count() < wanted && child.try_wait()?.is_none() {
+            if began.elapsed() > LONGEST_FOR_A_ROW {
+                return Ok(Some(HELD_BACK));
+            }
+            std::thread::sleep(Duration::from_micros(50));
+        }
+    }
+    taken(&mut pipe, &bytes[from..])?;
+    Ok(None)
+}
+
+/// Whether there was somebody to take it.
+fn taken(pipe: &mut ChildStdin, piece: &[u8]) -> io::Result<bool> {
+    match pipe.write_all(piece) {
+        Err(error) if error.kind() == io::ErrorKind::BrokenPipe => Ok(false),
+        other => other.map(|()| true),
+    }
 }
 
 extern "C" {
@@ -289,9 +395,16 @@ impl Tally {
             text.push_str(&format!(" {} ({}),", outcome, count));
         }
         text.pop();
+        let runs: u64 = self.runs.values().sum();
+        let ways = self
+            .runs
+            .iter()
+            .map(|(way, count)| format!("{} {}", count, way));
+        let ways: Vec<String> = ways.collect();
         text.push_str(&format!(
-            "\nprogram: {} runs, half of them whole and half in pieces, 0 different\n",
-            self.runs
+            "\nprogram: {} runs ({}), 0 different\n",
+            runs,
+            ways.join(", ")
         ));
         Ok(Told { text, same: true })
     }
@@ -303,8 +416,8 @@ impl Difference {
         let kept = keep.join("first.rec");
         std::fs::write(&kept, &self.bytes)?;
         let way = match self.way {
-            Way::Whole => "whole".to_string(),
             Way::Pieces(sizes) => format!("in pieces of {:?} bytes", sizes),
+            other => other.name().to_string(),
         };
         let mut lines = vec![format!("program: DIFFERENT: {}, {}", self.name, way)];
         let (wanted, got): (Vec<&str>, Vec<&str>) =
@@ -356,6 +469,32 @@ mod tests {
             assert_eq!(through(&["cat"], length, Way::Whole), "same");
             assert_eq!(through(&["cat"], length, pieces_for(length)), "same");
         }
+    }
+
+    /// `cat` prints as much as it is handed, which is more than the rows; a
+    /// program that prints only at the end is caught.
+    #[test]
+    fn a_row_that_is_held_back_is_seen() {
+        let numbers = crate::Numbers {
+            rate: 6,
+            schedule: 0,
+            class: 1,
+            height: 1080,
+            packets_per_frame: 1,
+            maxudp: 1460,
+            tro: None,
+        };
+        let packet = crate::Packet::new(0, 0, 1);
+        let bytes = crate::write(&numbers, &[packet; 2]);
+        let ends = row_ends(&bytes);
+        assert_eq!((ends[0], ends.len()), ((35, 0), 2));
+        assert_eq!(ends[1], (51, "frame 0 0 0 0 0 0 20640000 0 1 0\n".len()));
+        let scratch = Path::new("");
+        let through_cat = run(&bytes, Way::Live, &["cat"], scratch).unwrap();
+        assert!(!through_cat.contains(HELD_BACK));
+        let at_the_end = ["sh", "-c", "cat >/dev/null; echo late"];
+        let late = run(&bytes, Way::Live, &at_the_end, scratch).unwrap();
+        assert!(late.contains(HELD_BACK));
     }
 
     #[test]

@@ -6,8 +6,9 @@ use std::collections::BTreeMap;
 use vtiming_reference::bucket::{drain_instant, drains_by};
 use vtiming_reference::cases::{case, fixed, Call, Case};
 use vtiming_reference::fraction::Fraction;
-use vtiming_reference::frame::{closed_frames, t_cf, Kind};
+use vtiming_reference::frame::{closed_frames, encoded_time, t_cf, Kind};
 use vtiming_reference::generate::file;
+use vtiming_reference::numbers::WRAP;
 use vtiming_reference::reads::read_instant;
 use vtiming_reference::record::read;
 use vtiming_reference::*;
@@ -112,6 +113,75 @@ fn generated_files_reach_everything() {
     }
     for what in wanted {
         assert!(seen.0.contains_key(&what), "never seen: {}", what);
+    }
+}
+
+/// Every rate with every schedule and class, both ends of n and of time, and
+/// first packets on and beside the half frame, where N turns over.
+#[test]
+fn generated_files_reach_every_stream_and_both_ends() {
+    let mut seen = Seen::default();
+    for index in 0..6000 {
+        let reading = read(&file(2110, index));
+        let (numbers, limits) = match reading.numbers {
+            Some(numbers) => (numbers, set_up(&numbers).unwrap()),
+            None => continue,
+        };
+        let Numbers {
+            rate,
+            schedule,
+            class,
+            ..
+        } = numbers;
+        seen.add(&format!("stream {} {} {}", rate, schedule, class));
+        seen.add(&format!("n {}", numbers.packets_per_frame));
+        for packet in &reading.packets {
+            match packet.arrival {
+                0 => seen.add("the first nanosecond"),
+                u64::MAX => seen.add("the last nanosecond"),
+                _ => {}
+            }
+        }
+        for frame in closed_frames(&reading.packets) {
+            look_at_start(&mut seen, &limits, frame.packets);
+        }
+    }
+    for rate in 1..=8 {
+        for (schedule, class) in [(0, 0), (0, 1), (0, 3), (1, 0), (1, 2), (1, 3)] {
+            let what = format!("stream {} {} {}", rate, schedule, class);
+            assert!(seen.0.contains_key(&what), "never seen: {}", what);
+        }
+    }
+    for what in [
+        "n 1",
+        "n 20000",
+        "the first nanosecond",
+        "the last nanosecond",
+        "on a half frame",
+        "the nanosecond after a half frame",
+        "the nanosecond before a half frame",
+        "stamped before a wrap and received after it",
+        "no packets in a frame but its marker",
+    ] {
+        assert!(seen.0.contains_key(what), "never seen: {}", what);
+    }
+}
+
+fn look_at_start(seen: &mut Seen, limits: &Limits, packets: &[Packet]) {
+    if packets.len() == 1 && limits.n > 1 {
+        seen.add("no packets in a frame but its marker");
+    }
+    let twice = 2 * (packets[0].grains() - t_cf(&packets[0], limits.frame));
+    if twice == -limits.frame {
+        seen.add("on a half frame");
+    } else if twice - 2 * 27 < -limits.frame {
+        seen.add("the nanosecond after a half frame");
+    } else if twice + 2 * 27 >= limits.frame {
+        seen.add("the nanosecond before a half frame");
+    }
+    let latency = packets[0].grains() - encoded_time(&packets[0]);
+    if latency < -WRAP / 10 * 9 {
+        seen.add("stamped before a wrap and received after it");
     }
 }
 
