@@ -134,7 +134,6 @@ fn generated_files_reach_every_stream_and_both_ends() {
             ..
         } = numbers;
         seen.add(&format!("stream {} {} {}", rate, schedule, class));
-        seen.add(&format!("n {}", numbers.packets_per_frame));
         for packet in &reading.packets {
             match packet.arrival {
                 0 => seen.add("the first nanosecond"),
@@ -153,8 +152,8 @@ fn generated_files_reach_every_stream_and_both_ends() {
         }
     }
     for what in [
-        "n 1",
-        "n 20000",
+        "a frame of 1",
+        "a frame of 20000",
         "the first nanosecond",
         "the last nanosecond",
         "on a half frame",
@@ -168,6 +167,9 @@ fn generated_files_reach_every_stream_and_both_ends() {
 }
 
 fn look_at_start(seen: &mut Seen, limits: &Limits, packets: &[Packet]) {
+    if packets.len() as i128 == limits.n && [1, 20_000].contains(&limits.n) {
+        seen.add(&format!("a frame of {}", limits.n));
+    }
     if packets.len() == 1 && limits.n > 1 {
         seen.add("no packets in a frame but its marker");
     }
