@@ -1,5 +1,4 @@
-/* The measurement as C calls it, and the twins that bench.c compares with it; compare/host calls it too. A Rattle slice
-   is a pointer and a length. */
+/* The measurement as C calls it, and the twins that bench.c compares with it. A Rattle slice is a pointer and a length. */
 #ifndef FEED_H
 #define FEED_H
 
