@@ -390,25 +390,61 @@ impl Tally {
         if let Some(difference) = &self.first {
             return difference.told(keep);
         }
-        let mut text = String::from("program: last lines seen:");
-        for (outcome, count) in &self.last_lines {
-            text.push_str(&format!(" {} ({}),", outcome, count));
+        let mut lines = vec![];
+        for outcome in SEEN {
+            lines.push(match self.last_lines.get(*outcome) {
+                Some(count) => format!("{} ({})", outcome, count),
+                None => format!("{} (NEVER SEEN)", outcome),
+            });
         }
-        text.pop();
-        let runs: u64 = self.runs.values().sum();
-        let ways = self
+        let all_seen = SEEN.iter().all(|o| self.last_lines.contains_key(*o));
+        let ways: Vec<String> = self
             .runs
             .iter()
-            .map(|(way, count)| format!("{} {}", count, way));
-        let ways: Vec<String> = ways.collect();
-        text.push_str(&format!(
-            "\nprogram: {} runs ({}), 0 different\n",
-            runs,
-            ways.join(", ")
-        ));
-        Ok(Told { text, same: true })
+            .map(|(way, count)| format!("{} {}", count, way))
+            .collect();
+        let text = format!(
+            "program: last lines seen: {}\nprogram: {} runs ({}), 0 different{}\n",
+            lines.join(", "),
+            self.runs.values().sum::<u64>(),
+            ways.join(", "),
+            if all_seen {
+                ""
+            } else {
+                "; but an outcome was NEVER SEEN"
+            },
+        );
+        Ok(Told {
+            text,
+            same: all_seen,
+        })
     }
 }
+
+/// Every last line that a file can bring about, but a refusal by 14, which
+/// takes a billion packets.
+const SEEN: &[&str] = &[
+    "network pass",
+    "network burst",
+    "buffer none",
+    "buffer pass",
+    "buffer under",
+    "buffer over",
+    "refused 01",
+    "refused 02",
+    "refused 03",
+    "refused 04",
+    "refused 05",
+    "refused 06",
+    "refused 07",
+    "refused 11",
+    "refused 12",
+    "refused 13",
+    "refused 20",
+    "refused 21",
+    "refused 22",
+    "refused 23",
+];
 
 impl Difference {
     /// The file is kept, so that it can be run again.
