@@ -36,7 +36,7 @@ pub fn generate(seed: u64, count: u64, directory: &Path) -> io::Result<()> {
 }
 
 /// A file cut off within its first bytes; the version byte alone is one.
-fn front(random: &mut Random) -> Vec<u8> {
+pub(crate) fn front(random: &mut Random) -> Vec<u8> {
     let (numbers, packets) = stream(random);
     let mut bytes = write(&numbers, &packets);
     bytes.truncate(random.pick(&[1, 1, 2, 3, 4, 18, 19]));
@@ -44,7 +44,7 @@ fn front(random: &mut Random) -> Vec<u8> {
 }
 
 /// Half of them with the right version byte, so that they get past 20.
-fn random_bytes(random: &mut Random) -> Vec<u8> {
+pub(crate) fn random_bytes(random: &mut Random) -> Vec<u8> {
     let length = 1 + random.place(80);
     let mut bytes: Vec<u8> = (0..length).map(|_| random.bits() as u8).collect();
     if random.chance(50) {
@@ -96,7 +96,7 @@ impl Pieces {
     }
 }
 
-fn damaged(random: &mut Random) -> Vec<u8> {
+pub(crate) fn damaged(random: &mut Random) -> Vec<u8> {
     let (numbers, mut packets) = stream(random);
     packets.truncate(600);
     let mut pieces = Pieces::of(&numbers, &packets);

@@ -8,6 +8,7 @@
 
 pub mod bucket;
 pub mod call;
+pub mod cases;
 pub mod fraction;
 pub mod frame;
 pub mod generate;
@@ -16,6 +17,7 @@ pub mod measure;
 pub mod numbers;
 pub mod output;
 pub mod packet;
+pub mod program;
 pub mod random;
 pub mod reads;
 pub mod record;

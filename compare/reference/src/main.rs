@@ -4,7 +4,9 @@ use std::io::{self, Read, Write};
 use std::path::Path;
 use std::process::exit;
 
+use vtiming_reference::cases::{case, fixed};
 use vtiming_reference::generate::generate;
+use vtiming_reference::program::{inputs, run_all};
 use vtiming_reference::{expected_c_call, expected_output, graph, set_up, Numbers};
 
 const USAGE: &str = "usage:
@@ -13,7 +15,12 @@ const USAGE: &str = "usage:
   reference limits RATE SCHEDULE CLASS HEIGHT N MAXUDP TRO|default
   reference graph FPT MARGIN VL   the graph's doubles for figures in grains
   reference gen SEED COUNT DIR    writes COUNT test files to DIR
-  reference expect DIR            writes FILE.out for each .rec file in DIR";
+  reference expect DIR            writes FILE.out for each .rec file in DIR
+  reference cases SEED COUNT      the fixed cases and COUNT generated ones, as the C host reads them
+  reference case SEED INDEX       one generated case, as the C host reads it
+  reference program SEED COUNT DIR KEEP COMMAND..
+                                  runs the program on COUNT generated files and on the .rec files of
+                                  DIR, whole and in pieces; a file that differs is copied to KEEP";
 
 fn main() {
     let arguments: Vec<String> = std::env::args().skip(1).collect();
@@ -25,6 +32,11 @@ fn main() {
         ["graph", fpt, margin, vl] => figures(fpt, margin, vl),
         ["gen", seed, count, directory] => gen(seed, count, directory),
         ["expect", directory] => expect(Path::new(directory)),
+        ["cases", seed, count] => cases(seed, count),
+        ["case", seed, index] => one_case(seed, index),
+        ["program", seed, count, directory, keep, command @ ..] if !command.is_empty() => {
+            program(seed, count, directory, keep, command)
+        }
         _ => usage(),
     };
     if let Err(error) = done {
@@ -125,4 +137,38 @@ fn expect(directory: &Path) -> io::Result<()> {
         }
     }
     Ok(())
+}
+
+/// The fixed cases have the numbers after the generated ones, so that a
+/// generated case has one number whatever stands before it.
+fn cases(seed: &str, count: &str) -> io::Result<()> {
+    let (seed, count) = (number(seed)?, number::<u64>(count)?);
+    let mut out = io::BufWriter::with_capacity(1 << 20, io::stdout().lock());
+    for (place, fixed) in fixed().iter().enumerate() {
+        out.write_all(&fixed.bytes(count + place as u64))?;
+    }
+    for index in 0..count {
+        out.write_all(&case(seed, index).bytes(index))?;
+    }
+    out.flush()
+}
+
+fn one_case(seed: &str, index: &str) -> io::Result<()> {
+    let index = number(index)?;
+    io::stdout()
+        .lock()
+        .write_all(&case(number(seed)?, index).bytes(index))
+}
+
+fn program(
+    seed: &str,
+    count: &str,
+    directory: &str,
+    keep: &str,
+    command: &[&str],
+) -> io::Result<()> {
+    let inputs = inputs(number(seed)?, number(count)?, Path::new(directory))?;
+    let told = run_all(&inputs, command, Path::new(keep))?;
+    say(&told.text)?;
+    exit(i32::from(!told.same));
 }

@@ -158,9 +158,22 @@ fn near_step<L: Fn(&Limits) -> i128>(
     }
 }
 
+/// Numbers on one side or the other of a step of C_MAX or VRX_FULL; before the
+/// first n there is none, and set-up refuses.
+pub(crate) fn limit_numbers(random: &mut Random) -> Numbers {
+    let mut numbers = accepted_numbers(random);
+    let any = random.pick(&[1, 4000, 10_000]) + random.below(10_000);
+    numbers.packets_per_frame = if random.chance(50) {
+        near_step(random, &numbers, any, |l| l.c_max)
+    } else {
+        near_step(random, &numbers, any, |l| l.vrx_full)
+    };
+    numbers
+}
+
 /// Rates 3 and 6 have whole nanoseconds in a frame, so that with small n and a
 /// given TRO reads and drains fall on arrivals exactly; they come more often.
-fn accepted_numbers(random: &mut Random) -> Numbers {
+pub(crate) fn accepted_numbers(random: &mut Random) -> Numbers {
     let rate = random.pick(&[1, 2, 3, 3, 4, 5, 6, 6, 6, 7, 8]);
     let schedule = random.below(2);
     let class = if schedule == 0 {

@@ -4,9 +4,11 @@
 use std::collections::BTreeMap;
 
 use vtiming_reference::bucket::{drain_instant, drains_by};
+use vtiming_reference::cases::{case, fixed, Call, Case};
 use vtiming_reference::fraction::Fraction;
-use vtiming_reference::frame::{closed_frames, t_cf, Kind};
+use vtiming_reference::frame::{closed_frames, encoded_time, t_cf, Kind};
 use vtiming_reference::generate::file;
+use vtiming_reference::numbers::WRAP;
 use vtiming_reference::reads::read_instant;
 use vtiming_reference::record::read;
 use vtiming_reference::*;
@@ -114,6 +116,77 @@ fn generated_files_reach_everything() {
     }
 }
 
+/// Every rate with every schedule and class, both ends of n and of time, and
+/// first packets on and beside the half frame, where N turns over.
+#[test]
+fn generated_files_reach_every_stream_and_both_ends() {
+    let mut seen = Seen::default();
+    for index in 0..6000 {
+        let reading = read(&file(2110, index));
+        let (numbers, limits) = match reading.numbers {
+            Some(numbers) => (numbers, set_up(&numbers).unwrap()),
+            None => continue,
+        };
+        let Numbers {
+            rate,
+            schedule,
+            class,
+            ..
+        } = numbers;
+        seen.add(&format!("stream {} {} {}", rate, schedule, class));
+        for packet in &reading.packets {
+            match packet.arrival {
+                0 => seen.add("the first nanosecond"),
+                u64::MAX => seen.add("the last nanosecond"),
+                _ => {}
+            }
+        }
+        for frame in closed_frames(&reading.packets) {
+            look_at_start(&mut seen, &limits, frame.packets);
+        }
+    }
+    for rate in 1..=8 {
+        for (schedule, class) in [(0, 0), (0, 1), (0, 3), (1, 0), (1, 2), (1, 3)] {
+            let what = format!("stream {} {} {}", rate, schedule, class);
+            assert!(seen.0.contains_key(&what), "never seen: {}", what);
+        }
+    }
+    for what in [
+        "a frame of 1",
+        "a frame of 20000",
+        "the first nanosecond",
+        "the last nanosecond",
+        "on a half frame",
+        "the nanosecond after a half frame",
+        "the nanosecond before a half frame",
+        "stamped before a wrap and received after it",
+        "no packets in a frame but its marker",
+    ] {
+        assert!(seen.0.contains_key(what), "never seen: {}", what);
+    }
+}
+
+fn look_at_start(seen: &mut Seen, limits: &Limits, packets: &[Packet]) {
+    if packets.len() as i128 == limits.n && [1, 20_000].contains(&limits.n) {
+        seen.add(&format!("a frame of {}", limits.n));
+    }
+    if packets.len() == 1 && limits.n > 1 {
+        seen.add("no packets in a frame but its marker");
+    }
+    let twice = 2 * (packets[0].grains() - t_cf(&packets[0], limits.frame));
+    if twice == -limits.frame {
+        seen.add("on a half frame");
+    } else if twice - 2 * 27 < -limits.frame {
+        seen.add("the nanosecond after a half frame");
+    } else if twice + 2 * 27 >= limits.frame {
+        seen.add("the nanosecond before a half frame");
+    }
+    let latency = packets[0].grains() - encoded_time(&packets[0]);
+    if latency < -WRAP / 10 * 9 {
+        seen.add("stamped before a wrap and received after it");
+    }
+}
+
 #[test]
 fn a_file_is_the_same_each_time() {
     for index in 0..50 {
@@ -155,5 +228,122 @@ fn cutting_the_list_changes_nothing() {
         let before = measure(&numbers, front).unwrap();
         assert_eq!([before.rows, answer.rows].concat(), whole.rows);
         assert_eq!(answer.after, whole);
+    }
+}
+
+// --- the cases for the C host ---
+
+fn name_of(call: &Call) -> &'static str {
+    match call {
+        Call::Measure(_) => "measure",
+        Call::Write { .. } => "write",
+        Call::Limits(_) => "limits",
+        Call::Graph { .. } => "graph",
+    }
+}
+
+fn answers_of(cases: &[Case]) -> BTreeMap<String, u64> {
+    let mut seen = Seen::default();
+    for case in cases {
+        for room in &case.rooms {
+            seen.add(&format!("{} {}", name_of(&case.call), room.number));
+        }
+    }
+    seen.0
+}
+
+fn reach_every_answer(cases: &[Case]) {
+    let answers = answers_of(cases);
+    let wanted: [(&str, &[u8]); 4] = [
+        (
+            "measure",
+            &[0, 1, 2, 3, 4, 5, 6, 7, 11, 12, 13, 15, 20, 21, 22, 23],
+        ),
+        ("write", &[0, 1, 2, 3, 4, 5, 6, 7, 10, 11, 12, 13, 24]),
+        ("limits", &[0, 1, 2, 3, 4, 5, 6, 7, 15]),
+        ("graph", &[0, 15, 16]),
+    ];
+    for (call, numbers) in wanted {
+        for number in numbers {
+            let what = format!("{} {}", call, number);
+            assert!(answers.contains_key(&what), "never seen: {}", what);
+        }
+        let other = |what: &&String| what.starts_with(&format!("{} ", call));
+        assert_eq!(
+            answers.keys().filter(other).count(),
+            numbers.len(),
+            "{}",
+            call
+        );
+    }
+}
+
+/// What the host counts must not hang on the seed, so the fixed cases alone
+/// reach it all; and generated ones reach it too.
+#[test]
+fn the_cases_reach_every_answer_of_every_call() {
+    reach_every_answer(&fixed());
+    let generated: Vec<Case> = (0..3000).map(|index| case(1, index)).collect();
+    reach_every_answer(&generated);
+}
+
+#[test]
+fn the_fixed_files_reach_every_kind_and_verdict() {
+    let mut seen = Seen::default();
+    for case in fixed() {
+        if let Call::Measure(bytes) = &case.call {
+            look_at_lines(&mut seen, &expected_output(bytes));
+        }
+    }
+    for what in [
+        "kind 0",
+        "kind 1",
+        "kind 2",
+        "kind 3",
+        "network pass",
+        "network burst",
+        "buffer none",
+        "buffer pass",
+        "buffer under",
+        "buffer over",
+    ] {
+        assert!(seen.0.contains_key(what), "never seen: {}", what);
+    }
+}
+
+/// A call is accepted exactly where what it writes has room, and a refusal for
+/// want of room is 15, or 24 of the writer.
+#[test]
+fn a_case_is_accepted_where_there_is_room() {
+    for index in 0..2000 {
+        let case = case(5, index);
+        let size = match case.call {
+            Call::Measure(_) | Call::Write { .. } => 1,
+            _ => 8,
+        };
+        let needed = case.filled.len() as u64 / size;
+        for room in &case.rooms {
+            let short = match case.call {
+                Call::Write { .. } => 24,
+                _ => 15,
+            };
+            if needed > 0 {
+                let wanted = if room.lent < needed { short } else { 0 };
+                assert_eq!(room.number, wanted);
+            } else {
+                assert!(room.number != 0 && room.number != short);
+            }
+            assert!(room.number != 0 || room.place == 0);
+        }
+    }
+}
+
+#[test]
+fn a_case_is_as_long_as_it_says() {
+    for index in 0..200 {
+        let bytes = case(6, index).bytes(index);
+        let size = u32::from_be_bytes([bytes[0], bytes[1], bytes[2], bytes[3]]);
+        assert_eq!(bytes.len(), 4 + size as usize);
+        assert_eq!(bytes, case(6, index).bytes(index));
     }
 }

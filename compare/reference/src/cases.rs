@@ -1,0 +1,588 @@
+//! Cases for the C host: a call, what it lends, and all that must come of it.
+//!
+//! First the fixed ones, which are document 01's own and reach every outcome;
+//! then as many generated ones as are asked for. A case is handed over as
+//! bytes, big-endian throughout:
+//!
+//!   size of what follows (4), index (8), call (1), the call's input, rooms
+//!
+//! with the input by call
+//!
+//!   1 measure: length (4), file
+//!   2 write:   seven numbers (15), three counts (4 each), arrivals (8 each),
+//!              timestamps (4 each), markers (1 each)
+//!   3 limits:  seven numbers (15)
+//!   4 graph:   three figures (8 each)
+//!
+//! and the rooms: count (1), for each elements lent (8), number (1) and place
+//! (8); then length (4) and bytes of what an accepted call writes, and for
+//! `write` length and bytes of what `measure` then makes of the file.
+
+use crate::generate::{damaged, file, front, random_bytes};
+use crate::graph::graph;
+use crate::numbers::{set_up, Numbers};
+use crate::output::expected_c_call;
+use crate::packet::{Packet, LONGEST_HISTORY};
+use crate::random::Random;
+use crate::record::{parameters_body, write, writer};
+use crate::stream::{accepted_numbers, limit_numbers, refused_numbers, stream};
+
+/// What is called, and with what.
+#[derive(Clone, Debug, PartialEq)]
+pub enum Call {
+    Measure(Vec<u8>),
+    Write {
+        numbers: Numbers,
+        arrivals: Vec<u64>,
+        timestamps: Vec<u32>,
+        markers: Vec<u8>,
+    },
+    Limits(Numbers),
+    Graph {
+        first_packet_time: i64,
+        margin: i64,
+        latency: i64,
+    },
+}
+
+/// The answer where so many elements are lent: bytes for `measure` and
+/// `write`, numbers for `limits`, doubles for `graph`.
+#[derive(Clone, Copy, Debug, PartialEq, Eq)]
+pub struct Room {
+    pub lent: u64,
+    pub number: u8,
+    pub place: u64,
+}
+
+#[derive(Clone, Debug, PartialEq)]
+pub struct Case {
+    pub call: Call,
+    pub rooms: Vec<Room>,
+    /// What an accepted call writes, as big-endian elements.
+    pub filled: Vec<u8>,
+    /// What `measure` fills in for the file that `write` has written.
+    pub measured: Vec<u8>,
+}
+
+/// Generated case `index` of a seed.
+pub fn case(seed: u64, index: u64) -> Case {
+    // The files of `generate` hang on seed and number too; the other cases
+    // must not repeat their choices.
+    let mut random = Random::new(seed ^ 0x6361_7365, index);
+    let call = match index % 20 {
+        0..=11 => Call::Measure(file(seed, index)),
+        12..=15 => lists(&mut random),
+        16..=18 => Call::Limits(any_numbers(&mut random)),
+        _ => figures(&mut random),
+    };
+    answered(&mut random, call)
+}
+
+/// The call with each room that is worth lending, and the answers.
+fn answered(random: &mut Random, call: Call) -> Case {
+    let (needed, filled, measured) = outcome(&call);
+    let rooms = rooms(random, needed)
+        .into_iter()
+        .map(|lent| room(&call, lent))
+        .collect();
+    Case {
+        call,
+        rooms,
+        filled,
+        measured,
+    }
+}
+
+/// How many elements an accepted call writes, what they are, and what
+/// `measure` makes of them; none where no room is enough.
+fn outcome(call: &Call) -> (Option<u64>, Vec<u8>, Vec<u8>) {
+    let nothing = (None, vec![], vec![]);
+    match call {
+        Call::Measure(file) => match expected_c_call(file, usize::MAX).2 {
+            Some(filled) => (Some(filled.len() as u64), filled, vec![]),
+            None => nothing,
+        },
+        Call::Write {
+            numbers,
+            arrivals,
+            timestamps,
+            markers,
+        } => match writer(numbers, (arrivals, timestamps, markers), usize::MAX) {
+            Ok(written) => {
+                let measured = expected_c_call(&written, usize::MAX).2;
+                let measured = measured.expect("what is written is accepted");
+                (Some(written.len() as u64), written, measured)
+            }
+            Err(_) => nothing,
+        },
+        Call::Limits(numbers) => match set_up(numbers) {
+            Ok(limits) => {
+                let four = [limits.frame, limits.tro, limits.c_max, limits.vrx_full];
+                let bytes = four
+                    .iter()
+                    .flat_map(|number| (*number as u64).to_be_bytes());
+                (Some(4), bytes.collect(), vec![])
+            }
+            Err(_) => nothing,
+        },
+        Call::Graph {
+            first_packet_time,
+            margin,
+            latency,
+        } => match graph(*first_packet_time, *margin, *latency) {
+            Ok(graph) => {
+                let three = [graph.first_packet_time, graph.margin, graph.latency];
+                let bytes = three
+                    .iter()
+                    .flat_map(|double| double.to_bits().to_be_bytes());
+                (Some(3), bytes.collect(), vec![])
+            }
+            Err(_) => nothing,
+        },
+    }
+}
+
+/// Exactly enough, one too few, none, more than enough. Where the call is
+/// refused whatever is lent: none, and plenty.
+fn rooms(random: &mut Random, needed: Option<u64>) -> Vec<u64> {
+    match needed {
+        Some(needed) => {
+            let fewer = random.below(needed);
+            let more = needed + 1 + random.below(200);
+            vec![needed, needed - 1, 0, more, fewer]
+        }
+        None => vec![0, 1000 + random.below(1000)],
+    }
+}
+
+fn room(call: &Call, lent: u64) -> Room {
+    let elements = lent as usize;
+    let (number, place) = match call {
+        Call::Measure(file) => {
+            let (number, offset, _) = expected_c_call(file, elements);
+            (number, offset)
+        }
+        Call::Write {
+            numbers,
+            arrivals,
+            timestamps,
+            markers,
+        } => match writer(numbers, (arrivals, timestamps, markers), elements) {
+            Ok(_) => (0, 0),
+            Err(refusal) => (refusal.number, refusal.place),
+        },
+        // "refused by 1 to 7", then by 15 as every lent row.
+        Call::Limits(numbers) => match set_up(numbers) {
+            Err(number) => (number, 0),
+            Ok(_) => (if lent < 4 { 15 } else { 0 }, 0),
+        },
+        Call::Graph {
+            first_packet_time,
+            margin,
+            latency,
+        } => match graph(*first_packet_time, *margin, *latency) {
+            Err(number) => (number, 0),
+            Ok(_) => (if lent < 3 { 15 } else { 0 }, 0),
+        },
+    };
+    Room {
+        lent,
+        number,
+        place,
+    }
+}
+
+// --- generated calls ---
+
+/// A stream as three lists, now and then with refused numbers, or with lists
+/// that differ in length by one or by all, where a list may be refused too.
+fn lists(random: &mut Random) -> Call {
+    let (mut numbers, mut packets) = stream(random);
+    packets.truncate(random.pick(&[2, 20, 200, 200, 2000, 20_000]));
+    if random.chance(5) {
+        packets.clear();
+    }
+    if random.chance(10) {
+        numbers = refused_numbers(random);
+    }
+    let (mut arrivals, mut timestamps, mut markers) = three(&packets);
+    if random.chance(10) {
+        let keep = random.pick(&[0, packets.len().saturating_sub(1)]);
+        match random.below(6) {
+            0 => arrivals.truncate(keep),
+            1 => timestamps.truncate(keep),
+            2 => markers.truncate(keep),
+            3 => arrivals.push(random.bits()),
+            4 => timestamps.push(0),
+            _ => markers.push(random.pick(&[0, 1, 2])),
+        }
+    }
+    Call::Write {
+        numbers,
+        arrivals,
+        timestamps,
+        markers,
+    }
+}
+
+fn three(packets: &[Packet]) -> (Vec<u64>, Vec<u32>, Vec<u8>) {
+    (
+        packets.iter().map(|packet| packet.arrival).collect(),
+        packets.iter().map(|packet| packet.timestamp).collect(),
+        packets.iter().map(|packet| packet.marker).collect(),
+    )
+}
+
+fn any_numbers(random: &mut Random) -> Numbers {
+    match random.below(10) {
+        0..=2 => accepted_numbers(random),
+        3..=6 => limit_numbers(random),
+        7..=8 => refused_numbers(random),
+        _ => random_numbers(random),
+    }
+}
+
+/// Each number any that crosses the border.
+fn random_numbers(random: &mut Random) -> Numbers {
+    let any = random.bits();
+    let wide = (any >> 16) & 0xffff_ffff;
+    let within = 1 + random.below(20_000);
+    let tro = random.bits() >> random.pick(&[32, 44, 50]);
+    Numbers {
+        rate: random.below(10),
+        schedule: random.below(3),
+        class: random.below(5),
+        height: random.pick(&[1080, any & 0xffff]),
+        packets_per_frame: random.pick(&[within, wide]),
+        maxudp: random.pick(&[1460, 8960, any >> 48]),
+        tro: if tro == 0xffff_ffff { None } else { Some(tro) },
+    }
+}
+
+/// Figures of all sizes, and those on both sides of 2^53 and at the ends.
+fn figures(random: &mut Random) -> Call {
+    let mut one = || {
+        let any = random.bits() as i64;
+        let small = any >> random.pick(&[10, 11, 20, 33, 50]);
+        let edge = (1_i64 << 53) + random.pick(&[-1, 0, 0, 0, 1, 2]);
+        let signed_edge = random.pick(&[edge, -edge]);
+        match random.below(12) {
+            0..=5 => small,
+            6..=7 => (small >> 16) * 27_000,
+            8..=9 => signed_edge,
+            10 => random.pick(&[0, 1, -1, i64::MAX, i64::MIN, i64::MIN + 1]),
+            _ => random.pick(&[small, small, any]),
+        }
+    };
+    Call::Graph {
+        first_packet_time: one(),
+        margin: one(),
+        latency: one(),
+    }
+}
+
+// --- fixed calls ---
+
+const NARROW: Numbers = Numbers {
+    rate: 6,
+    schedule: 0,
+    class: 1,
+    height: 1080,
+    packets_per_frame: 4,
+    maxudp: 1460,
+    tro: None,
+};
+
+fn packets(list: &[(u64, u32, u8)]) -> Vec<Packet> {
+    list.iter()
+        .map(|&(arrival, timestamp, marker)| Packet::new(arrival, timestamp, marker))
+        .collect()
+}
+
+fn example() -> Vec<Packet> {
+    packets(&[
+        (19_000_000, 0, 1),
+        (20_700_000, 1800, 0),
+        (25_500_000, 1800, 0),
+        (30_300_000, 1800, 0),
+        (35_100_000, 1800, 1),
+    ])
+}
+
+/// Document 01's cases on both sides of each limit, its example, and one of
+/// each outcome, so that none hangs on the seed.
+pub fn fixed() -> Vec<Case> {
+    let mut random = Random::new(0, 0);
+    let mut calls = fixed_limits();
+    calls.extend(fixed_lists());
+    calls.extend(fixed_files(&mut random));
+    calls.extend(fixed_figures());
+    calls
+        .into_iter()
+        .map(|call| answered(&mut random, call))
+        .collect()
+}
+
+fn fixed_limits() -> Vec<Call> {
+    let with = |change: fn(&mut Numbers)| {
+        let mut numbers = NARROW;
+        change(&mut numbers);
+        Call::Limits(numbers)
+    };
+    vec![
+        with(|_| {}),
+        with(|n| n.rate = 0),
+        with(|n| n.rate = 9),
+        with(|n| n.schedule = 2),
+        with(|n| n.schedule = 1),
+        with(|n| n.class = 2),
+        with(|n| n.class = 4),
+        with(|n| n.class = 0),
+        with(|n| n.height = 0),
+        with(|n| n.height = 1079),
+        with(|n| n.packets_per_frame = 0),
+        with(|n| n.packets_per_frame = 20_000),
+        with(|n| n.packets_per_frame = 20_001),
+        with(|n| n.maxudp = 1500),
+        with(|n| n.maxudp = 8960),
+        with(|n| n.tro = Some(19_999)),
+        with(|n| n.tro = Some(20_000)),
+        with(|n| (n.rate, n.tro) = (7, Some(16_683))),
+        with(|n| (n.rate, n.tro) = (7, Some(16_684))),
+        with(|n| n.packets_per_frame = 4147),
+        with(|n| n.packets_per_frame = 4148),
+        with(|n| n.packets_per_frame = 4859),
+        with(|n| n.packets_per_frame = 4860),
+        with(|n| n.packets_per_frame = 4320),
+    ]
+}
+
+/// Lists that document 01 speaks of, with the numbers they need.
+fn streams() -> Vec<(Numbers, Vec<Packet>)> {
+    let one = Numbers {
+        packets_per_frame: 1,
+        ..NARROW
+    };
+    let early = Numbers {
+        tro: Some(700),
+        ..NARROW
+    };
+    let first_at = |t: u64| {
+        packets(&[
+            (19_000_000, 0, 1),
+            (t, 1800, 0),
+            (20_900_000, 1800, 0),
+            (21_000_000, 1800, 0),
+            (21_100_000, 1800, 1),
+        ])
+    };
+    let end = u64::MAX;
+    let broken = packets(&[
+        (0, 0, 1),
+        (1, 0, 1),
+        (2, 0, 0),
+        (3, 0, 0),
+        (4, 0, 0),
+        (5, 0, 0),
+        (6, 0, 1),
+        (7, 0, 0),
+        (8, 0, 0),
+        (9, 1, 0),
+        (10, 0, 1),
+    ]);
+    let piled = Numbers {
+        packets_per_frame: 20,
+        ..NARROW
+    };
+    let mut pile = vec![Packet::new(0, 0, 1)];
+    pile.extend((0..20).map(|j| Packet::new(19_990_000, 0, u8::from(j == 19))));
+    vec![
+        (NARROW, example()),
+        (NARROW, vec![]),
+        (NARROW, packets(&[(0, 0, 0)])),
+        (one, packets(&[(0, 0, 1), (10_000_000, 0, 1)])),
+        (one, packets(&[(0, 0, 1), (9_999_999, 0, 1)])),
+        (early, first_at(20_700_000)),
+        (early, first_at(20_700_001)),
+        (NARROW, packets(&[(7, 0, 1); 5])),
+        (NARROW, packets(&[(7, 0, 0); 5])),
+        (
+            one,
+            packets(&[
+                (47_721_858_000_000, 0, 1),
+                (47_721_858_844_445, u32::MAX, 1),
+            ]),
+        ),
+        (
+            one,
+            packets(&[(47_721_858_844_444, 0, 1), (47_721_858_844_445, 0, 1)]),
+        ),
+        (one, packets(&[(0, u32::MAX, 1), (0, u32::MAX, 1)])),
+        (one, packets(&[(end - 1, u32::MAX, 1), (end, 0, 1)])),
+        (one, packets(&[(end, 0, 1), (end, u32::MAX, 1)])),
+        (NARROW, broken),
+        (piled, pile),
+        (NARROW, packets(&[(0, 0, 1), (LONGEST_HISTORY, 0, 1)])),
+        (NARROW, packets(&[(0, 0, 1), (LONGEST_HISTORY + 1, 0, 1)])),
+        (
+            NARROW,
+            packets(&[(end - LONGEST_HISTORY - 1, 0, 1), (end, 0, 1)]),
+        ),
+        (NARROW, packets(&[(5, 0, 1), (4, 0, 1)])),
+        (NARROW, packets(&[(5, 0, 1), (5, 0, 2)])),
+        (NARROW, packets(&[(5, 0, 255)])),
+    ]
+}
+
+fn fixed_lists() -> Vec<Call> {
+    let mut calls = vec![];
+    for (numbers, packets) in streams() {
+        let (arrivals, timestamps, markers) = three(&packets);
+        calls.push(Call::Write {
+            numbers,
+            arrivals,
+            timestamps,
+            markers,
+        });
+    }
+    for (arrivals, timestamps, markers) in [(1, 2, 2), (2, 1, 2), (2, 2, 1), (0, 0, 1), (1, 0, 0)] {
+        calls.push(Call::Write {
+            numbers: NARROW,
+            arrivals: vec![1; arrivals],
+            timestamps: vec![1; timestamps],
+            // 10 comes before 11.
+            markers: vec![2; markers],
+        });
+    }
+    for call in fixed_limits() {
+        if let Call::Limits(numbers) = call {
+            calls.push(Call::Write {
+                numbers,
+                // 1 to 7 come before 10.
+                arrivals: vec![1],
+                timestamps: vec![],
+                markers: vec![],
+            });
+        }
+    }
+    calls
+}
+
+fn fixed_files(random: &mut Random) -> Vec<Call> {
+    let mut files: Vec<Vec<u8>> = streams().iter().map(|(n, p)| write(n, p)).collect();
+    for call in fixed_limits() {
+        if let Call::Limits(numbers) = call {
+            files.push(write(&numbers, &[]));
+        }
+    }
+    // The example cut at every place and with every byte changed.
+    let whole = write(&NARROW, &example());
+    for place in 0..whole.len() {
+        files.push(whole[..place].to_vec());
+        let mut changed = whole.clone();
+        changed[place] = changed[place].wrapping_add(1);
+        files.push(changed);
+        let mut emptied = whole.clone();
+        emptied[place] = 0;
+        files.push(emptied);
+    }
+    for _ in 0..20 {
+        files.push(front(random));
+        files.push(damaged(random));
+        files.push(random_bytes(random));
+    }
+    files.into_iter().map(Call::Measure).collect()
+}
+
+fn fixed_figures() -> Vec<Call> {
+    let edge = 1_i64 << 53;
+    let mut calls = vec![];
+    for figure in [
+        0,
+        27_000,
+        -27_000,
+        edge,
+        -edge,
+        edge + 1,
+        -edge - 1,
+        i64::MIN,
+    ] {
+        for place in 0..3 {
+            let at = |here| if place == here { figure } else { 1 };
+            calls.push(Call::Graph {
+                first_packet_time: at(0),
+                margin: at(1),
+                latency: at(2),
+            });
+        }
+    }
+    calls
+}
+
+// --- as bytes ---
+
+impl Case {
+    /// The case as it is handed to the host.
+    pub fn bytes(&self, index: u64) -> Vec<u8> {
+        let mut body = index.to_be_bytes().to_vec();
+        match &self.call {
+            Call::Measure(file) => {
+                body.push(1);
+                push_counted(&mut body, file);
+            }
+            Call::Write {
+                numbers,
+                arrivals,
+                timestamps,
+                markers,
+            } => {
+                body.push(2);
+                body.extend(seven(numbers));
+                for count in [arrivals.len(), timestamps.len(), markers.len()] {
+                    body.extend((count as u32).to_be_bytes());
+                }
+                body.extend(arrivals.iter().flat_map(|number| number.to_be_bytes()));
+                body.extend(timestamps.iter().flat_map(|number| number.to_be_bytes()));
+                body.extend(markers);
+            }
+            Call::Limits(numbers) => {
+                body.push(3);
+                body.extend(seven(numbers));
+            }
+            Call::Graph {
+                first_packet_time,
+                margin,
+                latency,
+            } => {
+                body.push(4);
+                for figure in [first_packet_time, margin, latency] {
+                    body.extend(figure.to_be_bytes());
+                }
+            }
+        }
+        body.push(self.rooms.len() as u8);
+        for room in &self.rooms {
+            body.extend(room.lent.to_be_bytes());
+            body.push(room.number);
+            body.extend(room.place.to_be_bytes());
+        }
+        push_counted(&mut body, &self.filled);
+        if let Call::Write { .. } = self.call {
+            push_counted(&mut body, &self.measured);
+        }
+        let mut bytes = (body.len() as u32).to_be_bytes().to_vec();
+        bytes.extend(body);
+        bytes
+    }
+}
+
+fn push_counted(body: &mut Vec<u8>, bytes: &[u8]) {
+    body.extend((bytes.len() as u32).to_be_bytes());
+    body.extend(bytes);
+}
+
+/// The seven numbers as in a parameter record, where they have the widths that
+/// they have at the border; its kind is left out.
+fn seven(numbers: &Numbers) -> Vec<u8> {
+    parameters_body(numbers)[1..].to_vec()
+}

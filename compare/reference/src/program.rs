@@ -1,0 +1,541 @@
+//! Runs `vtiming` on files, whole and in pieces, and holds what it prints
+//! against what document 01 asks for.
+
+use std::collections::BTreeMap;
+use std::fs::File;
+use std::io::{self, Read, Write};
+use std::os::unix::io::AsRawFd;
+use std::path::{Path, PathBuf};
+use std::process::{Child, ChildStdin, Command, Stdio};
+use std::sync::atomic::{AtomicUsize, Ordering};
+use std::sync::{Arc, Mutex};
+use std::time::{Duration, Instant};
+
+use crate::generate::file;
+use crate::output::expected_output;
+use crate::record::{packet_body, parameters_body, read, record};
+
+/// No file takes the program near as long; one that does has stopped it.
+const LONGEST: Duration = Duration::from_secs(120);
+/// A row that has closed is out long before.
+const LONGEST_FOR_A_ROW: Duration = Duration::from_secs(if cfg!(test) { 1 } else { 10 });
+const AT_ONCE: usize = 2;
+
+pub struct Input {
+    pub name: String,
+    pub bytes: Vec<u8>,
+}
+
+/// What is told at the end, and whether all was the same.
+pub struct Told {
+    pub text: String,
+    pub same: bool,
+}
+
+/// Generated files of the seed, and every `.rec` file of the directory.
+pub fn inputs(seed: u64, count: u64, directory: &Path) -> io::Result<Vec<Input>> {
+    let mut inputs: Vec<Input> = (0..count)
+        .map(|index| Input {
+            name: format!("file {} of seed {}", index, seed),
+            bytes: file(seed, index),
+        })
+        .collect();
+    let mut paths: Vec<PathBuf> = std::fs::read_dir(directory)?
+        .map(|entry| entry.map(|entry| entry.path()))
+        .collect::<io::Result<_>>()?;
+    paths.retain(|path| path.extension().map_or(false, |end| end == "rec"));
+    paths.sort();
+    for path in paths {
+        inputs.push(Input {
+            name: path.display().to_string(),
+            bytes: std::fs::read(&path)?,
+        });
+    }
+    Ok(inputs)
+}
+
+/// How a file reaches the program.
+#[derive(Clone, Copy, Debug, PartialEq, Eq)]
+pub enum Way {
+    /// As a file that is its standard input.
+    Whole,
+    /// Through a pipe, each piece once the one before it has been read. The
+    /// sizes are gone through again and again.
+    Pieces(&'static [usize]),
+    /// Through a pipe, up to the end of each marker packet; the rest is held
+    /// back until the rows closed so far have come out: the program "prints
+    /// `frame` and the ten numbers of each row as it closes".
+    Live,
+}
+
+const BYTES: &[usize] = &[1];
+const SMALL: &[usize] = &[1, 2, 3, 7, 17];
+const MIXED: &[usize] = &[3, 1, 4097, 17, 65_537, 2, 511, 7, 8191];
+
+/// The shorter the file, the smaller its pieces: each costs a turn of both
+/// processes.
+pub fn pieces_for(length: usize) -> Way {
+    Way::Pieces(match length {
+        0..=400 => BYTES,
+        401..=4000 => SMALL,
+        _ => MIXED,
+    })
+}
+
+/// Every way for a file. Row by row for short ones that close a frame: each
+/// row costs the reference a measurement.
+fn ways(bytes: &[u8], text: &str) -> Vec<Way> {
+    let mut ways = vec![Way::Whole, pieces_for(bytes.len())];
+    if bytes.len() <= 1500 && text.starts_with("frame ") {
+        ways.push(Way::Live);
+    }
+    ways
+}
+
+/// Where each marker packet that is accepted ends, and how much text the rows
+/// closed by then make.
+fn row_ends(bytes: &[u8]) -> Vec<(usize, usize)> {
+    let reading = read(bytes);
+    let mut end = match reading.numbers {
+        Some(numbers) => 1 + record(&parameters_body(&numbers)).len(),
+        None => return vec![],
+    };
+    let mut ends = vec![];
+    for packet in &reading.packets {
+        end += record(&packet_body(packet)).len();
+        if packet.marker == 1 {
+            let text = expected_output(&bytes[..end]);
+            let rows = text.lines().filter(|line| line.starts_with("frame "));
+            ends.push((end, rows.map(|line| line.len() + 1).sum()));
+        }
+    }
+    ends
+}
+
+/// Every file in each of its ways, two programs at a time.
+pub fn run_all(inputs: &[Input], command: &[&str], keep: &Path) -> io::Result<Told> {
+    let next = AtomicUsize::new(0);
+    let tally = Mutex::new(Tally::default());
+    std::thread::scope(|scope| {
+        let workers: Vec<_> = (0..AT_ONCE)
+            .map(|worker| {
+                let (next, tally) = (&next, &tally);
+                scope.spawn(move || -> io::Result<()> {
+                    let scratch = keep.join(format!("worker-{}.rec", worker));
+                    loop {
+                        let at = next.fetch_add(1, Ordering::Relaxed);
+                        let stopped = tally.lock().unwrap().first.is_some();
+                        match inputs.get(at) {
+                            Some(input) if !stopped => {
+                                try_file(input, command, &scratch, tally)?;
+                            }
+                            _ => break,
+                        }
+                    }
+                    std::fs::remove_file(&scratch).or(Ok(()))
+                })
+            })
+            .collect();
+        workers
+            .into_iter()
+            .try_for_each(|worker| worker.join().expect("a worker does not panic"))
+    })?;
+    let tally = tally.into_inner().unwrap();
+    tally.told(keep)
+}
+
+#[derive(Default)]
+struct Tally {
+    runs: BTreeMap<&'static str, u64>,
+    last_lines: BTreeMap<String, u64>,
+    first: Option<Difference>,
+}
+
+struct Difference {
+    name: String,
+    bytes: Vec<u8>,
+    way: Way,
+    wanted: String,
+    got: String,
+}
+
+fn try_file(
+    input: &Input,
+    command: &[&str],
+    scratch: &Path,
+    tally: &Mutex<Tally>,
+) -> io::Result<()> {
+    let wanted = expected_output(&input.bytes);
+    for way in ways(&input.bytes, &wanted) {
+        let got = run(&input.bytes, way, command, scratch)?;
+        let mut tally = tally.lock().unwrap();
+        *tally.runs.entry(way.name()).or_default() += 1;
+        if got == wanted {
+            continue;
+        }
+        if tally.first.is_none() {
+            tally.first = Some(Difference {
+                name: input.name.clone(),
+                bytes: input.bytes.clone(),
+                way,
+                wanted: wanted.clone(),
+                got,
+            });
+        }
+        return Ok(());
+    }
+    for outcome in outcomes(&wanted) {
+        *tally.lock().unwrap().last_lines.entry(outcome).or_default() += 1;
+    }
+    Ok(())
+}
+
+/// The answers of a last line, or its refusal number.
+fn outcomes(text: &str) -> Vec<String> {
+    let last = text.lines().last().unwrap_or("");
+    let words: Vec<&str> = last.split(' ').collect();
+    if words[0] == "refused" {
+        return vec![format!("refused {:0>2}", words[1])];
+    }
+    ["network", "buffer"]
+        .iter()
+        .map(|what| {
+            let place = words.iter().position(|word| word == what);
+            format!("{} {}", what, words[place.map_or(0, |at| at + 1)])
+        })
+        .collect()
+}
+
+impl Way {
+    fn name(&self) -> &'static str {
+        match self {
+            Way::Whole => "whole",
+            Way::Pieces(_) => "in pieces",
+            Way::Live => "row by row",
+        }
+    }
+}
+
+/// What the program prints; any way in which it does not end well is part of
+/// the text, and so a difference.
+pub fn run(bytes: &[u8], way: Way, command: &[&str], scratch: &Path) -> io::Result<String> {
+    let stdin = match way {
+        Way::Whole => {
+            std::fs::write(scratch, bytes)?;
+            Stdio::from(File::open(scratch)?)
+        }
+        Way::Pieces(_) | Way::Live => Stdio::piped(),
+    };
+    let mut child = Command::new(command[0])
+        .args(&command[1..])
+        .stdin(stdin)
+        .stdout(Stdio::piped())
+        .stderr(Stdio::piped())
+        .spawn()?;
+    let began = Instant::now();
+    let printed = Collected::of(child.stdout.take().expect("piped"));
+    let said = Collected::of(child.stderr.take().expect("piped"));
+    let fault = match (way, child.stdin.take()) {
+        (Way::Pieces(sizes), Some(pipe)) => feed(&mut child, pipe, bytes, sizes, began)?,
+        (Way::Live, Some(pipe)) => feed_rows(&mut child, pipe, bytes, &printed)?,
+        _ => None,
+    };
+    let fault = match fault {
+        None if !ends(&mut child, began)? => Some(ENDLESS),
+        other => other,
+    };
+    if fault.is_some() {
+        child.kill()?;
+    }
+    let status = child.wait()?;
+    let mut text = printed.text()?;
+    let said = said.text()?;
+    if let Some(fault) = fault {
+        text.push_str(&format!("({})\n", fault));
+    } else if !status.success() || !said.is_empty() {
+        text.push_str(&format!("(it ended with {}, saying: {})\n", status, said));
+    }
+    Ok(text)
+}
+
+const ENDLESS: &str = "it did not end";
+const HELD_BACK: &str = "it held back a row that had closed";
+
+/// What comes out of a pipe, as it comes.
+struct Collected {
+    bytes: Arc<Mutex<Vec<u8>>>,
+    reader: std::thread::JoinHandle<io::Result<()>>,
+}
+
+impl Collected {
+    fn of(mut from: impl Read + Send + 'static) -> Collected {
+        let bytes = Arc::new(Mutex::new(vec![]));
+        let filled = bytes.clone();
+        let reader = std::thread::spawn(move || {
+            let mut piece = [0; 1 << 16];
+            loop {
+                match from.read(&mut piece)? {
+                    0 => return Ok(()),
+                    count => filled.lock().unwrap().extend(&piece[..count]),
+                }
+            }
+        });
+        Collected { bytes, reader }
+    }
+
+    fn count(&self) -> usize {
+        self.bytes.lock().unwrap().len()
+    }
+
+    fn text(self) -> io::Result<String> {
+        self.reader.join().expect("a reader does not panic")?;
+        let bytes = self.bytes.lock().unwrap();
+        Ok(String::from_utf8_lossy(&bytes).into_owned())
+    }
+}
+
+fn ends(child: &mut Child, began: Instant) -> io::Result<bool> {
+    let mut pause = 50;
+    while child.try_wait()?.is_none() {
+        if began.elapsed() > LONGEST {
+            return Ok(false);
+        }
+        std::thread::sleep(Duration::from_micros(pause));
+        pause = (pause * 2).min(2000);
+    }
+    Ok(true)
+}
+
+/// Writes the pieces. A pipe joins what is written before it is read, so each
+/// piece waits until the pipe is empty. A program that has seen enough closes
+/// its end; what is left then has no reader, which is no fault.
+fn feed(
+    child: &mut Child,
+    mut pipe: ChildStdin,
+    bytes: &[u8],
+    sizes: &[usize],
+    began: Instant,
+) -> io::Result<Option<&'static str>> {
+    let mut rest = bytes;
+    for size in sizes.iter().cycle() {
+        let (piece, after) = rest.split_at((*size).min(rest.len()));
+        if piece.is_empty() || !taken(&mut pipe, piece)? {
+            break;
+        }
+        while unread(&pipe)? > 0 {
+            if child.try_wait()?.is_some() {
+                return Ok(None);
+            }
+            if began.elapsed() > LONGEST {
+                return Ok(Some(ENDLESS));
+            }
+            std::thread::yield_now();
+        }
+        rest = after;
+    }
+    Ok(None)
+}
+
+/// Writes up to the end of each row, and waits for that row.
+fn feed_rows(
+    child: &mut Child,
+    mut pipe: ChildStdin,
+    bytes: &[u8],
+    printed: &Collected,
+) -> io::Result<Option<&'static str>> {
+    let mut from = 0;
+    for (end, wanted) in row_ends(bytes) {
+        if !taken(&mut pipe, &bytes[from..end])? {
+            return Ok(None);
+        }
+        from = end;
+        let began = Instant::now();
+        while printed.count() < wanted && child.try_wait()?.is_none() {
+            if began.elapsed() > LONGEST_FOR_A_ROW {
+                return Ok(Some(HELD_BACK));
+            }
+            std::thread::sleep(Duration::from_micros(50));
+        }
+    }
+    taken(&mut pipe, &bytes[from..])?;
+    Ok(None)
+}
+
+/// Whether there was somebody to take it.
+fn taken(pipe: &mut ChildStdin, piece: &[u8]) -> io::Result<bool> {
+    match pipe.write_all(piece) {
+        Err(error) if error.kind() == io::ErrorKind::BrokenPipe => Ok(false),
+        other => other.map(|()| true),
+    }
+}
+
+extern "C" {
+    fn ioctl(descriptor: i32, request: std::os::raw::c_ulong, ...) -> i32;
+}
+
+/// Bytes in the pipe that nobody has read yet.
+fn unread(pipe: &ChildStdin) -> io::Result<i32> {
+    const FIONREAD: std::os::raw::c_ulong = 0x541b;
+    let mut count: i32 = 0;
+    // SAFETY: the descriptor is open, and FIONREAD writes one int.
+    let answer = unsafe { ioctl(pipe.as_raw_fd(), FIONREAD, &mut count as *mut i32) };
+    if answer < 0 {
+        return Err(io::Error::last_os_error());
+    }
+    Ok(count)
+}
+
+impl Tally {
+    fn told(&self, keep: &Path) -> io::Result<Told> {
+        if let Some(difference) = &self.first {
+            return difference.told(keep);
+        }
+        let mut lines = vec![];
+        for outcome in SEEN {
+            lines.push(match self.last_lines.get(*outcome) {
+                Some(count) => format!("{} ({})", outcome, count),
+                None => format!("{} (NEVER SEEN)", outcome),
+            });
+        }
+        let all_seen = SEEN.iter().all(|o| self.last_lines.contains_key(*o));
+        let ways: Vec<String> = self
+            .runs
+            .iter()
+            .map(|(way, count)| format!("{} {}", count, way))
+            .collect();
+        let text = format!(
+            "program: last lines seen: {}\nprogram: {} runs ({}), 0 different{}\n",
+            lines.join(", "),
+            self.runs.values().sum::<u64>(),
+            ways.join(", "),
+            if all_seen {
+                ""
+            } else {
+                "; but an outcome was NEVER SEEN"
+            },
+        );
+        Ok(Told {
+            text,
+            same: all_seen,
+        })
+    }
+}
+
+/// Every last line that a file can bring about, but a refusal by 14, which
+/// takes a billion packets.
+const SEEN: &[&str] = &[
+    "network pass",
+    "network burst",
+    "buffer none",
+    "buffer pass",
+    "buffer under",
+    "buffer over",
+    "refused 01",
+    "refused 02",
+    "refused 03",
+    "refused 04",
+    "refused 05",
+    "refused 06",
+    "refused 07",
+    "refused 11",
+    "refused 12",
+    "refused 13",
+    "refused 20",
+    "refused 21",
+    "refused 22",
+    "refused 23",
+];
+
+impl Difference {
+    /// The file is kept, so that it can be run again.
+    fn told(&self, keep: &Path) -> io::Result<Told> {
+        let kept = keep.join("first.rec");
+        std::fs::write(&kept, &self.bytes)?;
+        let way = match self.way {
+            Way::Pieces(sizes) => format!("in pieces of {:?} bytes", sizes),
+            other => other.name().to_string(),
+        };
+        let mut lines = vec![format!("program: DIFFERENT: {}, {}", self.name, way)];
+        let (wanted, got): (Vec<&str>, Vec<&str>) =
+            (self.wanted.lines().collect(), self.got.lines().collect());
+        let same = wanted.iter().zip(&got).take_while(|(w, g)| w == g).count();
+        lines.push(format!(
+            "  line {}, wanted: {}",
+            same + 1,
+            or_none(&wanted, same)
+        ));
+        lines.push(format!(
+            "  line {}, got:    {}",
+            same + 1,
+            or_none(&got, same)
+        ));
+        lines.push(format!("  the file is {}", kept.display()));
+        Ok(Told {
+            text: lines.join("\n") + "\n",
+            same: false,
+        })
+    }
+}
+
+fn or_none<'a>(lines: &[&'a str], at: usize) -> &'a str {
+    lines.get(at).copied().unwrap_or("(no such line)")
+}
+
+#[cfg(test)]
+mod tests {
+    use super::*;
+
+    fn through(command: &[&str], length: usize, way: Way) -> String {
+        let scratch =
+            std::env::temp_dir().join(format!("vtiming-{}-{}", std::process::id(), length));
+        let bytes: Vec<u8> = (0..length).map(|i| b'a' + (i % 26) as u8).collect();
+        let text = run(&bytes, way, command, &scratch).unwrap();
+        let _ = std::fs::remove_file(&scratch);
+        let wanted = String::from_utf8(bytes).unwrap();
+        if text == wanted {
+            "same".to_string()
+        } else {
+            text
+        }
+    }
+
+    #[test]
+    fn every_way_hands_over_every_byte() {
+        for length in [0, 1, 399, 401, 4001, 200_000] {
+            assert_eq!(through(&["cat"], length, Way::Whole), "same");
+            assert_eq!(through(&["cat"], length, pieces_for(length)), "same");
+        }
+    }
+
+    /// `cat` prints as much as it is handed, which is more than the rows; a
+    /// program that prints only at the end is caught.
+    #[test]
+    fn a_row_that_is_held_back_is_seen() {
+        let numbers = crate::Numbers {
+            rate: 6,
+            schedule: 0,
+            class: 1,
+            height: 1080,
+            packets_per_frame: 1,
+            maxudp: 1460,
+            tro: None,
+        };
+        let packet = crate::Packet::new(0, 0, 1);
+        let bytes = crate::write(&numbers, &[packet; 2]);
+        let ends = row_ends(&bytes);
+        assert_eq!((ends[0], ends.len()), ((35, 0), 2));
+        assert_eq!(ends[1], (51, "frame 0 0 0 0 0 0 20640000 0 1 0\n".len()));
+        let scratch = Path::new("");
+        let through_cat = run(&bytes, Way::Live, &["cat"], scratch).unwrap();
+        assert!(!through_cat.contains(HELD_BACK));
+        let at_the_end = ["sh", "-c", "cat >/dev/null; echo late"];
+        let late = run(&bytes, Way::Live, &at_the_end, scratch).unwrap();
+        assert!(late.contains(HELD_BACK));
+    }
+
+    #[test]
+    fn a_program_that_reads_no_further_is_no_fault_and_a_failing_one_is() {
+        assert_eq!(through(&["head", "-c", "0"], 5000, pieces_for(5000)), "");
+        assert!(through(&["false"], 10, Way::Whole).contains("it ended with"));
+    }
+}

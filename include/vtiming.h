@@ -1,0 +1,133 @@
+/* vtiming: packet timing of one progressive ST 2110-20 video stream, for a host written in C or C++.
+ *
+ * Link with the archive that `rt staticlib report` makes, target/staticlib/libreport.a (x86-64 Linux). It needs no other
+ * library and calls no function of the host. docs/MANUAL.md says what the measured numbers mean for a station.
+ *
+ * What is lent. Every pointer is lent for the length of the call and no longer: nothing is kept, nothing is allocated,
+ * nothing is freed. Each pointer comes with its length, counted in elements of its type; where the length is 0 the pointer
+ * may be null. Input is only read. Areas lent for writing must overlap no other lent area. Calls share nothing, so any
+ * number of threads may call at once. Every call ends, and whatever the bytes or numbers are there is an answer: no
+ * argument is forbidden, but a pointer to fewer elements than its length says.
+ *
+ * What comes back. Each function returns 0 where it has done its work, or the number by which it refuses. A refused call
+ * writes nothing at all. An accepted call writes at the front of what was lent, and what lies behind stays as it was.
+ * The two functions that can refuse at a place have a twin that takes the same input, writes nothing and returns that
+ * place; it returns 0 for an accepted call, and also where the place is 0, so ask the number first.
+ *
+ * The numbers:
+ *
+ *    0  accepted
+ *    1  the rate code is not 1 to 8                                   give one of the codes below
+ *    2  the schedule is not 0 or 1                                    0 is gapped, 1 linear
+ *    3  the class is unknown or against the schedule                  1 goes with schedule 0, 2 with 1; 3 and 0 with either
+ *    4  the height is 0                                               give the number of lines
+ *    5  the packets per frame are not 1 to 20,000                     count the packets of a good frame
+ *    6  MAXUDP is not 1460 or 8960                                    1460 is the standard limit, 8960 the extended one
+ *    7  TRO is a frame long or longer                                 give it in microseconds, or VTIMING_DEFAULT_TRO
+ *   10  the three arrays differ in length                             lend as many of each
+ *   11  a marker is above 1                                           it is one bit of the RTP header: lend 0 or 1
+ *   12  a packet arrives earlier than the one before it               put the packets in order of arrival
+ *   13  a packet arrives more than 600 s after the first              measure in stretches of at most ten minutes
+ *   14  there are more than 1,000,000,000 packets                     measure in shorter stretches
+ *   15  too little room was lent for the answer                       lend more (each function says how much), call again
+ *   16  a figure for the graph is above 2^53 in size                  leave the point out: no double holds it exactly
+ *   20  the file is empty, or its version byte is not 1               it is no record file of this version
+ *   21  a record is cut short, or its length is 0                     the file was cut off, or was damaged there
+ *   22  a record is of an unknown kind, or its length is wrong        the file was damaged there, or is another format
+ *   23  the parameters do not come first, or come again               one parameter record, then packets only
+ *   24  too few bytes were lent to the writer                         lend 19 + 16 for each packet
+ *
+ * 9, a state out of its range, cannot come out of these functions: no state crosses this border.
+ *
+ * Rate codes: 1 24000/1001, 2 24, 3 25, 4 30000/1001, 5 30, 6 50, 7 60000/1001, 8 60 frames a second.
+ * Times in an answer are whole grains: 27 grains are one nanosecond, 27,000 one microsecond. */
+#ifndef VTIMING_H
+#define VTIMING_H
+
+#include <stddef.h>
+#include <stdint.h>
+
+#ifdef __cplusplus
+extern "C" {
+#endif
+
+/* A TRO of all ones stands for the default: 43F/1125 from height 1080 on, 28F/750 below. */
+#define VTIMING_DEFAULT_TRO UINT32_C(0xFFFFFFFF)
+
+/* Room for vtiming_measure: the summary, and a row for each frame that closes. */
+#define VTIMING_SUMMARY_BYTES 72
+#define VTIMING_ROW_BYTES 80
+
+/* Room for vtiming_write: version and parameters, and a record for each packet. */
+#define VTIMING_HEAD_BYTES 19
+#define VTIMING_PACKET_BYTES 16
+
+/* Measures a whole record file.
+ *
+ *   file, file_len   the file's bytes, all of them
+ *   out, out_len     room for the answer: 72 bytes and 80 for each frame that closes. Before the first frame comes a
+ *                    lead-in, so 5·file_len bytes are always enough
+ *
+ * The answer is a row of numbers, each 8 bytes, signed, big-endian:
+ *
+ *   0  packets       how many there were
+ *   1  frames        how many closed
+ *   2  peak          the fullest the network bucket was
+ *   3  network       0 pass, 1 burst
+ *   4, 5             first and last packet of the failing run, from 0; 0 where the network passes
+ *   6  buffer        0 none (no whole frame), 1 pass, 2 under (ran dry), 3 over (overflowed)
+ *   7                the first failing frame; 0 where none fails
+ *   8                under: the first packet that came too late, from 0 in its frame; over: the buffer's peak; else 0
+ *
+ * and then for each frame ten: frame number from 0; kind (0 whole, 1 short, 2 long, 3 stamp); detail (the count of packets
+ * for 1 and 2, the place of the first differing timestamp for 3, else 0); FPT; RTP_OFFSET; VL; margin; GAP (five times in
+ * grains); the buffer's peak; its least. For kinds 1 to 3 the last seven are 0.
+ *
+ * Refuses by 20 to 23, 1 to 7 and 11 to 14 at the first record that is refused, and by 15 after all else. */
+uint32_t vtiming_measure(const uint8_t *file, size_t file_len, uint8_t *out, size_t out_len);
+
+/* The twin of vtiming_measure, told how much room there would be: the offset in the file of the refused record (0 for
+ * 20), the file's length for 15, 0 for an accepted file. */
+uint64_t vtiming_measure_offset(const uint8_t *file, size_t file_len, size_t out_len);
+
+/* Writes a record file.
+ *
+ *   rate             rate code, 1 to 8
+ *   schedule         0 gapped, 1 linear
+ *   stream_class     1 narrow, 2 narrow linear, 3 wide; 0 means 3 and is written as 0
+ *   height           lines of the picture, 1 to 65,535
+ *   packets_per_frame  1 to 20,000
+ *   maxudp           1460 or 8960
+ *   tro              whole microseconds, less than a frame; or VTIMING_DEFAULT_TRO
+ *   arrivals         of each packet, nanoseconds since the SMPTE epoch
+ *   stamps           RTP timestamps
+ *   markers          0 or 1
+ *   out, out_len     room for the file: 19 bytes and 16 for each packet
+ *
+ * Refuses by 1 to 7, 10, then packet by packet 11 to 14, then 24. What it writes, vtiming_measure accepts, given room. */
+uint32_t vtiming_write(uint8_t rate, uint8_t schedule, uint8_t stream_class, uint16_t height, uint32_t packets_per_frame,
+                       uint16_t maxudp, uint32_t tro, const uint64_t *arrivals, size_t arrival_count,
+                       const uint32_t *stamps, size_t stamp_count, const uint8_t *markers, size_t marker_count,
+                       uint8_t *out, size_t out_len);
+
+/* The twin of vtiming_write: for 11 to 14 the place of the refused packet, from 0; else 0. */
+uint64_t vtiming_write_place(uint8_t rate, uint8_t schedule, uint8_t stream_class, uint16_t height,
+                             uint32_t packets_per_frame, uint16_t maxudp, uint32_t tro, const uint64_t *arrivals,
+                             size_t arrival_count, const uint32_t *stamps, size_t stamp_count, const uint8_t *markers,
+                             size_t marker_count, size_t out_len);
+
+/* What follows from the seven numbers of a stream, which are those of vtiming_write. Fills four numbers: F, the length of
+ * a frame in grains; TRO in grains; C_MAX, the most packets that the network bucket may hold; VRX_FULL, the most that the
+ * receiver's buffer holds. out_len counts numbers. Refuses by 1 to 7, then by 15 where there is room for fewer than four. */
+uint32_t vtiming_limits(uint8_t rate, uint8_t schedule, uint8_t stream_class, uint16_t height, uint32_t packets_per_frame,
+                        uint16_t maxudp, uint32_t tro, uint64_t *out, size_t out_len);
+
+/* Three figures of a row for a graph: FPT, margin and VL, taken in grains, come out as microseconds. n counts doubles.
+ * Refuses by 16, then by 15 where there is room for fewer than three. */
+uint32_t vtiming_graph(int64_t fpt, int64_t margin, int64_t latency, double *out, size_t n);
+
+#ifdef __cplusplus
+}
+#endif
+
+#endif
