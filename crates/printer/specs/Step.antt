@@ -67,6 +67,12 @@ versionBy w last (Refused number offset) = unopenedOf (Refused number offset)
 unfoldable pub beginOf : List ℕ → Bool → Opened
 beginOf w last = versionBy w last (pieceOf 0 w last)
 
+-- a walk begins after the version byte and the parameters, of a window that has them
+abbrev pub Headed : Opened → ℕ → Type 0
+Headed Wanting bytes = Unit
+Headed (Unopened number offset) bytes = Unit
+Headed (Opens walk) bytes = 19 ≤ bytes
+
 -- ---- a piece
 
 -- what a call does: the walk after it, the bytes that it used, the text that it wrote, and whether the last line is in it
