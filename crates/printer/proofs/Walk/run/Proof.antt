@@ -1,0 +1,184 @@
+-- What is left of the window, from the walk and the lines so far, does what the whole call does; each turn is a law of one answer (Turning).
+use Prim.Native.Nat.{_+_, _-_, _≤_, _<_}
+use mathlib.Core.Path.{_≡_, refl, sym, ap, _∙_}
+use mathlib.Core.Logic.{⊎-elim}
+use native.Mathlib.Omega.{arith}
+use lib.ListN.{length, drop}
+use denote.Ref.{now}
+use borrow.Author.Needs.{needs}
+use Rattle.printer.proofs.Turning.{walk-full, walk-stops, walk-refuses, ready-arrives, ready-closed, ready-closes, turn-marked, turn-plain, Loop, loop-begins, loop-stops, next-inside, next-turn, stays-takes, takes-length}
+use Rattle.printer.proofs.Answers.{read-rest}
+use Rattle.printer.specs.Step.{packetOf, walkOf, Ready}
+use Rattle.printer.proofs.Walk.run.Statement.{statement}
+use Rattle.printer.proofs.Walk.run.Tie as tie
+
+abbrev Inv-loop : tie.InvT-loop
+Inv-loop rules window last out₀ walk₀ used₀ written₀ out walk used written =
+    Loop (walkOf rules walk₀ window last (length out₀)) out₀ (walkOf rules walk (drop used window) last (length out - written)) used written out
+    × Ready rules walk × (used ≤ length window) × (written ≤ length out)
+
+abbrev μ-loop : tie.MeasureT-loop
+μ-loop rules window last out₀ walk₀ used₀ written₀ out walk used written = length window - used
+
+loop-holds : tie.Need-loop-holds Inv-loop μ-loop
+loop-holds c =
+    let a = c .before .before .args in
+    (loop-begins (a .rules) (a .self) (now (a .window)) (a .last) (now (a .out)), c .before .before .pre, search needs, search needs)
+
+sub-loop : tie.Need-sub-loop Inv-loop μ-loop
+sub-loop c = search needs
+
+sub-read-piece : tie.Need-sub-read-piece Inv-loop μ-loop
+sub-read-piece c = search needs
+
+part-read-piece-start : tie.Need-part-read-piece-start Inv-loop μ-loop
+part-read-piece-start c = search needs
+
+part-read-piece-end : tie.Need-part-read-piece-end Inv-loop μ-loop
+part-read-piece-end c = search needs
+
+read-piece-requires : tie.Need-read-piece-requires Inv-loop μ-loop
+read-piece-requires c κs = search needs
+
+enum-known-item : tie.Need-enum-known-item Inv-loop μ-loop
+enum-known-item c = search needs
+
+stop-requires : tie.Need-stop-requires Inv-loop μ-loop
+stop-requires c κs = search needs
+
+same-length : tie.Need-same-length Inv-loop μ-loop
+same-length c = search needs
+
+returns : tie.Need-returns Inv-loop μ-loop
+returns c =
+    let r = c .before .before .before .before .before in
+    let turn = r .before .before .before in
+    let l = turn .before .loop in
+    let a = turn .before .before .before .before .args in
+    loop-stops (l .inv .0) (walk-stops (a .rules) (l .walk) (drop (l .used) (now (a .window))) (a .last) _ (turn .loop-test .taken) _ (c .before .before .before .before .match .keys2)
+    (read-rest (now (a .window)) (a .last) _ (l .used) (r .read-piece .ensures))) (c .before .before .stop .ensures)
+
+refusal-requires : tie.Need-refusal-requires Inv-loop μ-loop
+refusal-requires c κs = search needs
+
+stop-requires-2 : tie.Need-stop-requires-2 Inv-loop μ-loop
+stop-requires-2 c κs = search needs
+
+same-length-2 : tie.Need-same-length-2 Inv-loop μ-loop
+same-length-2 c =
+    let refused = c .before .before .before .before in
+    let l = refused .before .before .before .before .before .before .before .before .before .before .before .loop in
+    takes-length (c .before .before .stop2 .ensures) ∙ l .inv .0 .same-length
+
+returns-2 : tie.Need-returns-2 Inv-loop μ-loop
+returns-2 c =
+    let refused = c .before .before .before .before in
+    let i = refused .before .before .before .before .before in
+    let r = i .before .before in
+    let turn = r .before .before .before in
+    let l = turn .before .loop in
+    let a = turn .before .before .before .before .args in
+    let here = read-rest (now (a .window)) (a .last) _ (l .used) (r .read-piece .ensures) ∙ i .item .given .1 in
+    loop-stops (l .inv .0) (walk-refuses (a .rules) (l .walk) (drop (l .used) (now (a .window))) (a .last) _ (turn .loop-test .taken) here _ (refused .before .refusal .ensures) (refused .if1 .taken))
+    (c .before .before .stop2 .ensures)
+
+arrive-requires : tie.Need-arrive-requires Inv-loop μ-loop
+arrive-requires c κs =
+    let l = c .before .before .before .before .before .before .before .before .before .before .before .loop in
+    ready-arrives (l .inv .1) (packetOf _ 0 _) (sym (c .if1 .left) ∙ c .before .refusal .ensures)
+
+put-closed-requires : tie.Need-put-closed-requires Inv-loop μ-loop
+put-closed-requires c κs = let fine = c .before .before .before in
+    let turn = fine .before .before .before .before .before .before .before .before .before .before in
+    let at = turn .before .loop in
+    rw (c .before .before .arrive .ensures)
+    (ready-closes (at .inv .1) (packetOf _ _ _) (sym (fine .if1 .left) ∙ fine .before .refusal .ensures) _ _
+    (omega (arith, turn .loop-test .taken, at .inv .3)))
+
+mark-requires : tie.Need-mark-requires Inv-loop μ-loop
+mark-requires c κs = let fine = c .before .before .before .before .before .before in
+    let at = fine .before .before .before .before .before .before .before .before .before .before .before .loop in
+    rw (c .before .before .before .before .before .arrive .ensures)
+    (ready-closed (at .inv .1) (packetOf _ _ _) (sym (fine .if1 .left) ∙ fine .before .refusal .ensures))
+
+add-used : tie.Need-add-used Inv-loop μ-loop
+add-used c =
+    let fine = c .before .before in
+    let i = fine .before .before .before .before .before in
+    let r = i .before .before in
+    let turn = r .before .before .before in
+    let l = turn .before .loop in
+    let a = turn .before .before .before .before .args in
+    let here = read-rest (now (a .window)) (a .last) _ (l .used) (r .read-piece .ensures) ∙ i .item .given .1 in
+    let not-refused = sym (fine .if1 .left) ∙ fine .before .refusal .ensures in
+    let inside = next-inside (a .rules) (l .walk) (now (a .window)) (a .last) (l .inv .0) (turn .loop-test .taken) here not-refused (l .inv .2) in
+    omega (arith, inside, turn .before .before .before .before .good)
+
+loop-less : tie.Need-loop-less Inv-loop μ-loop
+loop-less c =
+    let fine = c .before .before in
+    let i = fine .before .before .before .before .before in
+    let r = i .before .before in
+    let turn = r .before .before .before in
+    let l = turn .before .loop in
+    let a = turn .before .before .before .before .args in
+    let here = read-rest (now (a .window)) (a .last) _ (l .used) (r .read-piece .ensures) ∙ i .item .given .1 in
+    let not-refused = sym (fine .if1 .left) ∙ fine .before .refusal .ensures in
+    let inside = next-inside (a .rules) (l .walk) (now (a .window)) (a .last) (l .inv .0) (turn .loop-test .taken) here not-refused (l .inv .2) in
+    omega (arith, inside)
+
+loop-again : tie.Need-loop-again Inv-loop μ-loop
+loop-again c =
+    let fine = c .before .before in
+    let i = fine .before .before .before .before .before in
+    let r = i .before .before in
+    let turn = r .before .before .before in
+    let l = turn .before .loop in
+    let a = turn .before .before .before .before .args in
+    let here = read-rest (now (a .window)) (a .last) _ (l .used) (r .read-piece .ensures) ∙ i .item .given .1 in
+    let not-refused = sym (fine .if1 .left) ∙ fine .before .refusal .ensures in
+    next-turn (a .rules) (l .walk) (now (a .window)) (a .last) (l .inv .0) (turn .loop-test .taken) here not-refused (l .inv .1) (l .inv .2)
+    (⊎-elim
+    (λ w. rw (w .6, w .7, w .8) (turn-marked (a .rules) (l .walk .state) (packetOf _ _ _) (l .written) (l .out) (c .before .arrive .ensures) (w .0 .taken)
+    (w .5 .ensures) (w .2 .ensures)))
+    (λ w. rw (w .1, w .2, w .3) (turn-plain (a .rules) (l .walk .state) (packetOf _ _ _) (l .written) (l .out) (c .before .arrive .ensures) (w .0 .left)))
+    (c .if2 .came))
+
+same-length-3 : tie.Need-same-length-3 Inv-loop μ-loop
+same-length-3 c = search needs
+
+returns-3 : tie.Need-returns-3 Inv-loop μ-loop
+returns-3 c =
+    let l = c .before .loop in
+    let a = c .before .before .before .before .args in
+    loop-stops (l .inv .0) (walk-full (a .rules) (l .walk) (drop (l .used) (now (a .window))) (a .last) _ (omega (arith, c .loop-test .left)))
+    (stays-takes (l .walk) (l .inv .3))
+
+pub run-spec : {M : Type 1} → statement M
+run-spec =
+    tie.close
+    (tie.spec
+    Inv-loop
+    μ-loop
+    loop-holds
+    sub-loop
+    sub-read-piece
+    part-read-piece-start
+    part-read-piece-end
+    read-piece-requires
+    enum-known-item
+    stop-requires
+    same-length
+    returns
+    refusal-requires
+    stop-requires-2
+    same-length-2
+    returns-2
+    arrive-requires
+    put-closed-requires
+    mark-requires
+    add-used
+    loop-less
+    loop-again
+    same-length-3
+    returns-3)

@@ -1,0 +1,53 @@
+-- The program's whole output for a file, in document 01's words: what the file reads as, measured, line by line.
+use mathlib.Core.List.{List, [], _∷_, _++_}
+use Prim.Native.Nat.{ℕ}
+use Rattle.frame.specs.declared.Row.{Row}
+use Rattle.text.specs.Lines.{rowLine, summaryLine, refusalLine}
+use Rattle.record.specs.declared.Numbers.{Numbers}
+use Rattle.record.specs.Paper.{Ending, done, stopped, Packets, packetsIn, Reading, unread, read, readingOf}
+use Rattle.timing.specs.declared.StreamNumbers.{StreamNumbers}
+use Rattle.timing.specs.declared.Rules.{Rules}
+use Rattle.timing.specs.declared.State.{State}
+use Rattle.timing.specs.Step.{rulesOf, freshOf, stateAfter, rowsAfter}
+
+-- a file's stream numbers, as a stream is set up with them
+abbrev pub streamOf : Numbers → StreamNumbers
+streamOf x = record {
+  rate = x .rate;
+  schedule = x .schedule;
+  class = x .class;
+  height = x .height;
+  n = x .n;
+  maxudp = x .maxudp;
+  tro = x .tro;
+}
+
+-- "It prints `frame` and the ten numbers of each row as it closes"
+unfoldable pub rowLines : List Row → List ℕ
+rowLines [] = []
+rowLines (r ∷ rs) = rowLine r ++ rowLines rs
+
+-- "then one last line: packets, frames closed, peak, verdicts"
+abbrev pub sumLine : State → List ℕ
+sumLine s = summaryLine (s .past .packets) (s .frames .closed) (s .bucket .peak) (s .bucket .network) (s .frames .buffer)
+
+-- "or, after the rows closed before a refusal, `refused`, number, offset."
+abbrev pub lastLine : State → Ending → List ℕ
+lastLine s done = sumLine s
+lastLine s (stopped number offset) = refusalLine number offset
+
+-- the lines of packets that were read, from a state on
+abbrev pub linesOf : Rules → State → Packets → List ℕ
+linesOf rules s r = rowLines (rowsAfter rules s (r .accepted)) ++ lastLine (stateAfter rules s (r .accepted)) (r .ending)
+
+-- what is still to be printed of the rest of a file, which is read from an offset and measured from a state on
+unfoldable pub restOf : Rules → State → ℕ → List ℕ → List ℕ
+restOf rules s at l = linesOf rules s (packetsIn (s .past) at l)
+
+abbrev pub outputBy : Reading → List ℕ
+outputBy (unread number offset) = refusalLine number offset
+outputBy (read numbers r) = linesOf (rulesOf (streamOf numbers)) (freshOf (streamOf numbers)) r
+
+-- "`vtiming` reads a file on standard input": its whole output
+unfoldable pub outputOf : List ℕ → List ℕ
+outputOf file = outputBy (readingOf file)

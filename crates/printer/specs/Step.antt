@@ -1,0 +1,167 @@
+-- A file in pieces, step by step: what its start answers, and what a call takes of a window and writes; what the contracts cite.
+use mathlib.Core.Path.{_≡_}
+use mathlib.Core.Bool.{Bool, true, false, not}
+use mathlib.Core.List.{List, [], _∷_, _++_}
+use Prim.Native.Nat.{ℕ, zero, suc, _+_, _-_, _/_, _≤_}
+use lib.Dec.{ltb, eqb}
+use lib.ListN.{length, drop}
+use Rattle.laws.specs.Choose.{pick}
+use Rattle.laws.specs.Lay.{laid}
+use Rattle.packet.specs.Paper as P
+use Rattle.packet.specs.Step.{refusalOf}
+use Rattle.frame.specs.Range.{Planned, Rowable}
+use Rattle.text.specs.Lines.{refusalLine}
+use Rattle.record.specs.declared.Cursor.{Cursor}
+use Rattle.record.specs.declared.Numbers.{Numbers}
+use Rattle.record.specs.declared.Read.{Read}
+use Rattle.record.specs.declared.Read.the-variants.{Version, Parameters, Packet, End, More, Refused}
+use Rattle.record.specs.Step.{pieceOf}
+use Rattle.record.specs.Pieces.{wantsMore}
+use Rattle.timing.specs.declared.Rules.{Rules}
+use Rattle.timing.specs.declared.State.{State}
+use Rattle.timing.specs.declared.SetUp.{SetUp}
+use Rattle.timing.specs.declared.SetUp.the-variants.{Fresh, Refused as Not-Set-Up}
+use Rattle.timing.specs.Step.{rulesOf, stepOf, rowsOf}
+use Rattle.timing.specs.Range.{inRange, Sound}
+use Rattle.timing.specs.Answers.{setUpAs}
+use Rattle.printer.specs.declared.Walk.{Walk}
+use Rattle.printer.specs.declared.Taken.{Taken}
+use Rattle.printer.specs.declared.Opened.{Opened}
+use Rattle.printer.specs.declared.Opened.the-variants.{More as Wanting, Refused as Unopened, Ready as Opens}
+use Rattle.printer.specs.Paper.{streamOf, rowLines, sumLine}
+
+-- ---- the start of a file
+
+unfoldable pub unopenedOf : Read → Opened
+unopenedOf (Version c) = Wanting
+unopenedOf (Parameters x c) = Wanting
+unopenedOf (Packet t stamp marker c) = Wanting
+unopenedOf End = Wanting
+unopenedOf More = Wanting
+unopenedOf (Refused number offset) = Unopened number offset
+
+abbrev pub readyBy : SetUp → Cursor → Opened
+readyBy (Fresh s) c = Opens (record { at = c; state = s })
+readyBy (Not-Set-Up number) c = Unopened number 1
+
+unfoldable pub readyOf : Numbers → Cursor → Opened
+readyOf x c = readyBy (setUpAs (streamOf x)) c
+
+-- what stands first after the version byte, and what stands at the version byte
+abbrev pub firstBy : Read → Opened
+firstBy (Version c) = unopenedOf (Version c)
+firstBy (Parameters x c) = readyOf x c
+firstBy (Packet t stamp marker c) = unopenedOf (Packet t stamp marker c)
+firstBy End = unopenedOf End
+firstBy More = unopenedOf More
+firstBy (Refused number offset) = unopenedOf (Refused number offset)
+
+abbrev pub versionBy : List ℕ → Bool → Read → Opened
+versionBy w last (Version c) = firstBy (pieceOf (c .at) (drop 1 w) last)
+versionBy w last (Parameters x c) = unopenedOf (Parameters x c)
+versionBy w last (Packet t stamp marker c) = unopenedOf (Packet t stamp marker c)
+versionBy w last End = unopenedOf End
+versionBy w last More = unopenedOf More
+versionBy w last (Refused number offset) = unopenedOf (Refused number offset)
+
+unfoldable pub beginOf : List ℕ → Bool → Opened
+beginOf w last = versionBy w last (pieceOf 0 w last)
+
+-- a walk begins after the version byte and the parameters, of a window that has them
+abbrev pub Headed : Opened → ℕ → Type 0
+Headed Wanting bytes = Unit
+Headed (Unopened number offset) bytes = Unit
+Headed (Opens walk) bytes = 19 ≤ bytes
+
+-- ---- a piece
+
+-- what a call does: the walk after it, the bytes that it used, the text that it wrote, and whether the last line is in it
+pub record Took : Type 0 where
+  pub walk : Walk
+  pub used : ℕ
+  pub text : List ℕ
+  pub ended : Bool
+
+-- the last line where this stands: none where more is wanted
+unfoldable pub lineOf : Read → State → List ℕ
+lineOf (Version c) s = sumLine s
+lineOf (Parameters x c) s = sumLine s
+lineOf (Packet t stamp marker c) s = sumLine s
+lineOf End s = sumLine s
+lineOf More s = []
+lineOf (Refused number offset) s = refusalLine number offset
+
+abbrev pub stays : Walk → Took
+stays walk = record { walk = walk; used = 0; text = []; ended = false }
+
+abbrev pub stopsAt : Read → Walk → Took
+stopsAt item walk = record { walk = walk; used = 0; text = lineOf item (walk .state); ended = not (wantsMore item) }
+
+-- some bytes used and lines written, and then the rest
+abbrev pub andThen : ℕ → List ℕ → Took → Took
+andThen bytes lines k = record { walk = k .walk; used = bytes + k .used; text = lines ++ k .text; ended = k .ended }
+
+abbrev pub packetOf : ℕ → ℕ → ℕ → P.Packet
+packetOf t stamp marker = record { time = t; stamp = stamp; marker = marker }
+
+-- the walk after a packet
+abbrev pub stepped : Rules → Walk → P.Packet → Cursor → Walk
+stepped rules walk p c = record { at = c; state = stepOf rules (walk .state) p }
+
+-- the lines of the row that a packet closes
+abbrev pub linesAt : Rules → Walk → P.Packet → List ℕ
+linesAt rules walk p = rowLines (rowsOf rules (walk .state) p)
+
+-- a packet that is refused ends the walk before it is counted; `on` is what follows one that is not
+abbrev pub packetBy : Rules → Walk → ℕ → (Walk → ℕ → Took) → P.Packet → Cursor → Took
+packetBy rules walk room on p c =
+    pick (eqb (refusalOf (walk .state .past) (p .time) (p .marker)) 0)
+    (andThen 16 (linesAt rules walk p) (on (stepped rules walk p c) (room - length (linesAt rules walk p))))
+    (stopsAt (Refused (refusalOf (walk .state .past) (p .time) (p .marker)) (walk .at .at)) walk)
+
+abbrev pub itemBy : Rules → Walk → ℕ → (Walk → ℕ → Took) → Read → Took
+itemBy rules walk room on (Version c) = stopsAt (Version c) walk
+itemBy rules walk room on (Parameters x c) = stopsAt (Parameters x c) walk
+itemBy rules walk room on (Packet t stamp marker c) = packetBy rules walk room on (packetOf t stamp marker) c
+itemBy rules walk room on End = stopsAt End walk
+itemBy rules walk room on More = stopsAt More walk
+itemBy rules walk room on (Refused number offset) = stopsAt (Refused number offset) walk
+
+-- record by record, by at most so many: while there is room for a line, until more is wanted or the last line is written
+unfoldable pub walkBy : ℕ → Rules → Walk → List ℕ → Bool → ℕ → Took
+walkBy zero rules walk w last room = stays walk
+walkBy (suc k) rules walk w last room =
+    pick (ltb room 256) (stays walk)
+    (itemBy rules walk room (λ next left. walkBy k rules next (drop 16 w) last left) (pieceOf (walk .at .at) w last))
+
+-- a packet takes 16 bytes, so that this many turns are enough
+abbrev pub walkOf : Rules → Walk → List ℕ → Bool → ℕ → Took
+walkOf rules walk w last room = walkBy (suc (length w / 16)) rules walk w last room
+
+-- a call: no room for a line; 9 for a state that is not in range; else record by record
+unfoldable pub takeOf : Walk → List ℕ → Bool → ℕ → Took
+takeOf walk w last room =
+    pick (ltb room 256) (stays walk)
+    (pick (inRange (walk .state)) (walkOf (rulesOf (walk .state .numbers)) walk w last room) (stopsAt (Refused 9 0) walk))
+
+-- ---- what the parts of the code ask and give
+
+-- before the line of a row is put, where a marker closes one
+pub record Closes (rules : Rules) (s : State) (at room : ℕ) : Type 0 where
+  pub planned : Planned (rules .plan)
+  pub made : s .frames .begun ≡ true → Rowable (rules .plan) (s .frames .closed) (s .frames .marked) (s .frames .current)
+  pub fits : at + 256 ≤ room
+
+-- before the records of a piece
+pub record Ready (rules : Rules) (walk : Walk) : Type 0 where
+  pub rules-are : rules ≡ rulesOf (walk .state .numbers)
+  pub sound : Sound (walk .state)
+
+-- an answer does this, with so many bytes used and written before
+pub record Takes (k : Took) (used written : ℕ) (before : List ℕ) (r : Taken) (after : List ℕ) : Type 0 where
+  pub walk-is : r .walk ≡ k .walk
+  pub used-is : r .used ≡ used + k .used
+  pub written-is : r .written ≡ written + length (k .text)
+  pub ended-is : r .ended ≡ k .ended
+  pub bytes : after ≡ laid written (k .text) before
+  pub fits : r .written ≤ length before
