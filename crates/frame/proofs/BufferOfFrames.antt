@@ -67,15 +67,6 @@ module _ (plan : Plan) (p : Planned plan) (h : History) (ordered : Climbs (h .ti
             (D.late-is (plan .packets) (firstRead plan h (since h i)) (plan .num) (plan .den) (arrival plan h (since h i))
             (up plan h ordered i inside p whole))
 
-    -- "over (VRX peak above VRX_FULL)"
-    pub is-overfull : plan .full < (closedAt plan h i) .top → Overfull plan h (since h i)
-    is-overfull l = (
-      pos ((closedAt plan h i) .top),
-      peak-is plan h ordered i inside p whole,
-      differ-lt (pos (plan .full)) (pos ((closedAt plan h i) .top)) (plan .full) 0 ((closedAt plan h i) .top) 0 (omega arith)
-          (omega arith) (omega arith),
-    )
-
     pub not-overfull : (closedAt plan h i) .top ≤ plan .full → ¬ Overfull plan h (since h i)
     not-overfull few o =
         let m = o .1 .met in

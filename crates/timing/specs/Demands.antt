@@ -1,13 +1,16 @@
 -- The owner's demands on the measurement. Each theorem says one sentence of them, of what `feed` gives; its proof is a line that cites the work.
 -- To believe it, read the definitions: Feed (the call), Range (refusal 9), History (the state of a history), and the Paper.antt of each crate below.
 use mathlib.Core.Path.{_≡_, refl, sym, ap, _∙_, subst}
-use mathlib.Core.Bool.{Bool, true, false}
+use mathlib.Core.Bool.{Bool, true, false, _&&_}
 use mathlib.Core.List.{List, [], _∷_, _++_}
 use Prim.Native.Nat.{ℕ, suc, _+_, _*_, _≤_, _<_}
 use native.Mathlib.Omega.{arith}
-use lib.Dec.{ltb}
+use lib.Dec.{ltb, eqb}
+use lib.Ieee.{binary64, inFloat}
 use lib.IntN.{ℤ}
 use lib.ListN.{length, drop}
+use borrow.Author.Tests.{eqb-true}
+use Rattle.laws.specs.Choose.{pick, pick-either}
 use Rattle.laws.specs.Climb.{Climbs}
 use Rattle.laws.specs.Lay.{laid, laid-is}
 use Rattle.limits.specs.Paper.{classOf, cMax, vrxFull, troGrains}
@@ -29,8 +32,12 @@ use Rattle.timing.specs.declared.StreamNumbers.{StreamNumbers}
 use Rattle.timing.specs.declared.State.{State}
 use Rattle.timing.specs.declared.Fed.the-variants.{Accepted, Refused}
 use Rattle.timing.specs.Step.{setUpOf, frameOf, rulesOf, freshOf, stateAfter, rowsAfter, numbers}
-use Rattle.timing.specs.declared.Judged.the-variants.{Given}
-use Rattle.timing.specs.Answers.{verdictOf}
+use Rattle.timing.specs.declared.SetUp.{SetUp}
+use Rattle.timing.specs.declared.Judged.the-variants.{Given, Refused as Not-Judged}
+use Rattle.timing.specs.declared.Graph.{Graph}
+use Rattle.timing.specs.declared.Drawn.the-variants.{Figures, Refused as Not-Drawn}
+use Rattle.timing.specs.Answers.{setUpAs, verdictOf, graphOf}
+use Rattle.timing.specs.Answers.{fedNumber, fedPlace, fedState, setUpNumber, judgedNumber, drawnNumber}
 use Rattle.timing.specs.Range.{inRange, Sound}
 use Rattle.timing.specs.Feed.{Passes, Outcome, feedOf, feedAll, Call, allOf, Deals, Rooms}
 use Rattle.timing.specs.History.{bucketHistory, frameHistory, stateAt, rowsTo}
@@ -48,6 +55,32 @@ pub refusal-changes-nothing : (s t : State) (rows : List ℤ) (ts ss ms : List �
     ≡ Refused number place t
     → (t ≡ s) × ((feedOf s rows ts ss ms) .rows ≡ rows)
 refusal-changes-nothing = refused-stays
+
+-- The numbers that the answers stand for are the table's: 1 to 7 of set-up, 9 of a verdict, 16 of the graph; 0 where nothing is refused.
+pub set-up-number : (x : StreamNumbers) → setUpNumber (setUpAs x) ≡ setUpOf x
+unfolding setUpAs
+set-up-number x =
+    pick-either (λ (a : SetUp). setUpNumber a ≡ setUpOf x) (eqb (setUpOf x) 0) (λ e. sym (eqb-true (setUpOf x) 0 e)) (λ e. refl)
+
+pub verdict-number : (s : State) → judgedNumber (verdictOf s) ≡ pick (inRange s) 0 9
+unfolding verdictOf
+verdict-number s = go (inRange s)
+  where
+    go : (t : Bool) → judgedNumber (pick t (Given (record { network = s .bucket .network; buffer = s .frames .buffer })) (Not-Judged 9)) ≡ pick t 0 9
+    go true = refl
+    go false = refl
+
+pub graph-number : (fpt margin latency : ℤ)
+    → drawnNumber (graphOf fpt margin latency) ≡ pick (inFloat binary64 fpt && (inFloat binary64 margin && inFloat binary64 latency)) 0 16
+unfolding graphOf
+graph-number fpt margin latency = go _ (inFloat binary64 fpt) (inFloat binary64 margin) (inFloat binary64 latency)
+  where
+    go : (g : Graph) (a b c : Bool)
+        → drawnNumber (pick a (pick b (pick c (Figures g) (Not-Drawn 16)) (Not-Drawn 16)) (Not-Drawn 16)) ≡ pick (a && (b && c)) 0 16
+    go g true true true = refl
+    go g true true false = refl
+    go g true false c = refl
+    go g false b c = refl
 
 -- slices of one length are answered as the packets that they hold; 10 is for any others
 pub slices-are-packets : (s : State) (rows : List ℤ) (ts ss ms : List ℕ) → OneLength ts ss ms → feedOf s rows ts ss ms
@@ -86,12 +119,24 @@ module _ (x : StreamNumbers) (set-up : setUpOf x ≡ 0) (l : List Packet) (close
   pub state-of-history : S ≡ stateAt x l (length l)
   state-of-history = state-declared x l
 
+  -- the call after the accepted calls before it is refused as the whole list is
+  refused-so : (call : List Packet) (rows : List ℤ) (r : Refusal) → declared (l ++ call) ≡ Scan-Refused r
+      → feedAll S rows call ≡ record { answer = Refused (r .number) (r .place) S; rows = rows }
+  refused-so call rows r e = refused-call S rows call r (of-sound S (sound-after l (freshOf x) (sound-fresh x set-up) passes))
+      (scan-of-call x l call closed r accepted e)
+
   -- "If a list fails at a packet by 11 to 14, the first refused call of any cutting names the same number and place, given room.": the call l after
   -- the accepted calls before it, wherever they were cut
   pub first-refusal : (call : List Packet) (rows : List ℤ) (r : Refusal) → declared (l ++ call) ≡ Scan-Refused r
-      → feedAll S rows call ≡ record { answer = Refused (r .number) (r .place) S; rows = rows }
-  first-refusal call rows r e = refused-call S rows call r (of-sound S (sound-after l (freshOf x) (sound-fresh x set-up) passes))
-      (scan-of-call x l call closed r accepted e)
+      → (fedNumber (feedAll S rows call .answer) ≡ r .number) × (fedPlace (feedAll S rows call .answer) ≡ r .place)
+      × (fedState (feedAll S rows call .answer) ≡ S) × (feedAll S rows call .rows ≡ rows)
+  first-refusal call rows r e =
+      let told = refused-so call rows r e in (
+        ap (λ (o : Outcome). fedNumber (o .answer)) told,
+        ap (λ (o : Outcome). fedPlace (o .answer)) told,
+        ap (λ (o : Outcome). fedState (o .answer)) told,
+        ap (λ (o : Outcome). o .rows) told,
+      )
 
   -- ---- Demand 2: "Frame times, offsets, latency, margin, gap, levels and limits equal the exact fractions; every other row number, the counts and the
   -- buffer answer are document 01's."
