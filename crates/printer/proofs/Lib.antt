@@ -2,3 +2,6 @@
 pub mod Answers
 pub mod Turning
 pub mod Inside
+pub mod Carrying
+pub mod Beginning
+pub mod Output
