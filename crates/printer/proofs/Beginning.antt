@@ -9,7 +9,7 @@ use lib.Dec.{eqb}
 use lib.ListN.{length, drop, length-drop}
 use lib.Seq.{drop-append-le}
 use borrow.Author.Tests.{eqb-true, eqb-false}
-use Rattle.laws.specs.Choose.{pick, pick-either}
+use Rattle.laws.specs.Choose.{pick-either, false-true}
 use Rattle.packet.specs.Step.{nothing}
 use Rattle.text.specs.Lines.{refusalLine}
 use Rattle.record.specs.declared.Cursor.{Cursor}
@@ -20,6 +20,7 @@ use Rattle.record.specs.Paper.{versionFits, numbersAt, formatRefusal, setUpOf, 
 use Rattle.record.specs.Step.{itemOf, pieceOf}
 use Rattle.record.specs.Pieces.{wantsMore, taken}
 use Rattle.record.proofs.Window.{item-within}
+use Rattle.record.proofs.InPieces.{last-answers}
 use Rattle.record.proofs.Reading.{second, before, reading-20, reading-stop, reading-go}
 use Rattle.record.proofs.Opening.{SaysVersion, version-says, SaysFirst, first-says}
 use Rattle.timing.specs.declared.SetUp.{SetUp}
@@ -124,3 +125,42 @@ module _ (w v : List ℕ) (last : Bool) (l : last ≡ true → v ≡ []) where
       go End e = tt
       go More e = tt
       go (Refused n o) e = not-version n o e
+
+-- where no more will come, the start of a file is answered
+abbrev pub Answered : Opened → Type 0
+Answered Wanting = ⊥
+Answered (Unopened number offset) = Unit
+Answered (Opens walk) = Unit
+
+module _ (w : List ℕ) where
+  ready-answered : (x : Numbers) (c : Cursor) → Answered (readyOf x c)
+  unfolding readyOf
+  ready-answered x c = go (setUpAs (streamOf x))
+    where
+      go : (a : SetUp) → Answered (readyBy a c)
+      go (Fresh s) = tt
+      go (Not-Set-Up n) = tt
+
+  first-answered : {c : Cursor} → pieceOf 0 w true ≡ Version c → (r : Read) → pieceOf (c .at) (drop 1 w) true ≡ r → Answered (firstBy r)
+  unfolding unopenedOf
+  first-answered e (Version c) f = absurd (behind w [] true (λ t. refl) e (Version c) f refl)
+  first-answered e (Parameters x c) f = ready-answered x c
+  first-answered e (Packet t stamp marker c) f = absurd (behind w [] true (λ t. refl) e (Packet t stamp marker c) f refl)
+  first-answered e End f = absurd (behind w [] true (λ t. refl) e End f refl)
+  first-answered {c} e More f = absurd (false-true (sym (last-answers (c .at) (drop 1 w) .1) ∙ ap wantsMore f))
+  first-answered e (Refused n o) f = tt
+
+  pub begin-answered : Answered (beginOf w true)
+  unfolding beginOf unopenedOf
+  begin-answered = go (pieceOf 0 w true) refl
+    where
+      says : (r : Read) → pieceOf 0 w true ≡ r → SaysVersion w r
+      says r e = subst (SaysVersion w) (sym (last-answers 0 w .0) ∙ e) (version-says w)
+
+      go : (r : Read) → pieceOf 0 w true ≡ r → Answered (versionBy w true r)
+      go (Version c) e = first-answered e (pieceOf (c .at) (drop 1 w) true) refl
+      go (Parameters x c) e = absurd (says (Parameters x c) e)
+      go (Packet t stamp marker c) e = absurd (says (Packet t stamp marker c) e)
+      go End e = absurd (says End e)
+      go More e = absurd (says More e)
+      go (Refused n o) e = tt

@@ -4,4 +4,5 @@ pub mod Turning
 pub mod Inside
 pub mod Carrying
 pub mod Beginning
+pub mod Progress
 pub mod Output
