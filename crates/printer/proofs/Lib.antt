@@ -2,3 +2,7 @@
 pub mod Answers
 pub mod Turning
 pub mod Inside
+pub mod Carrying
+pub mod Beginning
+pub mod Progress
+pub mod Output

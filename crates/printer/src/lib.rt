@@ -187,17 +187,17 @@ impl Walk {
         }
     }
 
-    // The records of a piece, while there is room for a line. The heavy step has this one call site, so that the state stays in
-    // registers.
+    // The records of a piece, while there is room for a line. The heavy step has this one call site, and the walk is put together
+    // only where the loop ends: else the whole state would be copied for each packet.
     fn run(self, rules: Rules, window: &[u8], last: bool, out: &mut [u8]) -> Taken
         requires { ⌜ Ready rules self ⌝ }
         ensures { λ r. ⌜ Takes (walkOf rules self (now (window .entry)) last (length (now (out .entry)))) 0 0 (now (out .entry)) r (now (out .exit)) ⌝ }
     {
-        let mut walk = self;
+        let mut at = self.at;
+        let mut s = self.state;
         let mut used = 0;
         let mut written = 0;
         while LINE <= out.len() - written {
-            let at = walk.at;
             let item = at.read_piece(&window[used..], last);
             let Read::Packet {
                 t,
@@ -206,9 +206,9 @@ impl Walk {
                 next,
             } = item
             else {
+                let walk = Walk { at: at, state: s };
                 return walk.stop(item, used, out, written);
             };
-            let mut s = walk.state;
             let past = s.past;
             let number = past.refusal(t, marker);
             if number != 0 {
@@ -216,6 +216,7 @@ impl Walk {
                     number: number,
                     offset: at.at,
                 };
+                let walk = Walk { at: at, state: s };
                 return walk.stop(refused, used, out, written);
             }
             s = s.arrive(rules, t, stamp);
@@ -223,11 +224,11 @@ impl Walk {
                 written = put_closed(s, rules, out, written);
                 s = s.mark(rules, t);
             }
-            walk = Walk { at: next, state: s };
+            at = next;
             used += PACKET;
         }
         Taken {
-            walk: walk,
+            walk: Walk { at: at, state: s },
             used: used,
             written: written,
             ended: false,

@@ -49,7 +49,7 @@ finish-checked numbers r = go (r .ending)
     go (stopped n o) = refl
 
 -- what the answers at 0 and at 1 say of the file
-abbrev SaysVersion : List ℕ → Read → Type 0
+abbrev pub SaysVersion : List ℕ → Read → Type 0
 SaysVersion s (Version c) = (versionFits s ≡ true) × (c .at ≡ 1)
 SaysVersion s (Parameters n c) = ⊥
 SaysVersion s (Packet t stamp marker c) = ⊥
@@ -57,11 +57,11 @@ SaysVersion s End = ⊥
 SaysVersion s More = ⊥
 SaysVersion s (Refused n o) = (versionFits s ≡ false) × (n ≡ 20) × (o ≡ 0)
 
-version-says : (s : List ℕ) → SaysVersion s (itemOf 0 s)
+pub version-says : (s : List ℕ) → SaysVersion s (itemOf 0 s)
 unfolding itemOf
 version-says s = pick-either (SaysVersion s) (versionFits s) (λ e. (e, refl)) (λ e. (e, refl, refl))
 
-abbrev SaysFirst : List ℕ → Read → Type 0
+abbrev pub SaysFirst : List ℕ → Read → Type 0
 SaysFirst l (Version c) = ⊥
 SaysFirst l (Parameters n c) = (formatRefusal 1 l ≡ 0) × (n ≡ numbersAt l) × (c .at ≡ 19)
 SaysFirst l (Packet t stamp marker c) = ⊥
@@ -69,7 +69,7 @@ SaysFirst l End = ⊥
 SaysFirst l More = ⊥
 SaysFirst l (Refused n o) = (formatRefusal 1 l ≡ n) × (0 < n) × (o ≡ 1)
 
-first-says : (l : List ℕ) → SaysFirst l (itemOf 1 l)
+pub first-says : (l : List ℕ) → SaysFirst l (itemOf 1 l)
 first-says l = go (ℕ-discrete (length l) 0) (ℕ-discrete (formatRefusal 1 l) 0)
   where
     go : Dec (length l ≡ 0) → Dec (formatRefusal 1 l ≡ 0) → SaysFirst l (itemOf 1 l)

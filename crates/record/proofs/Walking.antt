@@ -32,7 +32,7 @@ use Rattle.record.proofs.Items.{item-end, item-packet, item-refused}
 use Rattle.record.proofs.Reading.{second, before, packet-here, packets-end, packets-stop, packets-go}
 
 -- what an answer after the parameters says of the rest of the file
-abbrev Says : ℕ → List ℕ → Read → Type 0
+abbrev pub Says : ℕ → List ℕ → Read → Type 0
 Says at l (Version c) = ⊥
 Says at l (Parameters s c) = ⊥
 Says at l (Packet t stamp marker c) = (formatRefusal at l ≡ 0) × (packetOf l (after at 16) ≡ Packet t stamp marker c)
@@ -40,7 +40,7 @@ Says at l End = length l ≡ 0
 Says at l More = ⊥
 Says at l (Refused n o) = (0 < length l) × (formatRefusal at l ≡ n) × (0 < n) × (o ≡ at)
 
-item-says : (at : ℕ) (l : List ℕ) → 1 < at → Says at l (itemOf at l)
+pub item-says : (at : ℕ) (l : List ℕ) → 1 < at → Says at l (itemOf at l)
 item-says at l h = go (ℕ-discrete (length l) 0) (ℕ-discrete (formatRefusal at l) 0)
   where
     go : Dec (length l ≡ 0) → Dec (formatRefusal at l ≡ 0) → Says at l (itemOf at l)

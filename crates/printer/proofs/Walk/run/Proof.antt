@@ -13,17 +13,21 @@ use Rattle.printer.proofs.Walk.run.Statement.{statement}
 use Rattle.printer.proofs.Walk.run.Tie as tie
 
 abbrev Inv-loop : tie.InvT-loop
-Inv-loop rules window last out₀ walk₀ used₀ written₀ out walk used written =
-    Loop (walkOf rules walk₀ window last (length out₀)) out₀ (walkOf rules walk (drop used window) last (length out - written)) used written out
-    × Ready rules walk × (used ≤ length window) × (written ≤ length out)
+Inv-loop rules window last out₀ at₀ s₀ used₀ written₀ out at s used written =
+    Loop (walkOf rules (record { at = at₀; state = s₀ }) window last (length out₀)) out₀
+    (walkOf rules (record { at = at; state = s }) (drop used window) last (length out - written)) used written out
+    × Ready rules (record { at = at; state = s })
+    × (used ≤ length window)
+    × (written ≤ length out)
 
 abbrev μ-loop : tie.MeasureT-loop
-μ-loop rules window last out₀ walk₀ used₀ written₀ out walk used written = length window - used
+μ-loop rules window last out₀ at₀ s₀ used₀ written₀ out at s used written = length window - used
 
 loop-holds : tie.Need-loop-holds Inv-loop μ-loop
 loop-holds c =
-    let a = c .before .before .args in
-    (loop-begins (a .rules) (a .self) (now (a .window)) (a .last) (now (a .out)), c .before .before .pre, search needs, search needs)
+    let start = c .before .before .before .before in
+    let a = start .args in
+    (loop-begins (a .rules) (a .self) (now (a .window)) (a .last) (now (a .out)), start .pre, search needs, search needs)
 
 sub-loop : tie.Need-sub-loop Inv-loop μ-loop
 sub-loop c = search needs
@@ -52,11 +56,13 @@ same-length c = search needs
 returns : tie.Need-returns Inv-loop μ-loop
 returns c =
     let r = c .before .before .before .before .before in
-    let turn = r .before .before .before in
+    let turn = r .before .before in
     let l = turn .before .loop in
-    let a = turn .before .before .before .before .args in
-    loop-stops (l .inv .0) (walk-stops (a .rules) (l .walk) (drop (l .used) (now (a .window))) (a .last) _ (turn .loop-test .taken) _ (c .before .before .before .before .match .keys2)
-    (read-rest (now (a .window)) (a .last) _ (l .used) (r .read-piece .ensures))) (c .before .before .stop .ensures)
+    let a = turn .before .before .before .before .before .before .args in
+    loop-stops (l .inv .0)
+    (walk-stops (a .rules) (record { at = l .at; state = l .s }) (drop (l .used) (now (a .window))) (a .last) _ (turn .loop-test .taken) _
+    (c .before .before .before .before .match .keys2) (read-rest (now (a .window)) (a .last) _ (l .used) (r .read-piece .ensures)))
+    (c .before .before .stop .ensures)
 
 refusal-requires : tie.Need-refusal-requires Inv-loop μ-loop
 refusal-requires c κs = search needs
@@ -66,82 +72,93 @@ stop-requires-2 c κs = search needs
 
 same-length-2 : tie.Need-same-length-2 Inv-loop μ-loop
 same-length-2 c =
-    let refused = c .before .before .before .before in
-    let l = refused .before .before .before .before .before .before .before .before .before .before .before .loop in
+    let l = c .before .before .before .before .before .before .before .before .before .before .before .before .before .loop in
     takes-length (c .before .before .stop2 .ensures) ∙ l .inv .0 .same-length
 
 returns-2 : tie.Need-returns-2 Inv-loop μ-loop
 returns-2 c =
     let refused = c .before .before .before .before in
-    let i = refused .before .before .before .before .before in
+    let i = refused .before .before .before .before in
     let r = i .before .before in
-    let turn = r .before .before .before in
+    let turn = r .before .before in
     let l = turn .before .loop in
-    let a = turn .before .before .before .before .args in
+    let a = turn .before .before .before .before .before .before .args in
     let here = read-rest (now (a .window)) (a .last) _ (l .used) (r .read-piece .ensures) ∙ i .item .given .1 in
-    loop-stops (l .inv .0) (walk-refuses (a .rules) (l .walk) (drop (l .used) (now (a .window))) (a .last) _ (turn .loop-test .taken) here _ (refused .before .refusal .ensures) (refused .if1 .taken))
+    loop-stops (l .inv .0)
+    (walk-refuses (a .rules) (record { at = l .at; state = l .s }) (drop (l .used) (now (a .window))) (a .last) _ (turn .loop-test .taken) here _
+    (refused .before .refusal .ensures) (refused .if1 .taken))
     (c .before .before .stop2 .ensures)
 
 arrive-requires : tie.Need-arrive-requires Inv-loop μ-loop
 arrive-requires c κs =
-    let l = c .before .before .before .before .before .before .before .before .before .before .before .loop in
+    let l = c .before .before .before .before .before .before .before .before .before .loop in
     ready-arrives (l .inv .1) (packetOf _ 0 _) (sym (c .if1 .left) ∙ c .before .refusal .ensures)
 
 put-closed-requires : tie.Need-put-closed-requires Inv-loop μ-loop
-put-closed-requires c κs = let fine = c .before .before .before in
-    let turn = fine .before .before .before .before .before .before .before .before .before .before in
-    let at = turn .before .loop in
+put-closed-requires c κs =
+    let fine = c .before .before .before in
+    let turn = fine .before .before .before .before .before .before .before .before in
+    let l = turn .before .loop in
     rw (c .before .before .arrive .ensures)
-    (ready-closes (at .inv .1) (packetOf _ _ _) (sym (fine .if1 .left) ∙ fine .before .refusal .ensures) _ _
-    (omega (arith, turn .loop-test .taken, at .inv .3)))
+    (ready-closes (l .inv .1) (packetOf _ _ _) (sym (fine .if1 .left) ∙ fine .before .refusal .ensures) _ _
+    (omega (arith, turn .loop-test .taken, l .inv .3)))
 
 mark-requires : tie.Need-mark-requires Inv-loop μ-loop
-mark-requires c κs = let fine = c .before .before .before .before .before .before in
-    let at = fine .before .before .before .before .before .before .before .before .before .before .before .loop in
+mark-requires c κs =
+    let fine = c .before .before .before .before .before .before in
+    let l = fine .before .before .before .before .before .before .before .before .before .loop in
     rw (c .before .before .before .before .before .arrive .ensures)
-    (ready-closed (at .inv .1) (packetOf _ _ _) (sym (fine .if1 .left) ∙ fine .before .refusal .ensures))
+    (ready-closed (l .inv .1) (packetOf _ _ _) (sym (fine .if1 .left) ∙ fine .before .refusal .ensures))
 
 add-used : tie.Need-add-used Inv-loop μ-loop
 add-used c =
     let fine = c .before .before in
-    let i = fine .before .before .before .before .before in
+    let i = fine .before .before .before .before in
     let r = i .before .before in
-    let turn = r .before .before .before in
+    let turn = r .before .before in
     let l = turn .before .loop in
-    let a = turn .before .before .before .before .args in
+    let start = turn .before .before .before .before .before .before in
+    let a = start .args in
     let here = read-rest (now (a .window)) (a .last) _ (l .used) (r .read-piece .ensures) ∙ i .item .given .1 in
     let not-refused = sym (fine .if1 .left) ∙ fine .before .refusal .ensures in
-    let inside = next-inside (a .rules) (l .walk) (now (a .window)) (a .last) (l .inv .0) (turn .loop-test .taken) here not-refused (l .inv .2) in
-    omega (arith, inside, turn .before .before .before .before .good)
+    let inside = next-inside (a .rules) (record { at = l .at; state = l .s }) (now (a .window)) (a .last) (l .inv .0)
+    (turn .loop-test .taken) here not-refused (l .inv .2) in
+    omega (arith, inside, start .good)
 
 loop-less : tie.Need-loop-less Inv-loop μ-loop
 loop-less c =
     let fine = c .before .before in
-    let i = fine .before .before .before .before .before in
+    let i = fine .before .before .before .before in
     let r = i .before .before in
-    let turn = r .before .before .before in
+    let turn = r .before .before in
     let l = turn .before .loop in
-    let a = turn .before .before .before .before .args in
+    let start = turn .before .before .before .before .before .before in
+    let a = start .args in
     let here = read-rest (now (a .window)) (a .last) _ (l .used) (r .read-piece .ensures) ∙ i .item .given .1 in
     let not-refused = sym (fine .if1 .left) ∙ fine .before .refusal .ensures in
-    let inside = next-inside (a .rules) (l .walk) (now (a .window)) (a .last) (l .inv .0) (turn .loop-test .taken) here not-refused (l .inv .2) in
+    let inside = next-inside (a .rules) (record { at = l .at; state = l .s }) (now (a .window)) (a .last) (l .inv .0)
+    (turn .loop-test .taken) here not-refused (l .inv .2) in
     omega (arith, inside)
 
 loop-again : tie.Need-loop-again Inv-loop μ-loop
 loop-again c =
     let fine = c .before .before in
-    let i = fine .before .before .before .before .before in
+    let i = fine .before .before .before .before in
     let r = i .before .before in
-    let turn = r .before .before .before in
+    let turn = r .before .before in
     let l = turn .before .loop in
-    let a = turn .before .before .before .before .args in
+    let start = turn .before .before .before .before .before .before in
+    let a = start .args in
     let here = read-rest (now (a .window)) (a .last) _ (l .used) (r .read-piece .ensures) ∙ i .item .given .1 in
     let not-refused = sym (fine .if1 .left) ∙ fine .before .refusal .ensures in
-    next-turn (a .rules) (l .walk) (now (a .window)) (a .last) (l .inv .0) (turn .loop-test .taken) here not-refused (l .inv .1) (l .inv .2)
+    next-turn (a .rules) (record { at = l .at; state = l .s }) (now (a .window)) (a .last) (l .inv .0) (turn .loop-test .taken) here not-refused
+    (l .inv .1) (l .inv .2)
     (⊎-elim
-    (λ w. rw (w .6, w .7, w .8) (turn-marked (a .rules) (l .walk .state) (packetOf _ _ _) (l .written) (l .out) (c .before .arrive .ensures) (w .0 .taken)
-    (w .5 .ensures) (w .2 .ensures)))
-    (λ w. rw (w .1, w .2, w .3) (turn-plain (a .rules) (l .walk .state) (packetOf _ _ _) (l .written) (l .out) (c .before .arrive .ensures) (w .0 .left)))
+    (λ w. rw (w .6, w .7, w .8)
+    (turn-marked (a .rules) (l .s) (packetOf _ _ _) (l .written) (l .out) (c .before .arrive .ensures) (w .0 .taken) (w .5 .ensures)
+    (w .2 .ensures)))
+    (λ w. rw (w .1, w .2, w .3)
+    (turn-plain (a .rules) (l .s) (packetOf _ _ _) (l .written) (l .out) (c .before .arrive .ensures) (w .0 .left)))
     (c .if2 .came))
 
 same-length-3 : tie.Need-same-length-3 Inv-loop μ-loop
@@ -150,9 +167,10 @@ same-length-3 c = search needs
 returns-3 : tie.Need-returns-3 Inv-loop μ-loop
 returns-3 c =
     let l = c .before .loop in
-    let a = c .before .before .before .before .args in
-    loop-stops (l .inv .0) (walk-full (a .rules) (l .walk) (drop (l .used) (now (a .window))) (a .last) _ (omega (arith, c .loop-test .left)))
-    (stays-takes (l .walk) (l .inv .3))
+    let a = c .before .before .before .before .before .before .args in
+    loop-stops (l .inv .0)
+    (walk-full (a .rules) (record { at = l .at; state = l .s }) (drop (l .used) (now (a .window))) (a .last) _ (omega (arith, c .loop-test .left)))
+    (stays-takes (record { at = l .at; state = l .s }) (l .inv .3))
 
 pub run-spec : {M : Type 1} → statement M
 run-spec =

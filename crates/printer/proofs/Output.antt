@@ -1,0 +1,139 @@
+-- The program's output on one page: however a file is cut into pieces and whatever room each call has, the lines put together are the
+-- paper's output of the file; and it always comes to that. The work on one call is in Carrying, on the start of a file in Beginning.
+use mathlib.Core.Path.{_≡_, refl, sym, ap, subst, _∙_}
+use mathlib.Core.Logic.{_⊎_, inl, inr}
+use mathlib.Core.Bool.{Bool, true, false}
+use mathlib.Core.List.{List, [], _∷_, _++_, append-nil}
+use Prim.Native.Nat.{ℕ, zero, suc, _≤_, _<_}
+use native.Mathlib.Omega.{arith}
+use lib.ListN.{length, drop, getD, length-drop}
+use Rattle.laws.specs.Choose.{pick}
+use Rattle.record.specs.declared.Read.the-variants.{More}
+use Rattle.record.specs.Step.{pieceOf}
+use Rattle.record.proofs.InPieces.{last-answers, window-suffices}
+use Rattle.timing.specs.Step.{rulesOf}
+use Rattle.printer.specs.declared.Walk.{Walk}
+use Rattle.printer.specs.declared.Opened.{Opened}
+use Rattle.printer.specs.declared.Opened.the-variants.{More as Wanting, Refused as Unopened, Ready}
+use Rattle.printer.specs.Paper.{restOf, outputOf}
+use Rattle.printer.specs.Step.{beginOf, takeOf}
+use Rattle.printer.specs.Drive.{Stands, restFrom, Shows, Drives, last-call, call, Prints, refused, walked}
+use Rattle.printer.proofs.Carrying.{take-carries}
+use Rattle.printer.proofs.Inside.{take-inside}
+use Rattle.printer.proofs.Progress.{take-stuck, take-moves}
+use Rattle.printer.proofs.Beginning.{Tells, begin-tells, Answered, begin-answered}
+
+-- ---- one call, from a walk that a file leads to
+
+module _ (walk : Walk) (w v : List ℕ) (last : Bool) (room : ℕ) (z : Stands walk) (l : last ≡ true → v ≡ []) where
+  -- it leads to such a walk again
+  pub take-stands : Stands (takeOf walk w last room .walk)
+  take-stands = take-carries walk w v last room l z .1
+
+  -- where it ended, it wrote all that was still to be printed
+  pub take-ended : takeOf walk w last room .ended ≡ true → takeOf walk w last room .text ≡ restFrom walk (w ++ v)
+  take-ended e =
+      let k = takeOf walk w last room in
+      let after = restOf (rulesOf (walk .state .numbers)) (k .walk .state) (k .walk .at .at) (drop (k .used) w ++ v) in
+      sym (take-carries walk w v last room l z .0 ∙ ap (λ (t : Bool). k .text ++ pick t [] after) e ∙ append-nil (k .text))
+
+  -- where it did not, it wrote the front of that, and the rest is still to be printed from the walk that it leads to
+  pub take-goes-on : takeOf walk w last room .ended ≡ false
+      → takeOf walk w last room .text ++ restFrom (takeOf walk w last room .walk) (drop (takeOf walk w last room .used) w ++ v)
+      ≡ restFrom walk (w ++ v)
+  take-goes-on e =
+      let k = takeOf walk w last room in
+      let c = take-carries walk w v last room l z in
+      let after = restOf (rulesOf (walk .state .numbers)) (k .walk .state) (k .walk .at .at) (drop (k .used) w ++ v) in
+      sym (c .0 ∙ ap (λ (t : Bool). k .text ++ pick t [] after) e
+      ∙ ap (λ r. k .text ++ restOf r (k .walk .state) (k .walk .at .at) (drop (k .used) w ++ v)) (c .2))
+
+-- ---- all calls
+
+-- however the rest of a file comes and whatever room there is, the texts put together are the lines still to come
+pub drives-rest : {walk : Walk} {rest text : List ℕ} → Stands walk → Drives walk rest text → text ≡ restFrom walk rest
+drives-rest {walk} z (last-call w v last room s e f) =
+    f ∙ take-ended walk w v last room z (s .ends) e ∙ ap (restFrom walk) (sym (s .all))
+drives-rest {walk} z (call w v last room more s e f d) =
+    let k = takeOf walk w last room in
+    f ∙ ap (λ (x : List ℕ). k .text ++ x) (drives-rest (take-stands walk w v last room z (s .ends)) d)
+    ∙ take-goes-on walk w v last room z (s .ends) e ∙ ap (restFrom walk) (sym (s .all))
+
+-- ---- the file from its first byte
+
+-- whatever is printed of a file is its output
+pub prints-output : {file text : List ℕ} → Prints file text → text ≡ outputOf file
+prints-output (refused w v last number offset s e f) =
+    f ∙ sym (subst (Tells w v) e (begin-tells w v last (s .ends))) ∙ ap outputOf (sym (s .all))
+prints-output (walked w v last walk s e d) =
+    let t = subst (Tells w v) e (begin-tells w v last (s .ends)) in
+    drives-rest (t .0) d ∙ sym (t .1) ∙ ap outputOf (sym (s .all))
+
+-- ---- and it comes to that
+
+-- a call with room for a line ends or takes a record, if its window is the last or has 65,537 bytes
+pub moves-last : (walk : Walk) (w : List ℕ) (room : ℕ) → 256 ≤ room → takeOf walk w true room .ended ≡ false
+    → 0 < takeOf walk w true room .used
+moves-last walk w room h e = take-moves walk w true room h (last-answers (walk .at .at) w .1) e
+
+pub moves-full : (walk : Walk) (w : List ℕ) (last : Bool) (room : ℕ) → 256 ≤ room → ((i : ℕ) → getD w i 0 < 256) → 65537 ≤ length w
+    → takeOf walk w last room .ended ≡ false → 0 < takeOf walk w last room .used
+moves-full walk w last room h b l e = take-moves walk w last room h (window-suffices (walk .at .at) w last b l) e
+
+-- a call that does neither had no room for a line or wanted more bytes
+pub stuck-why : (walk : Walk) (w : List ℕ) (last : Bool) (room : ℕ) → takeOf walk w last room .ended ≡ false
+    → takeOf walk w last room .used ≡ 0 → (room < 256) ⊎ (pieceOf (walk .at .at) w last ≡ More)
+stuck-why walk w last room = take-stuck walk w last room
+
+-- so from every walk that a file leads to, calls go through whatever rest of a file there is
+driven : (n : ℕ) (walk : Walk) (rest : List ℕ) → length rest < n → Stands walk → Drives walk rest (restFrom walk rest)
+driven zero walk rest h z = absurd (omega arith)
+driven (suc n) walk rest h z =
+    go (takeOf walk rest true 256 .ended) refl
+    (driven n (takeOf walk rest true 256 .walk) (drop (takeOf walk rest true 256 .used) rest ++ []))
+  where
+    whole : Shows rest rest [] true
+    whole = record { all = sym (append-nil rest); ends = λ e. refl }
+
+    stands : Stands (takeOf walk rest true 256 .walk)
+    stands = take-stands walk rest [] true 256 z (λ e. refl)
+
+    go : (t : Bool) → takeOf walk rest true 256 .ended ≡ t
+        → (length (drop (takeOf walk rest true 256 .used) rest ++ []) < n → Stands (takeOf walk rest true 256 .walk)
+        → Drives (takeOf walk rest true 256 .walk) (drop (takeOf walk rest true 256 .used) rest ++ [])
+        (restFrom (takeOf walk rest true 256 .walk) (drop (takeOf walk rest true 256 .used) rest ++ [])))
+        → Drives walk rest (restFrom walk rest)
+    go true e on =
+        last-call rest [] true 256 whole e
+        (ap (restFrom walk) (sym (append-nil rest)) ∙ sym (take-ended walk rest [] true 256 z (λ f. refl) e))
+    go false e on =
+        let used = takeOf walk rest true 256 .used in
+        let less : length (drop used rest ++ []) < n = rw append-nil (omega (
+          arith,
+          moves-last walk rest 256 (omega arith) e,
+          take-inside walk rest true 256,
+          length-drop used rest,
+        )) in
+        call rest [] true 256 _ whole e
+        (ap (restFrom walk) (sym (append-nil rest)) ∙ sym (take-goes-on walk rest [] true 256 z (λ f. refl) e)) (on less stands)
+
+pub rest-driven : (walk : Walk) (rest : List ℕ) → Stands walk → Drives walk rest (restFrom walk rest)
+rest-driven walk rest z = driven (suc (length rest)) walk rest (omega arith) z
+
+-- and every file is printed: with `prints-output`, as its output and as nothing else
+pub file-printed : (file : List ℕ) → Prints file (outputOf file)
+file-printed file = go (beginOf file true) refl (begin-tells file [] true (λ e. refl))
+  where
+    whole : Shows file file [] true
+    whole = record { all = sym (append-nil file); ends = λ e. refl }
+
+    output : outputOf file ≡ outputOf (file ++ [])
+    output = ap outputOf (sym (append-nil file))
+
+    go : (a : Opened) → beginOf file true ≡ a → Tells file [] (beginOf file true) → Prints file (outputOf file)
+    go Wanting e t = absurd (subst Answered e (begin-answered file))
+    go (Unopened number offset) e t = refused file [] true number offset whole e (output ∙ subst (Tells file []) e t)
+    go (Ready walk) e t =
+        let u = subst (Tells file []) e t in
+        walked file [] true walk whole e
+        (subst (Drives walk (drop 19 file ++ [])) (sym (output ∙ u .1)) (rest-driven walk (drop 19 file ++ []) (u .0)))
