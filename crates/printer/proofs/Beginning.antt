@@ -30,7 +30,8 @@ use Rattle.timing.specs.Answers.{setUpAs}
 use Rattle.timing.specs.Laws.InRange.{sound-fresh}
 use Rattle.printer.specs.declared.Opened.{Opened}
 use Rattle.printer.specs.declared.Opened.the-variants.{More as Wanting, Refused as Unopened, Ready as Opens}
-use Rattle.printer.specs.Paper.{streamOf, linesOf, outputBy, restOf, outputOf}
+use Rattle.report.specs.Paper.{streamOf}
+use Rattle.printer.specs.Paper.{linesOf, outputBy, restOf, outputOf}
 use Rattle.printer.specs.Step.{unopenedOf, readyBy, readyOf, firstBy, versionBy, beginOf}
 use Rattle.printer.specs.Drive.{Stands, restFrom}
 use Rattle.printer.proofs.Answers.{piece-item, some-window}

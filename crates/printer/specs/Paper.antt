@@ -3,24 +3,11 @@ use mathlib.Core.List.{List, [], _∷_, _++_}
 use Prim.Native.Nat.{ℕ}
 use Rattle.frame.specs.declared.Row.{Row}
 use Rattle.text.specs.Lines.{rowLine, summaryLine, refusalLine}
-use Rattle.record.specs.declared.Numbers.{Numbers}
 use Rattle.record.specs.Paper.{Ending, done, stopped, Packets, packetsIn, Reading, unread, read, readingOf}
-use Rattle.timing.specs.declared.StreamNumbers.{StreamNumbers}
+use Rattle.report.specs.Paper.{streamOf}
 use Rattle.timing.specs.declared.Rules.{Rules}
 use Rattle.timing.specs.declared.State.{State}
 use Rattle.timing.specs.Step.{rulesOf, freshOf, stateAfter, rowsAfter}
-
--- a file's stream numbers, as a stream is set up with them
-abbrev pub streamOf : Numbers → StreamNumbers
-streamOf x = record {
-  rate = x .rate;
-  schedule = x .schedule;
-  class = x .class;
-  height = x .height;
-  n = x .n;
-  maxudp = x .maxudp;
-  tro = x .tro;
-}
 
 -- "It prints `frame` and the ten numbers of each row as it closes"
 unfoldable pub rowLines : List Row → List ℕ

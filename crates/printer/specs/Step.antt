@@ -28,7 +28,8 @@ use Rattle.printer.specs.declared.Walk.{Walk}
 use Rattle.printer.specs.declared.Taken.{Taken}
 use Rattle.printer.specs.declared.Opened.{Opened}
 use Rattle.printer.specs.declared.Opened.the-variants.{More as Wanting, Refused as Unopened, Ready as Opens}
-use Rattle.printer.specs.Paper.{streamOf, rowLines, sumLine}
+use Rattle.report.specs.Paper.{streamOf}
+use Rattle.printer.specs.Paper.{rowLines, sumLine}
 
 -- ---- the start of a file
 

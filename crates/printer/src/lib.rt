@@ -8,7 +8,7 @@ ghost use lib.ListN.{length};
 ghost use Rattle.text.specs.Lines.{Put};
 ghost use Rattle.record.specs.Pieces.{wantsMore};
 ghost use Rattle.timing.specs.Feed.{closing};
-ghost use Rattle.printer.specs.Paper.{streamOf, rowLines, sumLine};
+ghost use Rattle.printer.specs.Paper.{rowLines, sumLine};
 ghost use Rattle.printer.specs.Step.{unopenedOf, readyOf, beginOf, lineOf, stopsAt, walkOf, takeOf, Closes, Ready, Takes};
 use record::Cursor;
 use record::Numbers;
@@ -17,7 +17,6 @@ use text::LINE;
 use timing::Rules;
 use timing::SetUp;
 use timing::State;
-use timing::StreamNumbers;
 
 // A packet's record, its length included.
 const PACKET: usize = 16;
@@ -44,20 +43,6 @@ pub struct Taken {
     pub ended: bool,
 }
 
-fn stream(numbers: Numbers) -> StreamNumbers
-    ensures { λ r. ⌜ r ≡ streamOf numbers ⌝ }
-{
-    StreamNumbers {
-        rate: numbers.rate,
-        schedule: numbers.schedule,
-        class: numbers.class,
-        height: numbers.height,
-        n: numbers.n,
-        maxudp: numbers.maxudp,
-        tro: numbers.tro,
-    }
-}
-
 // Before there are stream numbers reading stops at a refusal, or for want of bytes.
 fn unopened(item: Read) -> Opened
     ensures { λ r. ⌜ r ≡ unopenedOf item ⌝ }
@@ -75,7 +60,7 @@ fn unopened(item: Read) -> Opened
 fn ready(numbers: Numbers, next: Cursor) -> Opened
     ensures { λ r. ⌜ r ≡ readyOf numbers next ⌝ }
 {
-    match stream(numbers).set_up() {
+    match report::stream(numbers).set_up() {
         SetUp::Fresh(state) => Opened::Ready(Walk { at: next, state }),
         SetUp::Refused(number) => Opened::Refused {
             number: number,

@@ -32,7 +32,7 @@ enum Asked {
 }
 
 // The record's stream numbers as the measurement takes them.
-fn stream(numbers: Numbers) -> StreamNumbers
+pub fn stream(numbers: Numbers) -> StreamNumbers
     ensures { λ r. ⌜ r ≡ streamOf numbers ⌝ }
 {
     StreamNumbers {
