@@ -17,7 +17,7 @@ ghost use Rattle.bigendian.specs.Number.{Room};
 ghost use Rattle.packet.specs.Paper.{packets};
 ghost use Rattle.packet.specs.Step.{nothing};
 ghost use Rattle.record.specs.Paper.{numbersAt, kindLength, setUpOf, packetsIn};
-ghost use Rattle.record.specs.Step.{itemOf, pieceOf, scrapOf, Whole, standsIn, packetOf};
+ghost use Rattle.record.specs.Step.{after, itemOf, pieceOf, scrapOf, Whole, standsIn, packetOf};
 ghost use Rattle.record.specs.Layout.{packetWith, packetRecord, headOf, recordsOf};
 ghost use Rattle.record.specs.Write.{scanning, writtenOf, Writes, Fitting};
 ghost use Rattle.record.specs.Walk.{Countable, fresh, tallied, closing, refusedBy, finish, checkedOf};
@@ -135,20 +135,26 @@ fn packet_of(s: &[u8], next: Cursor) -> Read
     }
 }
 
-// Whether a whole packet's record stands at an offset.
-fn packet_stands(s: &[u8], at: usize) -> bool
-    ensures { λ r. ⌜ r ≡ standsIn (drop at (now (s .entry))) ⌝ }
+// Whether a whole packet's record stands in front.
+fn packet_stands(window: &[u8]) -> bool
+    ensures { λ r. ⌜ r ≡ standsIn (now (window .entry)) ⌝ }
 {
-    if s.len() < 16 {
+    if window.len() < 16 {
         return false;
     }
-    if s.len() - 16 < at {
+    if read16(window, 0) != kind_length(PACKET) {
         return false;
     }
-    if read16(s, at) != kind_length(PACKET) {
-        return false;
+    window[2] == PACKET
+}
+
+// Behind a packet's record. An offset past 2^64 would wrap; no file is that long.
+fn after_packet(at: u64) -> Cursor
+    ensures { λ r. ⌜ r ≡ after at 16 ⌝ }
+{
+    Cursor {
+        at: std::num::wrapping_add_u64(at, 16),
     }
-    s[at + 2] == PACKET
 }
 
 // At offset 0.
@@ -194,20 +200,22 @@ impl Cursor {
         self.read_piece(&s[at..], true)
     }
 
-    // The same after the parameters, where a packet's record mostly stands: that is looked at first, being quick.
-    fn read_next(self, s: &[u8]) -> Read
-        requires { ⌜ 1 < self .at ⌝ }
-        ensures { λ r. ⌜ r ≡ itemOf (self .at) (drop (self .at) (now (s .entry))) ⌝ }
+    // What stands at the cursor, of which `window` shows the bytes from there on; `last`: no more will come.
+    // After the parameters a packet's record mostly stands there, and that is seen at once.
+    pub fn read_piece(self, window: &[u8], last: bool) -> Read
+        ensures { λ r. ⌜ r ≡ pieceOf (self .at) (now (window .entry)) last ⌝ }
     {
-        let at = self.at as usize;
-        if packet_stands(s, at) {
-            return packet_of(&s[at..], Cursor { at: self.at + 16 });
+        let at = self.at;
+        if 1 < at {
+            if packet_stands(window) {
+                return packet_of(window, after_packet(at));
+            }
         }
-        self.read(s)
+        self.read_any(window, last)
     }
 
-    // What stands at the cursor, of which `window` shows the bytes from there on; `last`: no more will come.
-    pub fn read_piece(self, window: &[u8], last: bool) -> Read
+    // The same, whatever stands there.
+    fn read_any(self, window: &[u8], last: bool) -> Read
         ensures { λ r. ⌜ r ≡ pieceOf (self .at) (now (window .entry)) last ⌝ }
     {
         let at = self.at;
@@ -289,13 +297,7 @@ impl Cursor {
                 offset: at,
             };
         }
-        // An offset past 2^64 would wrap; no file is that long.
-        packet_of(
-            s,
-            Cursor {
-                at: std::num::wrapping_add_u64(at, 16),
-            },
-        )
+        packet_of(s, after_packet(at))
     }
 }
 
@@ -420,7 +422,7 @@ fn check_packets(numbers: Numbers, from: Cursor, s: &[u8]) -> Checked
     let mut cursor = from;
     let mut tally = Tally::none();
     loop {
-        let item = cursor.read_next(s);
+        let item = cursor.read(s);
         let Read::Packet {
             t,
             stamp: _,

@@ -1,67 +1,42 @@
--- What stands at the cursor, by a window: each return is one law, from the tests before it.
+-- A packet's record that stands in front is the answer (Standing); else any record is read.
 use mathlib.Core.Path.{sym, _∙_}
 use native.Mathlib.Omega.{arith}
+use Rattle.record.proofs.Standing.{stands, stands-packet}
 use borrow.Author.Needs.{needs}
-use Rattle.record.proofs.Items.{scrap-piece, piece-nought, piece-short, piece-waits, piece-whole}
 use Rattle.record.proofs.Cursor.read_piece.Statement.{statement}
 use Rattle.record.proofs.Cursor.read_piece.Tie as tie
 
-version-requires : tie.Need-version-requires
-version-requires c κs = search needs
+packet-stands-requires : tie.Need-packet-stands-requires
+packet-stands-requires c κs = search needs
+
+after-packet-requires : tie.Need-after-packet-requires
+after-packet-requires c κs = search needs
+
+packet-of-requires : tie.Need-packet-of-requires
+packet-of-requires c κs =
+    let seen = c .before in
+    let there = stands _ (sym (seen .before .packet-stands .ensures) ∙ seen .if2 .taken) in
+    record { inside = omega (arith, there .sixteen) }
 
 returns : tie.Need-returns
-returns c = cc
+returns c =
+    let seen = c .before .before in
+    let there = stands _ (sym (seen .before .packet-stands .ensures) ∙ seen .if2 .taken) in
+    c .packet-of .ensures ∙ rw (c .before .after-packet .ensures) (stands-packet _ _ _ (seen .before .before .if1 .taken) there)
 
-scrap-requires : tie.Need-scrap-requires
-scrap-requires c κs = search needs
+read-any-requires : tie.Need-read-any-requires
+read-any-requires c κs = search needs
 
 returns-2 : tie.Need-returns-2
-returns-2 c = c .scrap .ensures ∙ sym (scrap-piece _ _ _ (omega arith) (omega arith))
-
-read16-requires : tie.Need-read16-requires
-read16-requires c κs = search needs
-
-returns-3 : tie.Need-returns-3
-returns-3 c = sym (piece-nought _ _ _ (omega arith) (omega arith) (omega arith))
-
-sub-if4 : tie.Need-sub-if4
-sub-if4 c = search needs
-
-cast-if4 : tie.Need-cast-if4
-cast-if4 c = search needs
-
-returns-4 : tie.Need-returns-4
-returns-4 c = sym (piece-short _ _ _ (omega arith) (omega arith) (omega arith) (omega arith) (cc))
-
-returns-5 : tie.Need-returns-5
-returns-5 c = sym (piece-waits _ _ _ (omega arith) (omega arith) (omega arith) (omega arith) (cc))
-
-whole-record-requires : tie.Need-whole-record-requires
-whole-record-requires c κs = record {
-  past-version = omega arith;
-  length-read = c .before .before .read16 .ensures;
-  some-body = omega arith;
-  all-there = omega arith;
-}
-
-returns-6 : tie.Need-returns-6
-returns-6 c =
-    let start = c .before .before .before .before .before .before .before in
-    c .whole-record .ensures ∙ sym (piece-whole _ (whole-record-requires (c .before) (start .κs)))
+returns-2 c = search needs
 
 pub read-piece-spec : {M : Type 1} → statement M
 read-piece-spec =
     tie.close
     (tie.spec
-    version-requires
+    packet-stands-requires
+    after-packet-requires
+    packet-of-requires
     returns
-    scrap-requires
-    returns-2
-    read16-requires
-    returns-3
-    sub-if4
-    cast-if4
-    returns-4
-    returns-5
-    whole-record-requires
-    returns-6)
+    read-any-requires
+    returns-2)

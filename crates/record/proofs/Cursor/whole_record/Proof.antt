@@ -38,8 +38,8 @@ returns-4 c =
     let whole = c .before .before .before .before .before .before .pre in
     sym (whole-again-23 whole (omega arith) (c .before .if2 .left) (c .if4 .taken))
 
-wrapping-add-u64-requires : tie.Need-wrapping-add-u64-requires
-wrapping-add-u64-requires c κs = search needs
+after-packet-requires : tie.Need-after-packet-requires
+after-packet-requires c κs = search needs
 
 packet-of-requires : tie.Need-packet-of-requires
 packet-of-requires c κs =
@@ -62,6 +62,6 @@ whole-record-spec =
     parameters-of-requires
     returns-3
     returns-4
-    wrapping-add-u64-requires
+    after-packet-requires
     packet-of-requires
     returns-5)
