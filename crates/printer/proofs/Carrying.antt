@@ -36,7 +36,8 @@ use Rattle.timing.specs.Laws.InRange.{of-sound}
 use Rattle.timing.specs.Laws.Running.{step-numbers, step-past}
 use Rattle.printer.specs.declared.Walk.{Walk}
 use Rattle.printer.specs.Paper.{rowLines, sumLine, lastLine, linesOf, restOf}
-use Rattle.printer.specs.Step.{Took, lineOf, stays, stopsAt, andThen, packetOf, stepped, linesAt, packetBy, itemBy, walkBy, walkOf, takeOf}
+use Rattle.printer.specs.Step.{Took, lineOf, stays, stopsAt, andThen, packetOf, stepped, linesAt, packetBy, itemBy}
+use Rattle.printer.specs.Step.{walkBy, walkOf, takeOf}
 use Rattle.printer.specs.Step.{Ready}
 use Rattle.printer.specs.Drive.{Stands, restFrom}
 use Rattle.printer.proofs.Turning.{piece-sixteen, ready-next}

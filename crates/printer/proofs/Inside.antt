@@ -27,7 +27,8 @@ use Rattle.printer.specs.declared.Walk.{Walk}
 use Rattle.printer.specs.declared.Taken.{Taken}
 use Rattle.printer.specs.declared.Opened.{Opened}
 use Rattle.printer.specs.Paper.{streamOf}
-use Rattle.printer.specs.Step.{Took, unopenedOf, readyBy, readyOf, firstBy, versionBy, beginOf, Headed, packetOf, stepped, linesAt, itemBy, walkBy, takeOf, Takes}
+use Rattle.printer.specs.Step.{Took, unopenedOf, readyBy, readyOf, firstBy, versionBy, beginOf, Headed, packetOf}
+use Rattle.printer.specs.Step.{stepped, linesAt, itemBy, walkBy, takeOf, Takes}
 use Rattle.printer.proofs.Answers.{piece-item, some-window}
 use Rattle.printer.proofs.Turning.{piece-sixteen}
 

@@ -37,7 +37,8 @@ use Rattle.printer.specs.declared.Walk.{Walk}
 use Rattle.printer.specs.declared.Taken.{Taken}
 use Rattle.printer.specs.Paper.{rowLines}
 use Rattle.printer.proofs.Answers.{piece-item}
-use Rattle.printer.specs.Step.{Took, stays, stopsAt, andThen, packetOf, stepped, linesAt, itemBy, walkBy, walkOf, takeOf, Closes, Ready, Takes}
+use Rattle.printer.specs.Step.{Took, stays, stopsAt, andThen, packetOf, stepped, linesAt, itemBy, walkBy, walkOf}
+use Rattle.printer.specs.Step.{takeOf, Closes, Ready, Takes}
 
 -- ---- what a window's answer says of the window
 

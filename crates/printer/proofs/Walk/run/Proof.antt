@@ -6,7 +6,9 @@ use native.Mathlib.Omega.{arith}
 use lib.ListN.{length, drop}
 use denote.Ref.{now}
 use borrow.Author.Needs.{needs}
-use Rattle.printer.proofs.Turning.{walk-full, walk-stops, walk-refuses, ready-arrives, ready-closed, ready-closes, turn-marked, turn-plain, Loop, loop-begins, loop-stops, next-inside, next-turn, stays-takes, takes-length}
+use Rattle.printer.proofs.Turning.{walk-full, walk-stops, walk-refuses, ready-arrives, ready-closed, ready-closes}
+use Rattle.printer.proofs.Turning.{turn-marked, turn-plain, Loop, loop-begins, loop-stops, next-inside, next-turn}
+use Rattle.printer.proofs.Turning.{stays-takes, takes-length}
 use Rattle.printer.proofs.Answers.{read-rest}
 use Rattle.printer.specs.Step.{packetOf, walkOf, Ready}
 use Rattle.printer.proofs.Walk.run.Statement.{statement}
