@@ -167,7 +167,8 @@ stays-takes walk h = record {
   fits = h;
 }
 
-pub takes-length : {k : Took} {used written : ℕ} {out after : List ℕ} {r : Taken} → Takes k used written out r after → length after ≡ length out
+pub takes-length : {k : Took} {used written : ℕ} {out after : List ℕ} {r : Taken} → Takes k used written out r after
+    → length after ≡ length out
 takes-length {k} {written = written} {out} t = ap length (t .bytes) ∙ laid-length written (k .text) out
 
 -- ---- the loop: what is left of the window, from the walk and the lines so far, does what the whole call does
@@ -232,7 +233,8 @@ module _ {k₀ : Took} {out₀ : List ℕ} {used written : ℕ} {out : List ℕ}
     pub next-inside : used ≤ length w → used + 16 ≤ length w
     next-inside u = omega (arith, piece-sixteen _ _ _ e, length-drop used w)
 
-    pub loop-next : {s′ : State} {written′ : ℕ} {out′ : List ℕ} → Turn rules (walk .state) (packetOf t stamp marker) written out s′ written′ out′
+    pub loop-next : {s′ : State} {written′ : ℕ} {out′ : List ℕ}
+        → Turn rules (walk .state) (packetOf t stamp marker) written out s′ written′ out′
         → Loop k₀ out₀ (walkOf rules (record { at = c; state = s′ }) (drop (used + 16) w) last (length out′ - written′))
         (used + 16) written′ out′
     loop-next {s′} {written′} {out′} q =
