@@ -29,7 +29,7 @@ use Rattle.printer.specs.declared.Opened.{Opened}
 use Rattle.printer.specs.Paper.{streamOf}
 use Rattle.printer.specs.Step.{Took, unopenedOf, readyBy, readyOf, firstBy, versionBy, beginOf, Headed, packetOf}
 use Rattle.printer.specs.Step.{stepped, linesAt, itemBy, walkBy, takeOf, Takes}
-use Rattle.printer.proofs.Answers.{piece-item, some-window}
+use Rattle.printer.proofs.Answers.{piece-item}
 use Rattle.printer.proofs.Turning.{piece-sixteen}
 
 abbrev Inside : List ℕ → Took → Type 0

@@ -1,7 +1,6 @@
 -- The version byte and the parameters, each by the law of its answer.
-use mathlib.Core.Path.{sym, ap, _∙_}
+use mathlib.Core.Path.{_∙_}
 use denote.Ref.{now}
-use Rattle.record.proofs.Items.{rest-all}
 use Rattle.printer.proofs.Answers.{begins-not, begins-no-first, begins-first, read-at-0, read-rest, some-window}
 use borrow.Author.Needs.{needs}
 use Rattle.printer.proofs.begin.Statement.{statement}
