@@ -2,7 +2,7 @@
 use mathlib.Core.Path.{_≡_, refl, sym, ap, subst, _∙_}
 use mathlib.Core.Bool.{Bool, true, false, not}
 use mathlib.Core.List.{List, [], _∷_, append-nil}
-use Prim.Native.Nat.{ℕ, _+_, _-_, _≤_}
+use Prim.Native.Nat.{ℕ, _-_, _≤_}
 use native.Mathlib.Omega.{arith}
 use native.Mathlib.Nat.{add-zero}
 use lib.ListN.{length, take, drop}
@@ -25,7 +25,6 @@ use Rattle.record.proofs.Window.{item-within}
 use Rattle.timing.specs.declared.Rules.{Rules}
 use Rattle.timing.specs.declared.State.{State}
 use Rattle.timing.specs.Feed.{closing}
-use Rattle.printer.specs.declared.Opened.{Opened}
 use Rattle.printer.specs.declared.Opened.the-variants.{More as Wanting}
 use Rattle.printer.specs.Paper.{rowLines, sumLine}
 use Rattle.printer.specs.Step.{unopenedOf, readyOf, firstBy, versionBy, beginOf, lineOf}

@@ -2,7 +2,7 @@
 -- of the file's output is still to come. By what stands at the version byte and behind it.
 use mathlib.Core.Path.{_≡_, refl, sym, ap, subst, _∙_}
 use mathlib.Core.Bool.{Bool, true, false}
-use mathlib.Core.List.{List, [], _∷_, _++_}
+use mathlib.Core.List.{List, [], _++_}
 use Prim.Native.Nat.{ℕ, _+_, _≤_, _<_}
 use native.Mathlib.Omega.{arith}
 use lib.Dec.{eqb}
@@ -16,7 +16,7 @@ use Rattle.record.specs.declared.Cursor.{Cursor}
 use Rattle.record.specs.declared.Numbers.{Numbers}
 use Rattle.record.specs.declared.Read.{Read}
 use Rattle.record.specs.declared.Read.the-variants.{Version, Parameters, Packet, End, More, Refused}
-use Rattle.record.specs.Paper.{versionFits, numbersAt, formatRefusal, setUpOf, parametersRefusal, packetsIn, read}
+use Rattle.record.specs.Paper.{versionFits, setUpOf, parametersRefusal, packetsIn, read}
 use Rattle.record.specs.Step.{itemOf, pieceOf}
 use Rattle.record.specs.Pieces.{wantsMore, taken}
 use Rattle.record.proofs.Window.{item-within}

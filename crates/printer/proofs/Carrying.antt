@@ -3,7 +3,7 @@
 use mathlib.Core.Path.{_≡_, refl, sym, ap, subst, _∙_}
 use mathlib.Core.Bool.{Bool, true, false, not}
 use mathlib.Core.List.{List, [], _∷_, _++_, append-nil, append-assoc}
-use Prim.Native.Nat.{ℕ, zero, suc, _+_, _-_, _*_, _^_, _≤_, _<_}
+use Prim.Native.Nat.{ℕ, zero, suc, _+_, _-_, _^_, _≤_, _<_}
 use native.Mathlib.Omega.{arith}
 use native.Mathlib.Nat.{mod-eq-of-lt}
 use lib.Dec.{eqb, ltb}
@@ -24,21 +24,19 @@ use Rattle.record.specs.declared.Read.the-variants.{Version, Parameters, Packet
 use Rattle.record.specs.Paper.{packetAt, packetRefusal, Packets, packetsIn, more}
 use Rattle.record.specs.Step.{itemOf, pieceOf}
 use Rattle.record.specs.Pieces.{wantsMore}
-use Rattle.record.proofs.Items.{piece-enough}
 use Rattle.record.proofs.Reading.{second, before, packets-end, packets-stop, packets-go}
 use Rattle.record.proofs.Walking.{Says, item-says}
 use Rattle.record.proofs.InPieces.{piece-answers, last-answers}
 use Rattle.timing.specs.declared.Rules.{Rules}
 use Rattle.timing.specs.declared.State.{State}
 use Rattle.timing.specs.Step.{rulesOf, stepOf, rowsOf, stateAfter, rowsAfter}
-use Rattle.timing.specs.Range.{inRange}
 use Rattle.timing.specs.Laws.InRange.{of-sound}
 use Rattle.timing.specs.Laws.Running.{step-numbers, step-past}
 use Rattle.printer.specs.declared.Walk.{Walk}
 use Rattle.printer.specs.Paper.{rowLines, sumLine, lastLine, linesOf, restOf}
-use Rattle.printer.specs.Step.{Took, lineOf, stays, stopsAt, andThen, packetOf, stepped, linesAt, packetBy, itemBy, walkBy, walkOf, takeOf}
-use Rattle.printer.specs.Step.{Ready}
-use Rattle.printer.specs.Drive.{Stands, restFrom}
+use Rattle.printer.specs.Step.{Took, lineOf, stays, andThen, packetOf, stepped, linesAt, itemBy}
+use Rattle.printer.specs.Step.{walkBy, takeOf}
+use Rattle.printer.specs.Drive.{Stands}
 use Rattle.printer.proofs.Turning.{piece-sixteen, ready-next}
 
 -- ---- the lines of packets

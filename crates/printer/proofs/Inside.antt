@@ -27,8 +27,9 @@ use Rattle.printer.specs.declared.Walk.{Walk}
 use Rattle.printer.specs.declared.Taken.{Taken}
 use Rattle.printer.specs.declared.Opened.{Opened}
 use Rattle.report.specs.Paper.{streamOf}
-use Rattle.printer.specs.Step.{Took, unopenedOf, readyBy, readyOf, firstBy, versionBy, beginOf, Headed, packetOf, stepped, linesAt, itemBy, walkBy, takeOf, Takes}
-use Rattle.printer.proofs.Answers.{piece-item, some-window}
+use Rattle.printer.specs.Step.{Took, unopenedOf, readyBy, readyOf, firstBy, versionBy, beginOf, Headed, packetOf}
+use Rattle.printer.specs.Step.{stepped, linesAt, itemBy, walkBy, takeOf, Takes}
+use Rattle.printer.proofs.Answers.{piece-item}
 use Rattle.printer.proofs.Turning.{piece-sixteen}
 
 abbrev Inside : List ℕ → Took → Type 0
@@ -41,14 +42,21 @@ walk-inside (suc k) rules walk w last room =
     pick-either (Inside w) (ltb room 256) (λ e. omega arith)
     (λ e. go (pieceOf (walk .at .at) w last) refl (λ next left. walk-inside k rules next (drop 16 w) last left))
   where
-    go : (r : Read) → pieceOf (walk .at .at) w last ≡ r → ((next : Walk) (left : ℕ) → Inside (drop 16 w) (walkBy k rules next (drop 16 w) last left))
+    go : (r : Read) → pieceOf (walk .at .at) w last ≡ r
+        → ((next : Walk) (left : ℕ) → Inside (drop 16 w) (walkBy k rules next (drop 16 w) last left))
         → Inside w (itemBy rules walk room (λ next left. walkBy k rules next (drop 16 w) last left) r)
     go (Version c) e ih = omega arith
     go (Parameters x c) e ih = omega arith
     go (Packet t stamp marker c) e ih =
         let p = packetOf t stamp marker in
         pick-either (Inside w) (eqb (refusalOf (walk .state .past) t marker) 0)
-        (λ f. omega (arith, ih (stepped rules walk p c) (room - length (linesAt rules walk p)), piece-sixteen (walk .at .at) w last e, length-drop 16 w)) (λ f. omega arith)
+        (λ f. omega (
+          arith,
+          ih (stepped rules walk p c) (room - length (linesAt rules walk p)),
+          piece-sixteen (walk .at .at) w last e,
+          length-drop 16 w,
+        ))
+        (λ f. omega arith)
     go End e ih = omega arith
     go More e ih = omega arith
     go (Refused n o) e ih = omega arith
@@ -57,7 +65,8 @@ pub take-inside : (walk : Walk) (w : List ℕ) (last : Bool) (room : ℕ) → ta
 unfolding takeOf
 take-inside walk w last room =
     pick-either (Inside w) (ltb room 256) (λ e. omega arith)
-    (λ e. pick-either (Inside w) (inRange (walk .state)) (λ f. walk-inside _ (rulesOf (walk .state .numbers)) walk w last room) (λ f. omega arith))
+    (λ e. pick-either (Inside w) (inRange (walk .state))
+    (λ f. walk-inside _ (rulesOf (walk .state .numbers)) walk w last room) (λ f. omega arith))
 
 -- a walk begins where the window shows the version byte and the parameters
 
@@ -73,7 +82,8 @@ pub begin-headed : (w : List ℕ) (last : Bool) → Headed (beginOf w last) (len
 unfolding beginOf unopenedOf
 begin-headed w last = go (pieceOf 0 w last) refl
   where
-    first : {c : Cursor} → pieceOf 0 w last ≡ Version c → (at : ℕ) (r : Read) → pieceOf at (drop 1 w) last ≡ r → Headed (firstBy r) (length w)
+    first : {c : Cursor} → pieceOf 0 w last ≡ Version c → (at : ℕ) (r : Read)
+        → pieceOf at (drop 1 w) last ≡ r → Headed (firstBy r) (length w)
     first v at (Version c) e = tt
     first v at (Parameters x c) e =
         let i = piece-item at (drop 1 w) last _ e refl in

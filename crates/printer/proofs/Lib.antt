@@ -6,3 +6,4 @@ pub mod Carrying
 pub mod Beginning
 pub mod Progress
 pub mod Output
+pub mod Examples

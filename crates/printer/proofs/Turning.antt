@@ -2,11 +2,10 @@
 -- call stops; what the code asks of each packet holds, because the state stays in range.
 use mathlib.Core.Path.{_≡_, refl, sym, ap, subst, _∙_}
 use mathlib.Core.Bool.{Bool, true, false}
-use mathlib.Core.List.{List, [], _∷_, _++_}
+use mathlib.Core.List.{List, [], _∷_}
 use Prim.Native.Nat.{ℕ, suc, _+_, _-_, _/_, _≤_, _<_}
 use native.Mathlib.Omega.{arith}
 use native.Mathlib.Nat.{add-zero}
-use lib.Dec.{eqb, ltb}
 use lib.ListN.{length, drop, length-drop, length-append}
 use lib.Seq.{drop-drop}
 use borrow.Author.Tests.{eq-eqb, ne-eqb, lt-ltb, le-ltb}
@@ -37,7 +36,8 @@ use Rattle.printer.specs.declared.Walk.{Walk}
 use Rattle.printer.specs.declared.Taken.{Taken}
 use Rattle.printer.specs.Paper.{rowLines}
 use Rattle.printer.proofs.Answers.{piece-item}
-use Rattle.printer.specs.Step.{Took, stays, stopsAt, andThen, packetOf, stepped, linesAt, itemBy, walkBy, walkOf, takeOf, Closes, Ready, Takes}
+use Rattle.printer.specs.Step.{Took, stays, stopsAt, andThen, packetOf, stepped, linesAt, itemBy, walkBy, walkOf}
+use Rattle.printer.specs.Step.{takeOf, Closes, Ready, Takes}
 
 -- ---- what a window's answer says of the window
 
@@ -166,7 +166,8 @@ stays-takes walk h = record {
   fits = h;
 }
 
-pub takes-length : {k : Took} {used written : ℕ} {out after : List ℕ} {r : Taken} → Takes k used written out r after → length after ≡ length out
+pub takes-length : {k : Took} {used written : ℕ} {out after : List ℕ} {r : Taken} → Takes k used written out r after
+    → length after ≡ length out
 takes-length {k} {written = written} {out} t = ap length (t .bytes) ∙ laid-length written (k .text) out
 
 -- ---- the loop: what is left of the window, from the walk and the lines so far, does what the whole call does
@@ -231,7 +232,8 @@ module _ {k₀ : Took} {out₀ : List ℕ} {used written : ℕ} {out : List ℕ}
     pub next-inside : used ≤ length w → used + 16 ≤ length w
     next-inside u = omega (arith, piece-sixteen _ _ _ e, length-drop used w)
 
-    pub loop-next : {s′ : State} {written′ : ℕ} {out′ : List ℕ} → Turn rules (walk .state) (packetOf t stamp marker) written out s′ written′ out′
+    pub loop-next : {s′ : State} {written′ : ℕ} {out′ : List ℕ}
+        → Turn rules (walk .state) (packetOf t stamp marker) written out s′ written′ out′
         → Loop k₀ out₀ (walkOf rules (record { at = c; state = s′ }) (drop (used + 16) w) last (length out′ - written′))
         (used + 16) written′ out′
     loop-next {s′} {written′} {out′} q =

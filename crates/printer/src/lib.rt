@@ -6,6 +6,7 @@ ghost use mathlib.Core.Bool.{not};
 ghost use Prim.Native.Nat.{_+_, _≤_};
 ghost use lib.ListN.{length};
 ghost use Rattle.text.specs.Lines.{Put};
+ghost use Rattle.record.specs.declared.Read.the-variants.{Refused};
 ghost use Rattle.record.specs.Pieces.{wantsMore};
 ghost use Rattle.timing.specs.Feed.{closing};
 ghost use Rattle.printer.specs.Paper.{rowLines, sumLine};
@@ -82,6 +83,16 @@ pub fn begin(window: &[u8], last: bool) -> Opened
         return unopened(first);
     };
     ready(numbers, next)
+}
+
+// A packet that is refused ends the reading as a refused record does, at its own offset.
+fn refused(number: u8, at: Cursor) -> Read
+    ensures { λ r. ⌜ r ≡ Refused number (at .at) ⌝ }
+{
+    Read::Refused {
+        number: number,
+        offset: at.at,
+    }
 }
 
 // Whether reading ends where this stands; else it waits for more bytes.
@@ -176,7 +187,8 @@ impl Walk {
     // only where the loop ends: else the whole state would be copied for each packet.
     fn run(self, rules: Rules, window: &[u8], last: bool, out: &mut [u8]) -> Taken
         requires { ⌜ Ready rules self ⌝ }
-        ensures { λ r. ⌜ Takes (walkOf rules self (now (window .entry)) last (length (now (out .entry)))) 0 0 (now (out .entry)) r (now (out .exit)) ⌝ }
+        ensures { λ r. ⌜ Takes (walkOf rules self (now (window .entry)) last (length (now (out .entry)))) 0 0
+            (now (out .entry)) r (now (out .exit)) ⌝ }
     {
         let mut at = self.at;
         let mut s = self.state;
@@ -197,12 +209,8 @@ impl Walk {
             let past = s.past;
             let number = past.refusal(t, marker);
             if number != 0 {
-                let refused = Read::Refused {
-                    number: number,
-                    offset: at.at,
-                };
                 let walk = Walk { at: at, state: s };
-                return walk.stop(refused, used, out, written);
+                return walk.stop(refused(number, at), used, out, written);
             }
             s = s.arrive(rules, t, stamp);
             if marker == 1 {
@@ -223,7 +231,8 @@ impl Walk {
     // The records at the front of `window`, which shows the bytes from where the walk stands; `last`: no more will come. It goes on
     // while `out` has room for a line, until more bytes are wanted or the last line is written.
     pub fn take(self, window: &[u8], last: bool, out: &mut [u8]) -> Taken
-        ensures { λ r. ⌜ Takes (takeOf self (now (window .entry)) last (length (now (out .entry)))) 0 0 (now (out .entry)) r (now (out .exit)) ⌝ }
+        ensures { λ r. ⌜ Takes (takeOf self (now (window .entry)) last (length (now (out .entry)))) 0 0
+            (now (out .entry)) r (now (out .exit)) ⌝ }
     {
         let s = self.state;
         if out.len() < LINE {
@@ -235,11 +244,11 @@ impl Walk {
             };
         }
         if !s.in_range() {
-            let refused = Read::Refused {
+            let unmeasured = Read::Refused {
                 number: 9,
                 offset: 0,
             };
-            return self.stop(refused, 0, out, 0);
+            return self.stop(unmeasured, 0, out, 0);
         }
         let numbers = s.numbers;
         self.run(numbers.rules(), window, last, out)

@@ -1,7 +1,6 @@
 -- The version byte and the parameters, each by the law of its answer.
-use mathlib.Core.Path.{sym, ap, _∙_}
+use mathlib.Core.Path.{_∙_}
 use denote.Ref.{now}
-use Rattle.record.proofs.Items.{rest-all}
 use Rattle.printer.proofs.Answers.{begins-not, begins-no-first, begins-first, read-at-0, read-rest, some-window}
 use borrow.Author.Needs.{needs}
 use Rattle.printer.proofs.begin.Statement.{statement}
@@ -60,7 +59,8 @@ returns-3 c = let f = c .before .before in
     let r = o .before .before in
     let a = r .before .before .before .args in
     let version = read-at-0 _ _ (r .before .start .ensures) (r .read-piece .ensures) ∙ o .opening .given .1 in
-    c .ready .ensures ∙ begins-first (now (a .window)) (a .last) version (read-rest (now (a .window)) (a .last) _ 1 (f .before .before .read-piece2 .ensures) ∙ f .first .given .1)
+    c .ready .ensures ∙ begins-first (now (a .window)) (a .last) version
+    (read-rest (now (a .window)) (a .last) _ 1 (f .before .before .read-piece2 .ensures) ∙ f .first .given .1)
 
 pub begin-spec : {M : Type 1} → statement M
 begin-spec =

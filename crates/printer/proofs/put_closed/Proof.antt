@@ -16,7 +16,8 @@ same-length c = search needs
 returns : tie.Need-returns
 returns c = let row = c .before .before .before .before in
     let start = row .before .before .before .before .before in
-    put-is (row-line (start .args .rules) (start .args .s) (row .before .before .if1 .taken) (row .row .ensures)) (c .before .before .put-row .ensures)
+    put-is (row-line (start .args .rules) (start .args .s) (row .before .before .if1 .taken) (row .row .ensures))
+    (c .before .before .put-row .ensures)
 
 returns-2 : tie.Need-returns-2
 returns-2 c = let start = c .before .before .before in put-none _ _ (no-row (start .args .rules) (start .args .s) (c .if1 .left))

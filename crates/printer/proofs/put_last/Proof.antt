@@ -23,7 +23,8 @@ returns : tie.Need-returns
 returns c = let t = c .before .before .before .before in
     let e = t .before .ends in
     let start = t .before .before .before .before in
-    put-is (last-sum (start .args .s) _ (t .before .before .match .keys2) (sym (e .ensures) ∙ t .if1 .taken)) (c .before .before .put-sum .ensures)
+    put-is (last-sum (start .args .s) _ (t .before .before .match .keys2) (sym (e .ensures) ∙ t .if1 .taken))
+    (c .before .before .put-sum .ensures)
 
 returns-2 : tie.Need-returns-2
 returns-2 c = let e = c .before .ends in

@@ -1,6 +1,5 @@
 -- Set-up answers a fresh state or a refusal, and each is handed on.
-use mathlib.Core.Path.{sym, ap, _∙_}
-use Rattle.printer.specs.Step.{readyBy, readyOf}
+use Rattle.printer.specs.Step.{readyOf}
 use borrow.Author.Needs.{needs}
 use Rattle.printer.proofs.ready.Statement.{statement}
 use Rattle.printer.proofs.ready.Tie as tie

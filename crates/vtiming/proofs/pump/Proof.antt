@@ -1,14 +1,14 @@
 -- What is held stays within the window.
-use Prim.Native.Nat.{ℕ, _+_, _-_, _≤_, _<_}
+use Prim.Native.Nat.{_-_, _≤_}
 use mathlib.Core.Path.{_≡_}
-use native.Mathlib.Omega.{arith}
 use lib.ListN.{length}
 use borrow.Author.Needs.{needs}
 use Rattle.vtiming.proofs.pump.Statement.{statement}
 use Rattle.vtiming.proofs.pump.Tie as tie
 
 abbrev Inv-loop : tie.InvT-loop
-Inv-loop window₀ out₀ walk₀ held₀ turns₀ window out walk held turns = (length window ≡ length window₀) × (length out ≡ length out₀) × (held .bytes ≤ length window)
+Inv-loop window₀ out₀ walk₀ held₀ turns₀ window out walk held turns =
+    (length window ≡ length window₀) × (length out ≡ length out₀) × (held .bytes ≤ length window)
 
 abbrev μ-loop : tie.MeasureT-loop
 μ-loop window₀ out₀ walk₀ held₀ turns₀ window out walk held turns = turns

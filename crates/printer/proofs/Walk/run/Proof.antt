@@ -1,14 +1,19 @@
--- What is left of the window, from the walk and the lines so far, does what the whole call does; each turn is a law of one answer (Turning).
-use Prim.Native.Nat.{_+_, _-_, _≤_, _<_}
-use mathlib.Core.Path.{_≡_, refl, sym, ap, _∙_}
+-- What is left of the window, from the walk and the lines so far, does what the whole call does. Each turn is a law of one answer
+-- (Turning).
+use Prim.Native.Nat.{_-_, _≤_}
+use mathlib.Core.Path.{sym, ap, _∙_}
 use mathlib.Core.Logic.{⊎-elim}
 use native.Mathlib.Omega.{arith}
 use lib.ListN.{length, drop}
 use denote.Ref.{now}
 use borrow.Author.Needs.{needs}
-use Rattle.printer.proofs.Turning.{walk-full, walk-stops, walk-refuses, ready-arrives, ready-closed, ready-closes, turn-marked, turn-plain, Loop, loop-begins, loop-stops, next-inside, next-turn, stays-takes, takes-length}
+use Rattle.printer.proofs.Turning.{walk-full, walk-stops, walk-refuses, ready-arrives, ready-closed, ready-closes}
+use Rattle.printer.proofs.Turning.{turn-marked, turn-plain, Loop, loop-begins, loop-stops, next-inside, next-turn}
+use Rattle.printer.proofs.Turning.{stays-takes, takes-length}
 use Rattle.printer.proofs.Answers.{read-rest}
-use Rattle.printer.specs.Step.{packetOf, walkOf, Ready}
+use Rattle.record.specs.declared.Read.{Read}
+use Rattle.printer.specs.declared.Walk.{Walk}
+use Rattle.printer.specs.Step.{stopsAt, packetOf, walkOf, Ready}
 use Rattle.printer.proofs.Walk.run.Statement.{statement}
 use Rattle.printer.proofs.Walk.run.Tie as tie
 
@@ -67,27 +72,31 @@ returns c =
 refusal-requires : tie.Need-refusal-requires Inv-loop μ-loop
 refusal-requires c κs = search needs
 
+refused-requires : tie.Need-refused-requires Inv-loop μ-loop
+refused-requires c κs = search needs
+
 stop-requires-2 : tie.Need-stop-requires-2 Inv-loop μ-loop
 stop-requires-2 c κs = search needs
 
 same-length-2 : tie.Need-same-length-2 Inv-loop μ-loop
 same-length-2 c =
-    let l = c .before .before .before .before .before .before .before .before .before .before .before .before .before .loop in
+    let l = c .before .before .before .before .before .before .before .before .before .before .before .before .before .before .loop in
     takes-length (c .before .before .stop2 .ensures) ∙ l .inv .0 .same-length
 
 returns-2 : tie.Need-returns-2 Inv-loop μ-loop
 returns-2 c =
-    let refused = c .before .before .before .before in
+    let named = c .before .before .before .before in
+    let refused = named .before in
     let i = refused .before .before .before .before in
     let r = i .before .before in
     let turn = r .before .before in
     let l = turn .before .loop in
     let a = turn .before .before .before .before .before .before .args in
+    let walk : Walk = record { at = l .at; state = l .s } in
     let here = read-rest (now (a .window)) (a .last) _ (l .used) (r .read-piece .ensures) ∙ i .item .given .1 in
-    loop-stops (l .inv .0)
-    (walk-refuses (a .rules) (record { at = l .at; state = l .s }) (drop (l .used) (now (a .window))) (a .last) _ (turn .loop-test .taken) here _
-    (refused .before .refusal .ensures) (refused .if1 .taken))
-    (c .before .before .stop2 .ensures)
+    let stops = walk-refuses (a .rules) walk (drop (l .used) (now (a .window))) (a .last) _ (turn .loop-test .taken) here _
+    (refused .before .refusal .ensures) (refused .if1 .taken) in
+    loop-stops (l .inv .0) (stops ∙ ap (λ (x : Read). stopsAt x walk) (sym (named .refused .ensures))) (c .before .before .stop2 .ensures)
 
 arrive-requires : tie.Need-arrive-requires Inv-loop μ-loop
 arrive-requires c κs =
@@ -151,7 +160,8 @@ loop-again c =
     let a = start .args in
     let here = read-rest (now (a .window)) (a .last) _ (l .used) (r .read-piece .ensures) ∙ i .item .given .1 in
     let not-refused = sym (fine .if1 .left) ∙ fine .before .refusal .ensures in
-    next-turn (a .rules) (record { at = l .at; state = l .s }) (now (a .window)) (a .last) (l .inv .0) (turn .loop-test .taken) here not-refused
+    next-turn (a .rules) (record { at = l .at; state = l .s }) (now (a .window)) (a .last) (l .inv .0)
+    (turn .loop-test .taken) here not-refused
     (l .inv .1) (l .inv .2)
     (⊎-elim
     (λ w. rw (w .6, w .7, w .8)
@@ -169,7 +179,8 @@ returns-3 c =
     let l = c .before .loop in
     let a = c .before .before .before .before .before .before .args in
     loop-stops (l .inv .0)
-    (walk-full (a .rules) (record { at = l .at; state = l .s }) (drop (l .used) (now (a .window))) (a .last) _ (omega (arith, c .loop-test .left)))
+    (walk-full (a .rules) (record { at = l .at; state = l .s }) (drop (l .used) (now (a .window))) (a .last) _
+    (omega (arith, c .loop-test .left)))
     (stays-takes (record { at = l .at; state = l .s }) (l .inv .3))
 
 pub run-spec : {M : Type 1} → statement M
@@ -189,6 +200,7 @@ run-spec =
     same-length
     returns
     refusal-requires
+    refused-requires
     stop-requires-2
     same-length-2
     returns-2

@@ -45,7 +45,8 @@ returns-3 c = let t = c .before .before .before .before .before .before in
     let r = t .before .in-range in
     let a = t .before .before .before .before .before .before .args in
     take-runs (a .self) (now (a .window)) (a .last) (now (a .out)) (omega (arith, t .before .before .if1 .left))
-    (sym (r .ensures) ∙ not-false (r .result) (t .if2 .left)) (c .before .before .before .before .rules .ensures) (c .before .before .run .ensures)
+    (sym (r .ensures) ∙ not-false (r .result) (t .if2 .left)) (c .before .before .before .before .rules .ensures)
+    (c .before .before .run .ensures)
 
 pub take-spec : {M : Type 1} → statement M
 take-spec =

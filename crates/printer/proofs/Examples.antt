@@ -1,0 +1,41 @@
+-- Document 01's own file and its whole output, and the empty file's: the definitions compute to the lines as they are printed there.
+use mathlib.Core.Path.{_≡_, refl}
+use mathlib.Core.List.{List, [], _∷_, _++_}
+use Prim.Native.Nat.{ℕ}
+use Rattle.laws.specs.Count.{count}
+use Rattle.laws.specs.Fold.{fold}
+use Rattle.grain.specs.Paper.{nearest, phase, encoded}
+use Rattle.limits.specs.Fraction.{int}
+use Rattle.limits.specs.Paper.{frameLength, activeRatio, classOf, cMax, vrxFull, defaultTro, troGrains, troFits, firstNo, setUpRefusal}
+use Rattle.packet.specs.Step.{refusalOf}
+use Rattle.bucket.specs.Step as B
+use Rattle.frame.specs.Step as F
+use Rattle.bigendian.specs.Number.{numberOf}
+use Rattle.text.specs.Decimal.{codes, digitsOf}
+use Rattle.text.specs.Lines.{fields, rowLine, summaryLine, refusalLine}
+use Rattle.record.specs.Paper.{kindLength, formatRefusal, packetsBy, readingOf}
+use Rattle.timing.specs.Step.{rulesOf, arriveOf, markOf, stepOf, rowsAfter}
+use Rattle.printer.specs.Paper.{rowLines, outputOf}
+
+-- the version byte, parameters 6, 0, 1, height 1080, n 4, 1460, default TRO
+abbrev head : List ℕ
+head = 1 ∷ 0 ∷ 16 ∷ 1 ∷ 6 ∷ 0 ∷ 1 ∷ 4 ∷ 56 ∷ 0 ∷ 0 ∷ 0 ∷ 4 ∷ 5 ∷ 180 ∷ 255 ∷ 255 ∷ 255 ∷ 255 ∷ []
+
+-- five packets: 19000000 0 1; 20700000 1800 0; 25500000 1800 0; 30300000 1800 0; 35100000 1800 1
+abbrev packets : List ℕ
+packets =
+    0 ∷ 14 ∷ 2 ∷ 0 ∷ 0 ∷ 0 ∷ 0 ∷ 1 ∷ 33 ∷ 234 ∷ 192 ∷ 0 ∷ 0 ∷ 0 ∷ 0 ∷ 1
+    ∷ 0 ∷ 14 ∷ 2 ∷ 0 ∷ 0 ∷ 0 ∷ 0 ∷ 1 ∷ 59 ∷ 219 ∷ 96 ∷ 0 ∷ 0 ∷ 7 ∷ 8 ∷ 0
+    ∷ 0 ∷ 14 ∷ 2 ∷ 0 ∷ 0 ∷ 0 ∷ 0 ∷ 1 ∷ 133 ∷ 25 ∷ 96 ∷ 0 ∷ 0 ∷ 7 ∷ 8 ∷ 0
+    ∷ 0 ∷ 14 ∷ 2 ∷ 0 ∷ 0 ∷ 0 ∷ 0 ∷ 1 ∷ 206 ∷ 87 ∷ 96 ∷ 0 ∷ 0 ∷ 7 ∷ 8 ∷ 0
+    ∷ 0 ∷ 14 ∷ 2 ∷ 0 ∷ 0 ∷ 0 ∷ 0 ∷ 2 ∷ 23 ∷ 149 ∷ 96 ∷ 0 ∷ 0 ∷ 7 ∷ 8 ∷ 1
+    ∷ []
+
+pub file-output : outputOf (head ++ packets)
+    ≡ codes "frame 0 0 0 18900000 0 18900000 1740000 45900000 1 0\npackets 5 frames 1 peak 2 network pass buffer pass\n"
+unfolding outputOf rowLines rowLine fields digitsOf summaryLine refusalLine setUpRefusal firstNo troFits frameLength activeRatio classOf cMax vrxFull int troGrains defaultTro nearest phase encoded count fold rulesOf arriveOf markOf stepOf rowsAfter B.stepOf F.openedOf F.countedOf F.kindOf F.wholeRow F.rowOf F.answerOf F.joined F.arriveOf F.closeOf F.rowsOf readingOf packetsBy formatRefusal kindLength numberOf refusalOf
+file-output = refl
+
+pub empty-output : outputOf [] ≡ codes "refused 20 0\n"
+unfolding outputOf readingOf refusalLine digitsOf
+empty-output = refl
