@@ -74,7 +74,8 @@ bytes-join j k x h =
     let long : length whole ≡ j + k = rw (length-append, length-bytes j, length-bytes k) in
     let same : numberOf whole ≡ x =
     rw (number-join, number-bytes j _ high, number-bytes k _ low, length-bytes) (div-add-mod' x (256 ^ k)) in
-    rw (long, same) at (bytes-number whole (bytes-append (bytesOf j (x / 256 ^ k)) (bytesOf k (x % 256 ^ k)) (bytes-small j _ high) (bytes-small k _ low)))
+    let small = bytes-append (bytesOf j (x / 256 ^ k)) (bytesOf k (x % 256 ^ k)) (bytes-small j _ high) (bytes-small k _ low) in
+    rw (long, same) at (bytes-number whole small)
 
 -- at a place of a list
 

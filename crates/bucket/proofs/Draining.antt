@@ -1,5 +1,5 @@
--- Instant by instant: the packets up to i are the drains that found one, up to its arrival, and the level. Between two arrivals the drains see
--- the same packets, so they take one each until none is left.
+-- Instant by instant: the packets up to i are the drains that found one, up to its arrival, and the
+-- level. Between two arrivals the drains see the same packets, so they take one each until none is left.
 use mathlib.Core.Path.{_≡_, refl, sym, ap, _∙_}
 use mathlib.Core.Logic.{_⊎_, inl, inr}
 use mathlib.Core.Bool.{Bool, true, false, not, _&&_}

@@ -1,4 +1,5 @@
--- The level after packet b bounds every run that ends there and is met by the run it names, and later starts have strictly less. Over any D.
+-- The level after packet b bounds every run that ends there and is met
+-- by the run it names, and later starts have strictly less. Over any D.
 use mathlib.Core.Path.{_≡_, refl, ap}
 use mathlib.Core.Logic.{_⊎_, inl, inr}
 use mathlib.Core.Bool.{Bool, true, false}

@@ -1,5 +1,5 @@
--- The owner's words about the bucket as theorems: of the bucket that a history of ordered arrivals declares, level, peak, answer and conservation.
--- The idea: sums of naturals (Levels, Runs) are turned into the signed excess once, here.
+-- The owner's words about the bucket as theorems: of the bucket that a history of ordered arrivals declares, level,
+-- peak, answer and conservation. The idea: sums of naturals (Levels, Runs) are turned into the signed excess once, here.
 use mathlib.Core.Path.{_≡_, refl, sym, ap, _∙_}
 use mathlib.Core.Logic.{_↔_}
 use mathlib.Core.Bool.{Bool, true, false, not, _&&_}
@@ -20,7 +20,8 @@ use Rattle.grain.proofs.InstantCount.{instants-are, instants-grow}
 use Rattle.bucket.specs.declared.Run.{Run}
 use Rattle.bucket.specs.declared.Network.{Network}
 use Rattle.bucket.specs.declared.Network.the-variants.{Pass, Burst}
-use Rattle.bucket.specs.Paper.{History, elapsed, drains, found, level, IsRun, drainsRun, excess, GreatestEnding, GreatestExcess, Fails, FirstFailing, NetworkIs}
+use Rattle.bucket.specs.Paper.{History, elapsed, drains, found, level, IsRun, drainsRun, excess, GreatestEnding, GreatestExcess}
+use Rattle.bucket.specs.Paper.{Fails, FirstFailing, NetworkIs}
 use Rattle.bucket.specs.Step.{levelAt, startAt, networkAt, bucketAt}
 use Rattle.bucket.proofs.Levels.{level-one, level-bound, level-named}
 use Rattle.bucket.proofs.Runs.{Above, Peak, peak-is, First, OfRuns, of-runs}
@@ -177,8 +178,8 @@ module _ (h : History) (p : 0 < h .frame) (ordered : Ordered h) where
         none = k .none;
       }
 
-  -- "the network verdict passes exactly when no run's excess is above the class limit, else it names the failing run that ends first and, of
-  -- those, starts last"
+  -- "the network verdict passes exactly when no run's excess is above the class
+  -- limit, else it names the failing run that ends first and, of those, starts last"
   pub network-first : (limit : ℕ) → NetworkIs h limit ((bucketAt (drains h) limit (h .packets)) .network)
   network-first limit = rw (network-at limit (h .packets))
       (go (networkAt (drains h) limit (h .packets)) (of-runs (drains h) limit (h .packets) drains-grow))

@@ -1,4 +1,5 @@
--- Peak and first burst in sums of naturals, over any D: the peak is the greatest level, and the first level above the limit names the first burst.
+-- Peak and first burst in sums of naturals, over any D: the peak is the
+-- greatest level, and the first level above the limit names the first burst.
 use mathlib.Core.Path.{_≡_, refl, ap}
 use mathlib.Core.Bool.{Bool, true, false}
 use Prim.Native.Nat.{ℕ, zero, suc, _+_, _-_, _≤_, _<_}

@@ -1,4 +1,5 @@
--- Document 01's section "The bucket" and demand 3's words on it, over the whole history by place: m packets, packet i arriving at a i grains.
+-- Document 01's section "The bucket" and demand 3's words on it, over the
+-- whole history by place: m packets, packet i arriving at a i grains.
 use mathlib.Core.Path.{_≡_}
 use mathlib.Core.Bool.{Bool, not, _&&_}
 use Prim.Native.Nat.{ℕ, zero, suc, _+_, _-_, _*_, _≤_, _<_}
@@ -24,7 +25,8 @@ module _ (h : History) where
   abbrev pub elapsed : ℕ → ℕ
   elapsed i = h .arrival i - h .arrival 0
 
-  -- "Drain instants lie k·10F/(11n) grains after the first packet of the history, k = 1, 2, and so on": how many are up to packet i's arrival
+  -- "Drain instants lie k·10F/(11n) grains after the first packet of the
+  -- history, k = 1, 2, and so on": how many are up to packet i's arrival
   abbrev pub drains : ℕ → ℕ
   drains i = instants (elapsed i) (10 * h .frame) (11 * h .perFrame)
 

@@ -1,4 +1,5 @@
--- The bucket step by step, as the code goes: each packet by the drain instants since the packet before it. D i are those up to packet i's arrival.
+-- The bucket step by step, as the code goes: each packet by the drain instants
+-- since the packet before it. D i are those up to packet i's arrival.
 use mathlib.Core.Bool.{Bool, true, false}
 use Prim.Native.Nat.{ℕ, zero, suc, _+_, _-_, _≤_, _<_, max}
 use lib.Dec.{leb, ltb}

@@ -1,5 +1,5 @@
--- "Both sides of each limit": the twelve cases of document 01 as one list under one claim, that what the definitions give is what the paper gives.
--- Each case stands under its words. Numbers of any kind are written as integers, one list a side.
+-- "Both sides of each limit": the twelve cases of document 01 as one list under one claim, that what the definitions give
+-- is what the paper gives. Each case stands under its words. Numbers of any kind are written as integers, one list a side.
 use mathlib.Core.Path.{_≡_, refl}
 use mathlib.Core.List.{List, [], _∷_, _++_, map}
 use Prim.Native.Nat.{ℕ, _*_}
@@ -13,14 +13,15 @@ use Rattle.packet.specs.Paper.{Packet}
 use Rattle.packet.specs.Step.{refusalOf}
 use Rattle.bucket.specs.Paper.{networkNumber, networkFirst, networkLast}
 use Rattle.bucket.specs.Step as B
-use Rattle.frame.specs.Paper.{since, levelOf, bufferNumber, bufferFrame, bufferPlace}
+use Rattle.frame.specs.Paper.{since, levelOf}
 use Rattle.frame.specs.Step as F
 use Rattle.bigendian.specs.Number.{numberOf}
-use Rattle.record.specs.declared.Numbers.{Numbers}
 use Rattle.record.specs.Paper.{kindLength, formatRefusal, packetsBy, readingOf, File, file, refused, fileOf}
+use Rattle.report.specs.Paper.{streamOf, reportOf}
 use Rattle.timing.specs.declared.StreamNumbers.{StreamNumbers}
 use Rattle.timing.specs.declared.State.{State}
 use Rattle.timing.specs.Step.{rulesOf, freshOf, arriveOf, markOf, stepOf, stateAfter, rowsAfter, numbers}
+use Rattle.timing.specs.Answers.{summaryOf}
 use Rattle.timing.specs.History.{frameHistory}
 
 pub record Case : Type 0 where
@@ -44,13 +45,6 @@ packet t stamp marker = record { time = t; stamp = stamp; marker = marker }
 abbrev rate6 : ℕ → ℕ → StreamNumbers
 rate6 n tro = record { rate = 6; schedule = 0; class = 1; height = 1080; n = n; maxudp = 1460; tro = tro }
 
--- the nine numbers of the C call: packets, frames, peak; network, first, last; buffer, frame, place
-abbrev nine : State → List ℤ
-nine s =
-    pos (s .past .packets) ∷ pos (s .frames .closed) ∷ pos (s .bucket .peak)
-    ∷ pos (networkNumber (s .bucket .network)) ∷ pos (networkFirst (s .bucket .network)) ∷ pos (networkLast (s .bucket .network))
-    ∷ pos (bufferNumber (s .frames .buffer)) ∷ pos (bufferFrame (s .frames .buffer)) ∷ pos (bufferPlace (s .frames .buffer)) ∷ []
-
 abbrev network : State → List ℤ
 network s = pos (networkNumber (s .bucket .network)) ∷ pos (networkFirst (s .bucket .network)) ∷ pos (networkLast (s .bucket .network)) ∷ []
 
@@ -68,16 +62,13 @@ late-by t = packet 19000000 0 1 ∷ packet t 1800 0 ∷ packet 25500000 1800 0 �
 abbrev first-level : List Packet → List ℤ
 first-level l = levelOf (rulesOf (rate6 4 700) .plan) (frameHistory (rate6 4 700) l) 1 0 ∷ []
 
--- a whole file: the rows and the nine numbers, or the refusal's number and offset
-abbrev streamOf : Numbers → StreamNumbers
-streamOf s = record { rate = s .rate; schedule = s .schedule; class = s .class; height = s .height; n = s .n; maxudp = s .maxudp; tro = s .tro }
-
+-- a whole file: the nine numbers and the rows of the C call, or the refusal's number and offset
 abbrev measured : File → List ℤ
-measured (file s l) = rows (streamOf s) l ++ nine (after (streamOf s) l)
+measured (file s l) = reportOf (streamOf s) l
 measured (refused number offset) = pos number ∷ pos offset ∷ []
 
--- "parameters 6, 0, 1, height 1080, n 4, 1460, default TRO and five packets (nanoseconds, timestamp, marker): 19000000 0 1; 20700000 1800 0;
--- 25500000 1800 0; 30300000 1800 0; 35100000 1800 1"
+-- "parameters 6, 0, 1, height 1080, n 4, 1460, default TRO and five packets (nanoseconds, timestamp,
+-- marker): 19000000 0 1; 20700000 1800 0; 25500000 1800 0; 30300000 1800 0; 35100000 1800 1"
 abbrev the-file : List ℕ
 the-file =
     1
@@ -115,17 +106,18 @@ cases =
     ∷ (rows (rate6 4 700) (late-by 20700001)
     gives (pos 0 ∷ pos 0 ∷ pos 0 ∷ pos 18900027 ∷ pos 0 ∷ pos 18900027 ∷ negℤ (pos 27) ∷ pos 45900027 ∷ pos 1 ∷ negℤ (pos 1) ∷ []))
     -- 9. "Five packets at one instant, C_MAX 4: burst 0 4."
-    ∷ (network (after (rate6 4 700) (packet 5 0 0 ∷ packet 5 0 0 ∷ packet 5 0 0 ∷ packet 5 0 0 ∷ packet 5 0 0 ∷ [])) gives (pos 1 ∷ pos 0 ∷ pos 4 ∷ []))
+    ∷ (network (after (rate6 4 700) (packet 5 0 0 ∷ packet 5 0 0 ∷ packet 5 0 0 ∷ packet 5 0 0 ∷ packet 5 0 0 ∷ []))
+    gives (pos 1 ∷ pos 0 ∷ pos 4 ∷ []))
     -- 10. "t 47,721,858,844,445 with timestamp 4,294,967,295: VL −1,288,490,188,499,985."
     ∷ ((latency (27 * 47721858844445) 4294967295 ∷ []) gives (negℤ (pos 1288490188499985) ∷ []))
     -- 11. "The file above.": its row, and packets 5, frames 1, peak 2, network pass, buffer pass
     ∷ (measured (fileOf the-file)
-    gives (pos 0 ∷ pos 0 ∷ pos 0 ∷ pos 18900000 ∷ pos 0 ∷ pos 18900000 ∷ pos 1740000 ∷ pos 45900000 ∷ pos 1 ∷ pos 0
-    ∷ pos 5 ∷ pos 1 ∷ pos 2 ∷ pos 0 ∷ pos 0 ∷ pos 0 ∷ pos 1 ∷ pos 0 ∷ pos 0 ∷ []))
+    gives (pos 5 ∷ pos 1 ∷ pos 2 ∷ pos 0 ∷ pos 0 ∷ pos 0 ∷ pos 1 ∷ pos 0 ∷ pos 0
+    ∷ pos 0 ∷ pos 0 ∷ pos 0 ∷ pos 18900000 ∷ pos 0 ∷ pos 18900000 ∷ pos 1740000 ∷ pos 45900000 ∷ pos 1 ∷ pos 0 ∷ []))
     -- 12. "The empty file: 20.", at offset 0
     ∷ (measured (fileOf []) gives (pos 20 ∷ pos 0 ∷ []))
     ∷ []
 
 pub cases-hold : map (λ c. c .got) cases ≡ map (λ c. c .want) cases
-unfolding cases setUpRefusal firstNo troFits frameLength activeRatio classOf cMax vrxFull int troGrains defaultTro nearest phase encoded count fold rulesOf arriveOf markOf stepOf rowsAfter numbers B.stepOf F.openedOf F.countedOf F.kindOf F.wholeRow F.rowOf F.answerOf F.joined F.arriveOf F.closeOf F.rowsOf since readingOf packetsBy formatRefusal kindLength numberOf refusalOf
+unfolding cases setUpRefusal firstNo troFits frameLength activeRatio classOf cMax vrxFull int troGrains defaultTro nearest phase encoded count fold rulesOf arriveOf markOf stepOf rowsAfter numbers summaryOf B.stepOf F.openedOf F.countedOf F.kindOf F.wholeRow F.rowOf F.answerOf F.joined F.arriveOf F.closeOf F.rowsOf since readingOf packetsBy formatRefusal kindLength numberOf refusalOf
 cases-hold = refl

@@ -27,14 +27,18 @@ no-set-up x rows out ts ss ms e g =
     let w = ap (λ (z : SetUp). from z rows out ts ss ms) (sym g ∙ e) in
     record { number-is = ap (λ (t : Told). t .number) w; rows-are = ap (λ (t : Told). t .rows) w; out-is = ap (λ (t : Told). t .out) w }
 
-pub call-refused : (x : StreamNumbers) (rows : List ℤ) (out ts ss ms : List ℕ) {a : SetUp} {s z : State} {b : Fed} {after : List ℤ} {k place : ℕ}
-    → a ≡ setUpAs x → a ≡ Fresh s → Fed-Is (feedOf s rows ts ss ms) b after → b ≡ Refused k place z → Is (wholeOf x rows out ts ss ms) k after out
+pub call-refused : (x : StreamNumbers) (rows : List ℤ) (out ts ss ms : List ℕ) {a : SetUp} {s z : State} {b : Fed}
+    {after : List ℤ} {k place : ℕ}
+    → a ≡ setUpAs x → a ≡ Fresh s → Fed-Is (feedOf s rows ts ss ms) b after → b ≡ Refused k place z
+    → Is (wholeOf x rows out ts ss ms) k after out
 call-refused x rows out ts ss ms {after = after} e g f h =
     let w = ap (λ (b : Fed). byFed b after out) (sym h) ∙ answered x rows out ts ss ms e g f in
     record { number-is = ap (λ (t : Told). t .number) w; rows-are = ap (λ (t : Told). t .rows) w; out-is = ap (λ (t : Told). t .out) w }
 
-pub call-accepted : (x : StreamNumbers) (rows : List ℤ) (out ts ss ms : List ℕ) {a : SetUp} {s z : State} {b : Fed} {after : List ℤ} {then : List ℕ}
-    → a ≡ setUpAs x → a ≡ Fresh s → Fed-Is (feedOf s rows ts ss ms) b after → b ≡ Accepted z → then ≡ summed z out → Is (wholeOf x rows out ts ss ms) 0 after then
+pub call-accepted : (x : StreamNumbers) (rows : List ℤ) (out ts ss ms : List ℕ) {a : SetUp} {s z : State} {b : Fed}
+    {after : List ℤ} {then : List ℕ}
+    → a ≡ setUpAs x → a ≡ Fresh s → Fed-Is (feedOf s rows ts ss ms) b after → b ≡ Accepted z
+    → then ≡ summed z out → Is (wholeOf x rows out ts ss ms) 0 after then
 call-accepted x rows out ts ss ms {after = after} e g f h o =
     let w = ap (λ (b : Fed). byFed b after out) (sym h) ∙ answered x rows out ts ss ms e g f in
     record { number-is = ap (λ (t : Told). t .number) w; rows-are = ap (λ (t : Told). t .rows) w; out-is = o ∙ ap (λ (t : Told). t .out) w }

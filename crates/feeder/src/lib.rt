@@ -2,6 +2,7 @@
 // that C can call `feed` over its own arrays; bench/ times it against a C twin.
 // It knows set-up and feeding, and the paper's numbers for the answers. It must never measure anything itself.
 ghost use mathlib.Core.Path.{_≡_};
+ghost use Rattle.timing.specs.Step.{streamWith};
 ghost use Rattle.feeder.specs.Whole.{summed, wholeOf, Is};
 use timing::Fed;
 use timing::SUMMARY;
@@ -41,7 +42,8 @@ pub extern "C" fn vtiming_feed(
     rows: &mut [i64],
     out: &mut [u64],
 ) -> u8
-    ensures { λ r. ⌜ Is (wholeOf (record { rate = rate; schedule = schedule; class = class; height = height; n = n; maxudp = maxudp; tro = tro }) (now (rows .entry)) (now (out .entry)) (now (arrivals .entry)) (now (stamps .entry)) (now (markers .entry))) r (now (rows .exit)) (now (out .exit)) ⌝ }
+    ensures { λ r. ⌜ Is (wholeOf (streamWith rate schedule class height n maxudp tro) (now (rows .entry)) (now (out .entry))
+        (now (arrivals .entry)) (now (stamps .entry)) (now (markers .entry))) r (now (rows .exit)) (now (out .exit)) ⌝ }
 {
     let numbers = StreamNumbers {
         rate,

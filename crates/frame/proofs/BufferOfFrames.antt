@@ -17,7 +17,8 @@ use Rattle.frame.specs.declared.Plan.{Plan}
 use Rattle.frame.specs.declared.Place.{Place}
 use Rattle.frame.specs.declared.Buffer.{Buffer}
 use Rattle.frame.specs.declared.Buffer.the-variants.{None, Pass, Under, Over}
-use Rattle.frame.specs.Paper.{History, closesAt, numberAt, since, kindAt, arrival, firstRead, readsTo, arrivedBy, PeakIs, LeastIs, late, Dry, Overfull, Whole, Fails, dry, overfull, UnderAt, OverAt, BufferIs}
+use Rattle.frame.specs.Paper.{History, closesAt, numberAt, since, kindAt, arrival, firstRead, readsTo, arrivedBy, PeakIs, LeastIs}
+use Rattle.frame.specs.Paper.{late, Dry, Overfull, Whole, Fails, dry, overfull, UnderAt, OverAt, BufferIs}
 use Rattle.frame.specs.Step.{kindOf, answerOf, joined}
 use Rattle.frame.specs.ByPlace.{closedAt, answerAt, bufferAt}
 use Rattle.frame.specs.Range.{Planned}

@@ -1,5 +1,5 @@
--- Reads and arrivals of n packets: packet i is there by read j exactly when the reads before it are at most j. From it: least is minus the greatest
--- lack at an arrival, the peak is the greatest level, and the buffer runs dry exactly when a packet comes after its read.
+-- Reads and arrivals of n packets: packet i is there by read j exactly when the reads before it are at most j. From it: least is minus
+-- the greatest lack at an arrival, the peak is the greatest level, and the buffer runs dry exactly when a packet comes after its read.
 use mathlib.Core.Path.{_≡_, refl, sym, ap, _∙_}
 use mathlib.Core.Bool.{Bool, true, false}
 use Prim.Native.Nat.{ℕ, zero, suc, _+_, _-_, _*_, _≤_, _<_}

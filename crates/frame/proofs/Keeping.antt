@@ -1,5 +1,5 @@
--- What the open frame keeps, packet by packet, is what its packets say: one step goes from what k packets say to what k + 1 say. And its times, taken
--- from the first packet on, are those of the paper.
+-- What the open frame keeps, packet by packet, is what its packets say: one step goes from what k
+-- packets say to what k + 1 say. And its times, taken from the first packet on, are those of the paper.
 use mathlib.Core.Path.{_≡_, refl, sym, ap, _∙_}
 use mathlib.Core.Bool.{Bool, true, false}
 use Prim.Native.Nat.{ℕ, zero, suc, _+_, _-_, _*_, _≤_, _<_}

@@ -14,7 +14,8 @@ use Rattle.frame.specs.declared.Frames.{Frames}
 use Rattle.frame.specs.declared.Buffer.{Buffer}
 use Rattle.frame.specs.declared.Buffer.the-variants.{None, Pass, Under, Over}
 use Rattle.frame.specs.Paper.{bufferFrame, bufferPlace}
-use Rattle.frame.specs.Step.{lower, kindOf, emptyOf, openedOf, countedOf, readsOf, pushOf, answerOf, joined, noFrames, arriveOf, closeOf, stepOf}
+use Rattle.frame.specs.Step.{lower, kindOf, emptyOf, openedOf, countedOf, readsOf, pushOf, answerOf, joined, noFrames, arriveOf}
+use Rattle.frame.specs.Step.{closeOf, stepOf}
 use Rattle.frame.specs.Range.{Planned, Pushable, Rowable, Answered, Kept}
 use Rattle.frame.proofs.Opening.{Timed, timed}
 

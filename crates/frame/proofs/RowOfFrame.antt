@@ -1,4 +1,5 @@
--- A closed frame's row is the row of its stretch of the history: what was kept, packet by packet, in the paper's words; and one row only is so.
+-- A closed frame's row is the row of its stretch of the history: what was
+-- kept, packet by packet, in the paper's words; and one row only is so.
 use mathlib.Core.Path.{_≡_, refl, sym, ap, _∙_, subst}
 use mathlib.Core.Bool.{Bool, true, false, not, _&&_}
 use Prim.Native.Nat.{ℕ, zero, suc, pred, _+_, _-_, _*_, _≤_, _<_}
@@ -20,7 +21,8 @@ use Rattle.grain.proofs.SignedRange.{not-below}
 use Rattle.frame.specs.declared.Plan.{Plan}
 use Rattle.frame.specs.declared.Frame.{Frame}
 use Rattle.frame.specs.declared.Row.{Row}
-use Rattle.frame.specs.Paper.{History, begunAt, closesAt, numberAt, since, heldAt, differsAt, kindAt, detailAt, arrival, firstRead, readsTo, levelOf, PeakIs, arrivedBy, LeastIs, Measured, Zeros, RowIs}
+use Rattle.frame.specs.Paper.{History, begunAt, closesAt, numberAt, since, heldAt, differsAt, kindAt, detailAt, arrival, firstRead}
+use Rattle.frame.specs.Paper.{readsTo, levelOf, PeakIs, arrivedBy, LeastIs, Measured, Zeros, RowIs}
 use Rattle.frame.specs.Step.{kindOf, detailOf, wholeRow, brokenRow, rowOf}
 use Rattle.frame.specs.ByPlace.{readsFrom, keptOf, frameFrom, closedAt, markedTime}
 use Rattle.frame.specs.Range.{Planned}

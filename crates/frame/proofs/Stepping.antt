@@ -1,4 +1,5 @@
--- The code's step, packet by packet, goes through the states that the whole history declares by place, and writes the rows that it declares.
+-- The code's step, packet by packet, goes through the states that the
+-- whole history declares by place, and writes the rows that it declares.
 use mathlib.Core.Path.{_≡_, refl, sym, ap, _∙_}
 use mathlib.Core.Bool.{Bool, true, false, _&&_}
 use mathlib.Core.List.{List, [], _∷_, flatten}

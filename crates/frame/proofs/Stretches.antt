@@ -1,5 +1,5 @@
--- The frames are exactly the stretches between markers: where a frame began is one place, after a marker and with none since; and it is there from
--- the second marker on.
+-- The frames are exactly the stretches between markers: where a frame began is one
+-- place, after a marker and with none since; and it is there from the second marker on.
 use mathlib.Core.Path.{_≡_, refl, sym, ap, _∙_}
 use mathlib.Core.Bool.{Bool, true, false, _&&_}
 use Prim.Native.Nat.{ℕ, zero, suc, pred, _+_, _-_, _≤_, _<_}

@@ -59,7 +59,8 @@ module _ (plan : Plan) (h : History) where
   abbrev pub differsAt : ℕ → ℕ
   differsAt i = seek (λ j. not (eqb (h .stamp (since h i + j)) (h .stamp (since h i)))) (heldAt h i)
 
-  -- "Kinds, tried in this order: 1 short (fewer than n), 2 long (more than n), 3 stamp (some timestamp differs from the first packet's), 0 whole."
+  -- "Kinds, tried in this order: 1 short (fewer than n), 2 long (more than
+  -- n), 3 stamp (some timestamp differs from the first packet's), 0 whole."
   abbrev pub kindAt : ℕ → ℕ
   kindAt i = pick (ltb (heldAt h i) (plan .packets)) 1
       (pick (ltb (plan .packets) (heldAt h i)) 2 (pick (ltb (differsAt i) (heldAt h i)) 3 0))
@@ -113,8 +114,8 @@ module _ (plan : Plan) (h : History) where
     abbrev pub Overfull : Type 0
     Overfull = (z : ℤ) × PeakIs z × (pos (plan .full) <ℤ z)
 
-    -- FPT to least: "FPT = 27t − T_CF", "RTP_OFFSET = encoded − T_CF. Latency VL = 27t − encoded. Margin = TRO − FPT. GAP = first arrival of this
-    -- frame less arrival of the marker packet before it"
+    -- FPT to least: "FPT = 27t − T_CF", "RTP_OFFSET = encoded − T_CF. Latency VL = 27t − encoded. Margin
+    -- = TRO − FPT. GAP = first arrival of this frame less arrival of the marker packet before it"
     pub record Measured (r : Row) : Type 0 where
       pub fpt : r .fpt ≡ firstPacketTime (arrival 0) (plan .period)
       pub offset : r .offset ≡ rtpOffset (arrival 0) (h .stamp s) (plan .period)
@@ -180,7 +181,8 @@ module _ (plan : Plan) (h : History) where
   BufferIs (Under p) = (i : ℕ) × (i < h .packets) × UnderAt i p
   BufferIs (Over p) = (i : ℕ) × (i < h .packets) × OverAt i p
 
--- The paper's numbers for each case of the answer: "buffer 0 none, 1 pass, 2 under or 3 over, frame, packet or peak; 0 where there is none".
+-- The paper's numbers for each case of the answer: "buffer 0 none, 1
+-- pass, 2 under or 3 over, frame, packet or peak; 0 where there is none".
 abbrev pub bufferNumber : Buffer → ℕ
 bufferNumber None = 0
 bufferNumber Pass = 1

@@ -1,4 +1,5 @@
--- What a plan and an open frame must keep to, so that nothing overflows. Each is met by every stream that set-up accepts and every accepted history.
+-- What a plan and an open frame must keep to, so that nothing overflows. Each
+-- is met by every stream that set-up accepts and every accepted history.
 use mathlib.Core.Path.{_≡_}
 use mathlib.Core.Bool.{true}
 use Prim.Native.Nat.{ℕ, _+_, _*_, _≤_, _<_}
@@ -37,7 +38,8 @@ pub record Rowable (plan : Plan) (number marked : ℕ) (f : Frame) : Type 0 wher
   pub low : f .deficit ≤ 20000
   pub differs : f .differs ≤ 1000000000
 
--- The range of each number that is kept of the frames, by the plan and by what came before: the first and the last arrival, and how many packets.
+-- The range of each number that is kept of the frames, by the plan and by
+-- what came before: the first and the last arrival, and how many packets.
 pub record Answered (b : Buffer) (most : ℕ) : Type 0 where
   pub frame : bufferFrame b ≤ most
   pub place : bufferPlace b ≤ most

@@ -58,7 +58,8 @@ pushOf plan f t stamp = countedOf (openedOf f (plan .period) t stamp) stamp (rea
 
 -- ---- its kind, row and answer
 
--- "Kinds, tried in this order: 1 short (fewer than n), 2 long (more than n), 3 stamp (some timestamp differs from the first packet's), 0 whole."
+-- "Kinds, tried in this order: 1 short (fewer than n), 2 long (more than
+-- n), 3 stamp (some timestamp differs from the first packet's), 0 whole."
 unfoldable pub kindOf : Frame → ℕ → ℕ
 kindOf f n = pick (ltb (f .held) n) 1 (pick (ltb n (f .held)) 2 (pick (ltb (f .differs) (f .held)) 3 0))
 

@@ -8,7 +8,8 @@ ghost use Prim.Native.Nat.{_+_, _-_, _≤_, _<_, max};
 ghost use lib.ListN.{length};
 ghost use Rattle.laws.specs.Lay.{laid};
 ghost use Rattle.frame.specs.Paper.{bufferNumber, bufferFrame, bufferPlace};
-ghost use Rattle.frame.specs.Step.{lower, emptyOf, openedOf, countedOf, pushOf, kindOf, detailOf, wholeRow, brokenRow, rowOf, numbersOf, answerOf, joined, noFrames, arriveOf, closeOf};
+ghost use Rattle.frame.specs.Step.{lower, emptyOf, openedOf, countedOf, pushOf, kindOf, detailOf, wholeRow, brokenRow, rowOf};
+ghost use Rattle.frame.specs.Step.{numbersOf, answerOf, joined, noFrames, arriveOf, closeOf};
 ghost use Rattle.frame.specs.declared.Buffer.the-variants.{Pass};
 ghost use Rattle.frame.specs.Range.{Planned, Pushable, Rowable};
 

@@ -1,7 +1,8 @@
 -- k·t divided by m, by way of t's own quotient and rest: whole m's of t stay whole when t is taken k times.
 use Prim.Native.Nat.{ℕ, zero, _+_, _*_, _/_, _%_, _≤_, _<_}
 use mathlib.Core.Path.{_≡_, sym, ap, _∙_}
-use native.Mathlib.Nat.{mod-lt, div-add-mod, mul-add-div, mul-add-mod-self-left, mul-add, mul-left-comm, div-le-of-le-mul, mul-le-mul-right, mul-div-le, le-trans}
+use native.Mathlib.Nat.{mod-lt, div-add-mod, mul-add-div, mul-add-mod-self-left, mul-add, mul-left-comm, div-le-of-le-mul, mul-le-mul-right}
+use native.Mathlib.Nat.{mul-div-le, le-trans}
 use Rattle.grain.specs.declared.Split.{Split}
 use Rattle.grain.specs.Paper.{grains}
 

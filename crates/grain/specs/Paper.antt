@@ -9,7 +9,8 @@ use Rattle.laws.specs.Count.{count}
 abbrev pub grains : ℕ → ℕ
 grains t = 27 * t
 
--- "N = round(27t/F), halves up": N·F is at most half of F after g, and g is less than half of F after N·F. One N is so: proofs/Rounding.antt.
+-- "N = round(27t/F), halves up": N·F is at most half of F after g, and g
+-- is less than half of F after N·F. One N is so: proofs/Rounding.antt.
 pub record Nearest (g F N : ℕ) : Type 0 where
   pub low : 2 * (N * F) ≤ 2 * g + F
   pub high : 2 * g < 2 * (N * F) + F

@@ -10,7 +10,8 @@ use native.Mathlib.Nat.{div-div-eq-div-mul, mul-div-mul-left, div-le-of-le-mul}
 use lib.ListN.{List·getD-eq-default}
 use Rattle.laws.specs.Choose.{false-true}
 use Rattle.limits.specs.Fraction.{Fraction, whole, _·_, _÷_, int}
-use Rattle.limits.specs.Paper.{second, frameLengths, frameLength, activeRatio, seconds, classes, classOf, cMax, vrxFull, classFits, firstNo}
+use Rattle.limits.specs.Paper.{second, frameLengths, frameLength, activeRatio, seconds, classes, classOf, cMax, vrxFull, classFits}
+use Rattle.limits.specs.Paper.{firstNo}
 use Rattle.limits.specs.Steps.{Divides}
 use Rattle.limits.specs.declared.Class.{Class}
 use Rattle.limits.specs.declared.Class.the-variants.{Unknown}

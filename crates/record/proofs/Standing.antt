@@ -40,7 +40,11 @@ module _ (l : List ℕ) where
   stands e =
       let room = both (leb 16 (length l)) (eqb (bodyLength l) 14 && eqb (kindOf l) 2) e in
       let rest = both (eqb (bodyLength l) 14) (eqb (kindOf l) 2) (room .1) in
-      record { sixteen = leb-true 16 (length l) (room .0); body = eqb-true (bodyLength l) 14 (rest .0); kind = eqb-true (kindOf l) 2 (rest .1) }
+      record {
+        sixteen = leb-true 16 (length l) (room .0);
+        body = eqb-true (bodyLength l) 14 (rest .0);
+        kind = eqb-true (kindOf l) 2 (rest .1);
+      }
 
   -- the answer is the packet, whatever comes after it
   pub stands-packet : (at : ℕ) (last : Bool) → 1 < at → Stands → packetOf l (after at 16) ≡ pieceOf at l last

@@ -37,6 +37,18 @@ numbersAt l = record {
   tro = numberAt 4 l 14;
 }
 
+-- the seven numbers put together
+abbrev pub numbersWith : (rate schedule class height n maxudp tro : ℕ) → Numbers
+numbersWith rate schedule class height n maxudp tro = record {
+  rate = rate;
+  schedule = schedule;
+  class = class;
+  height = height;
+  n = n;
+  maxudp = maxudp;
+  tro = tro;
+}
+
 -- "Kind 2, 14 bytes: kind, arrival (8), timestamp (4), marker."
 abbrev pub packetAt : List ℕ → Packet
 packetAt l = record { time = numberAt 8 l 3; stamp = numberAt 4 l 11; marker = getD l 15 0 }

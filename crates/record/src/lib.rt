@@ -484,7 +484,8 @@ pub fn write(
     markers: &[u8],
     out: &mut [u8],
 ) -> Written
-    ensures { λ r. ⌜ Writes numbers (now (arrivals .entry)) (now (stamps .entry)) (now (markers .entry)) (now (out .entry)) r (now (out .exit)) ⌝ }
+    ensures { λ r. ⌜ Writes numbers (now (arrivals .entry)) (now (stamps .entry)) (now (markers .entry))
+        (now (out .entry)) r (now (out .exit)) ⌝ }
 {
     let answer = would_write(numbers, arrivals, stamps, markers, out.len());
     let Written::Done { bytes } = answer else {
@@ -542,7 +543,8 @@ fn write_packet(t: u64, stamp: u32, marker: u8, out: &mut [u8], at: usize)
 // The packets' records, after the parameters.
 fn write_packets(arrivals: &[u64], stamps: &[u32], markers: &[u8], out: &mut [u8])
     requires { ⌜ Fitting (now arrivals) (now stamps) (now markers) (now out) ⌝ }
-    ensures { λ _. ⌜ now (out .exit) ≡ sets (now (out .entry)) 19 (recordsOf (packets (now (arrivals .entry)) (now (stamps .entry)) (now (markers .entry)))) ⌝ }
+    ensures { λ _. ⌜ now (out .exit)
+        ≡ sets (now (out .entry)) 19 (recordsOf (packets (now (arrivals .entry)) (now (stamps .entry)) (now (markers .entry)))) ⌝ }
 {
     let mut i = 0;
     let mut at = 19;

@@ -29,7 +29,8 @@ use Rattle.record.specs.Walk.{asChecked, checkedOf}
 use Rattle.record.proofs.ReadWrite.{FileHolds, file-holds}
 use Rattle.report.specs.declared.Asked.{Asked}
 use Rattle.report.specs.declared.Asked.the-variants.{Fine, Refused}
-use Rattle.report.specs.Paper.{streamOf, stateOf, rowsOf, reportOf, inBytes, encoded, bytesFor, answer, answered, answerOf, filled, filledBy}
+use Rattle.report.specs.Paper.{streamOf, stateOf, rowsOf, reportOf, inBytes, encoded, bytesFor, answer, answered, answerOf, filled}
+use Rattle.report.specs.Paper.{filledBy}
 use Rattle.report.specs.Step.{needed, asAsked, askedOf, packetsOf, Measurable, Measured, Measures}
 use Rattle.report.proofs.Bytes.{nine, length-stored, length-encoded, encoded-append, naturals, front-last}
 

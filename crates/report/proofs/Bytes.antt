@@ -58,7 +58,8 @@ sign-at (z ∷ zs) zero = refl
 sign-at (z ∷ zs) (suc k) = sign-at zs k
 
 -- read as 64 bits and back, as a call passes it on
-pub sign-passed : (zs : List ℤ) (k : ℕ) → SFits w64 (getD zs k (pos 0)) → ofZ w64 (toZ w64 (ofZ w64 (getD zs k (pos 0)))) ≡ getD (map signed zs) k 0
+pub sign-passed : (zs : List ℤ) (k : ℕ) → SFits w64 (getD zs k (pos 0))
+    → ofZ w64 (toZ w64 (ofZ w64 (getD zs k (pos 0)))) ≡ getD (map signed zs) k 0
 sign-passed zs k f = ap (λ (z : ℤ). ofZ w64 z) (toZ-ofZ f) ∙ sym (sign-at zs k)
 
 -- ---- a loop that stores numbers: one turn, and the end

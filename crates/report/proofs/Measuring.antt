@@ -27,7 +27,8 @@ use Rattle.timing.specs.Feed.{Arrives, Lays, closing, Passes, Runs}
 use Rattle.timing.specs.Laws.InRange.{sound-fresh}
 use Rattle.timing.specs.Laws.Laying.{one-row}
 use Rattle.timing.specs.Laws.Scanning.{scan-runs}
-use Rattle.timing.specs.Laws.Running.{numbers-append, step-past, closes-rows, runs-arrives, runs-closed, runs-lays, next-runs, turn-marked, turn-plain}
+use Rattle.timing.specs.Laws.Running.{numbers-append, step-past, closes-rows, runs-arrives, runs-closed, runs-lays, next-runs, turn-marked}
+use Rattle.timing.specs.Laws.Running.{turn-plain}
 use Rattle.record.specs.Paper.{packetAt, done, Packets, packetRefusal, packetsIn}
 use Rattle.record.proofs.Reading.{neither, packet-here, packets-end, packets-go, packets-accepted}
 use Rattle.record.proofs.ReadWrite.{packets-scan}
@@ -132,7 +133,8 @@ module _ {x : StreamNumbers} {file out₀ : List ℕ} {rules : Rules} {s : State
     both-stored =
         let size : 8 * at + length (encoded these-rows) ≡ 8 * (at + length these-rows) = omega (arith, length-encoded these-rows) in
         sym (
-        ap (λ (l : List ℤ). sets out (8 * at) (encoded l)) (numbers-append (rowsOf rules s p) (rowsAfter rules (stepOf rules s p) (next .accepted)))
+        ap (λ (l : List ℤ). sets out (8 * at) (encoded l))
+        (numbers-append (rowsOf rules s p) (rowsAfter rules (stepOf rules s p) (next .accepted)))
         ∙ ap (sets out (8 * at)) (encoded-append these-rows other-rows)
         ∙ sets-join (encoded these-rows) (encoded other-rows) out (8 * at)
         ∙ ap (λ (n : ℕ). sets (sets out (8 * at) (encoded these-rows)) n (encoded other-rows)) size)

@@ -23,7 +23,8 @@ use Rattle.record.specs.declared.Numbers.{Numbers}
 use Rattle.record.specs.declared.Written.the-variants.{Done}
 use Rattle.record.specs.Paper.{File, file, refused, fileOf}
 use Rattle.record.specs.Write as record-write
-use Rattle.report.specs.Paper.{streamOf, stateOf, rowsOf, signed, inBytes, encoded, bytesFor, answer, answered, answerOf, filled, filledBy}
+use Rattle.report.specs.Paper.{streamOf, stateOf, rowsOf, signed, inBytes, encoded, bytesFor, answer, answered, answerOf, filled}
+use Rattle.report.specs.Paper.{filledBy}
 
 module _ (s : List ℕ) where
   -- "Too few bytes is 15 at the file's length, after all else": a refused file's number and offset do not hang on the room
@@ -42,7 +43,8 @@ module _ (s : List ℕ) where
     accepted-nought room h = ap (answered (length s) room) e ∙ rw (le-leb (length (bytesFor w ps)) room h)
 
     -- "fills lent bytes with nine numbers [..], then the rows; bytes beyond stay"
-    pub filled-with : (out : List ℕ) → length (bytesFor w ps) ≤ length out → filledBy s out ≡ bytesFor w ps ++ drop (length (bytesFor w ps)) out
+    pub filled-with : (out : List ℕ) → length (bytesFor w ps) ≤ length out
+        → filledBy s out ≡ bytesFor w ps ++ drop (length (bytesFor w ps)) out
     unfolding filledBy
     filled-with out h = ap (filled out) e ∙ rw (le-leb (length (bytesFor w ps)) (length out) h)
 

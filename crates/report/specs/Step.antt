@@ -27,7 +27,8 @@ use Rattle.record.specs.Layout.{bytesIn}
 use Rattle.record.specs.Write.{writtenOf, leftBy}
 use Rattle.report.specs.declared.Asked.{Asked}
 use Rattle.report.specs.declared.Asked.the-variants.{Fine, Refused}
-use Rattle.report.specs.Paper.{streamOf, stateOf, rowsOf, encoded, bytesFor, answerOf, filledBy, writtenNumber, limitsNumber, limitsLeft}
+use Rattle.report.specs.Paper.{streamOf, stateOf, rowsOf, encoded, bytesFor, answerOf, filledBy, writtenNumber, limitsNumber}
+use Rattle.report.specs.Paper.{limitsLeft}
 
 -- the bytes of nine numbers, and of ten for each frame closed
 abbrev pub needed : ℕ → ℕ

@@ -21,6 +21,8 @@ ghost use lib.Seq.{sets};
 ghost use Rattle.frame.specs.Step.{numbersOf};
 ghost use Rattle.timing.specs.Answers.{summaryOf};
 ghost use Rattle.timing.specs.Feed.{Lays};
+ghost use Rattle.timing.specs.Step.{streamWith};
+ghost use Rattle.record.specs.Paper.{numbersWith};
 ghost use Rattle.record.specs.Write.{writtenOf};
 ghost use Rattle.report.specs.Paper.{streamOf, inBytes, encoded, answerOf, writtenNumber, writtenPlace};
 ghost use Rattle.report.specs.Step.{refusedBy, needed, askedOf, Closed, Measurable, Measured, Measures, Writes, Limits, Draws};
@@ -200,7 +202,8 @@ pub extern "C" fn vtiming_write(
     markers: &[u8],
     out: &mut [u8],
 ) -> u32
-    ensures { λ r. ⌜ Writes (record { rate = rate; schedule = schedule; class = class; height = height; n = n; maxudp = maxudp; tro = tro }) (now (arrivals .entry)) (now (stamps .entry)) (now (markers .entry)) (now (out .entry)) r (now (out .exit)) ⌝ }
+    ensures { λ r. ⌜ Writes (numbersWith rate schedule class height n maxudp tro) (now (arrivals .entry)) (now (stamps .entry)) (now (markers .entry))
+        (now (out .entry)) r (now (out .exit)) ⌝ }
 {
     let numbers = Numbers {
         rate,
@@ -233,7 +236,8 @@ pub extern "C" fn vtiming_write_place(
     markers: &[u8],
     room: usize,
 ) -> u64
-    ensures { λ r. ⌜ r ≡ writtenPlace (writtenOf (record { rate = rate; schedule = schedule; class = class; height = height; n = n; maxudp = maxudp; tro = tro }) (now (arrivals .entry)) (now (stamps .entry)) (now (markers .entry)) room) ⌝ }
+    ensures { λ r. ⌜ r ≡ writtenPlace (writtenOf (numbersWith rate schedule class height n maxudp tro)
+        (now (arrivals .entry)) (now (stamps .entry)) (now (markers .entry)) room) ⌝ }
 {
     let numbers = Numbers {
         rate,
@@ -263,7 +267,7 @@ pub extern "C" fn vtiming_limits(
     tro: u32,
     out: &mut [u64],
 ) -> u32
-    ensures { λ r. ⌜ Limits (record { rate = rate; schedule = schedule; class = class; height = height; n = n; maxudp = maxudp; tro = tro }) (now (out .entry)) r (now (out .exit)) ⌝ }
+    ensures { λ r. ⌜ Limits (streamWith rate schedule class height n maxudp tro) (now (out .entry)) r (now (out .exit)) ⌝ }
 {
     let numbers = StreamNumbers {
         rate,

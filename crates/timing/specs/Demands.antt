@@ -1,5 +1,6 @@
--- The owner's demands on the measurement. Each theorem says one sentence of them, of what `feed` gives; its proof is a line that cites the work.
--- To believe it, read the definitions: Feed (the call), Range (refusal 9), History (the state of a history), and the Paper.antt of each crate below.
+-- The owner's demands on the measurement. Each theorem says one sentence of them, of what `feed`
+-- gives; its proof is a line that cites the work. To believe it, read the definitions: Feed (the
+-- call), Range (refusal 9), History (the state of a history), and the Paper.antt of each crate below.
 use mathlib.Core.Path.{_≡_, refl, sym, ap, _∙_, subst}
 use mathlib.Core.Bool.{Bool, true, false, _&&_}
 use mathlib.Core.List.{List, [], _∷_, _++_}
@@ -33,6 +34,7 @@ use Rattle.timing.specs.declared.State.{State}
 use Rattle.timing.specs.declared.Fed.the-variants.{Accepted, Refused}
 use Rattle.timing.specs.Step.{setUpOf, frameOf, rulesOf, freshOf, stateAfter, rowsAfter, numbers}
 use Rattle.timing.specs.declared.SetUp.{SetUp}
+use Rattle.timing.specs.declared.Verdict.{Verdict}
 use Rattle.timing.specs.declared.Judged.the-variants.{Given, Refused as Not-Judged}
 use Rattle.timing.specs.declared.Graph.{Graph}
 use Rattle.timing.specs.declared.Drawn.the-variants.{Figures, Refused as Not-Drawn}
@@ -48,7 +50,8 @@ use Rattle.timing.specs.Laws.Feeding.{refused-stays, feed-slices, accept
 use Rattle.timing.specs.Laws.Declared.{state-declared, rows-declared, arrivals-climb, scan-of-call}
 use Rattle.timing.specs.Laws.Dealing.{sound-after, deals}
 
--- ---- Demand 1: "Bad input gets the numbered refusal of document 01, exactly when its table says, with the state and lent rows as they were."
+-- ---- Demand 1: "Bad input gets the numbered refusal of document 01, exactly when its table says, with the state and lent rows as they
+-- were."
 
 -- `feedOf` is the table: 9, 10, then packet by packet 11 to 14, then 15. A refused call changes nothing.
 pub refusal-changes-nothing : (s t : State) (rows : List ℤ) (ts ss ms : List ℕ) (number place : ℕ) → (feedOf s rows ts ss ms) .answer
@@ -64,11 +67,11 @@ set-up-number x =
 
 pub verdict-number : (s : State) → judgedNumber (verdictOf s) ≡ pick (inRange s) 0 9
 unfolding verdictOf
-verdict-number s = go (inRange s)
+verdict-number s = go _ (inRange s)
   where
-    go : (t : Bool) → judgedNumber (pick t (Given (record { network = s .bucket .network; buffer = s .frames .buffer })) (Not-Judged 9)) ≡ pick t 0 9
-    go true = refl
-    go false = refl
+    go : (v : Verdict) (t : Bool) → judgedNumber (pick t (Given v) (Not-Judged 9)) ≡ pick t 0 9
+    go v true = refl
+    go v false = refl
 
 pub graph-number : (fpt margin latency : ℤ)
     → drawnNumber (graphOf fpt margin latency) ≡ pick (inFloat binary64 fpt && (inFloat binary64 margin && inFloat binary64 latency)) 0 16
@@ -125,8 +128,8 @@ module _ (x : StreamNumbers) (set-up : setUpOf x ≡ 0) (l : List Packet) (close
   refused-so call rows r e = refused-call S rows call r (of-sound S (sound-after l (freshOf x) (sound-fresh x set-up) passes))
       (scan-of-call x l call closed r accepted e)
 
-  -- "If a list fails at a packet by 11 to 14, the first refused call of any cutting names the same number and place, given room.": the call l after
-  -- the accepted calls before it, wherever they were cut
+  -- "If a list fails at a packet by 11 to 14, the first refused call of any cutting names the same number
+  -- and place, given room.": the call l after the accepted calls before it, wherever they were cut
   pub first-refusal : (call : List Packet) (rows : List ℤ) (r : Refusal) → declared (l ++ call) ≡ Scan-Refused r
       → (fedNumber (feedAll S rows call .answer) ≡ r .number) × (fedPlace (feedAll S rows call .answer) ≡ r .place)
       × (fedState (feedAll S rows call .answer) ≡ S) × (feedAll S rows call .rows ≡ rows)
@@ -138,8 +141,8 @@ module _ (x : StreamNumbers) (set-up : setUpOf x ≡ 0) (l : List Packet) (close
         ap (λ (o : Outcome). o .rows) told,
       )
 
-  -- ---- Demand 2: "Frame times, offsets, latency, margin, gap, levels and limits equal the exact fractions; every other row number, the counts and the
-  -- buffer answer are document 01's."
+  -- ---- Demand 2: "Frame times, offsets, latency, margin, gap, levels and limits equal the exact fractions; every other row number, the
+  -- counts and the buffer answer are document 01's."
 
   pub packets-counted : S .past .packets ≡ length l
   unfolding stateAt
@@ -177,9 +180,11 @@ module _ (x : StreamNumbers) (set-up : setUpOf x ≡ 0) (l : List Packet) (close
   buffer-answer = subst (λ (s : State). FP.BufferIs (rulesOf x .plan) (frameHistory x l) (s .frames .buffer)) (sym state-of-history)
       (FF.buffer-is (rulesOf x .plan) (planned x set-up) (frameHistory x l) in-order)
 
-  -- ---- Demand 3: "An accepted list of packets dealt out in order over any calls gives the rows, end state and verdicts of one call with the whole list."
+  -- ---- Demand 3: "An accepted list of packets dealt out in order over any calls gives the rows, end state and verdicts of one call with
+  -- the whole list."
 
-  -- each call with room: each is accepted, the last state is S, and what they write, one after the other, are the numbers of the one call's rows
+  -- each call with room: each is accepted, the last state is S, and what
+  -- they write, one after the other, are the numbers of the one call's rows
   pub dealt-over-calls : (calls : List Call) → allOf calls ≡ l → Rooms (freshOf x) calls
       → Deals (freshOf x) calls S (numbers (rowsAfter (rulesOf x) (freshOf x) l))
   dealt-over-calls calls e room =
@@ -205,8 +210,8 @@ module _ (x : StreamNumbers) (set-up : setUpOf x ≡ 0) (l : List Packet) (close
   peak = subst (λ (s : State). BP.GreatestExcess (bucketHistory x l) (s .bucket .peak)) (sym state-of-history)
       (BO.peak-greatest (bucketHistory x l) long in-grains (rulesOf x .limit))
 
-  -- "the network verdict passes exactly when no run's excess is above the class limit, else it names the failing run that ends first and, of those,
-  -- starts last."
+  -- "the network verdict passes exactly when no run's excess is above the class
+  -- limit, else it names the failing run that ends first and, of those, starts last."
   pub network-answer : BP.NetworkIs (bucketHistory x l) (rulesOf x .limit) (S .bucket .network)
   unfolding stateAt
   network-answer = subst (λ (s : State). BP.NetworkIs (bucketHistory x l) (rulesOf x .limit) (s .bucket .network)) (sym state-of-history)

@@ -24,6 +24,18 @@ use Rattle.timing.specs.declared.State.{State}
 abbrev pub setUpOf : StreamNumbers → ℕ
 setUpOf x = setUpRefusal (x .rate) (x .schedule) (x .class) (x .height) (x .n) (x .maxudp) (x .tro)
 
+-- the seven numbers put together
+abbrev pub streamWith : (rate schedule class height n maxudp tro : ℕ) → StreamNumbers
+streamWith rate schedule class height n maxudp tro = record {
+  rate = rate;
+  schedule = schedule;
+  class = class;
+  height = height;
+  n = n;
+  maxudp = maxudp;
+  tro = tro;
+}
+
 abbrev pub frameOf : StreamNumbers → ℕ
 frameOf x = frameLength (x .rate)
 

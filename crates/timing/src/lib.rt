@@ -8,7 +8,8 @@ ghost use mathlib.Core.List.{[], _∷_};
 ghost use Prim.Native.Nat.{_-_, _*_};
 ghost use Rattle.grain.specs.Paper.{grains as grainsOf, tick};
 ghost use Rattle.timing.specs.Step.{setUpOf, frameOf, rulesOf, freshOf, arriveOf, markOf};
-ghost use Rattle.timing.specs.Range.{every, implies as impliesOf, pastRanges, bucketRanges, countRanges, openRanges, keptRanges, inRange};
+ghost use Rattle.timing.specs.Range.{every, implies as impliesOf, pastRanges, bucketRanges, countRanges, openRanges, keptRanges};
+ghost use Rattle.timing.specs.Range.{inRange};
 ghost use Prim.Native.Nat.{_≤_};
 ghost use lib.ListN.{length};
 ghost use Rattle.packet.specs.Paper.{OneLength, packets};
@@ -377,8 +378,10 @@ impl State {
         markers: &[u8],
         rows: &mut [i64],
     ) -> State
-        requires { ⌜ OneLength (now arrivals) (now stamps) (now markers) × Runs rules self (packets (now arrivals) (now stamps) (now markers)) 0 (length (now rows)) ⌝ }
-        ensures { λ r. ⌜ Ran rules self (packets (now (arrivals .entry)) (now (stamps .entry)) (now (markers .entry))) (now (rows .entry)) r (now (rows .exit)) ⌝ }
+        requires { ⌜ OneLength (now arrivals) (now stamps) (now markers)
+            × Runs rules self (packets (now arrivals) (now stamps) (now markers)) 0 (length (now rows)) ⌝ }
+        ensures { λ r. ⌜ Ran rules self (packets (now (arrivals .entry)) (now (stamps .entry)) (now (markers .entry)))
+            (now (rows .entry)) r (now (rows .exit)) ⌝ }
     {
         let mut s = self;
         let mut at = 0;
@@ -416,7 +419,8 @@ impl State {
     // and rows are as they were. Accepted, ten numbers are written for each frame closed, from the start of
     // `rows` on, and the rest of `rows` stays.
     pub fn feed(mut self, arrivals: &[u64], stamps: &[u32], markers: &[u8], rows: &mut [i64]) -> Fed
-        ensures { λ r. ⌜ Is (feedOf self (now (rows .entry)) (now (arrivals .entry)) (now (stamps .entry)) (now (markers .entry))) r (now (rows .exit)) ⌝ }
+        ensures { λ r. ⌜ Is (feedOf self (now (rows .entry)) (now (arrivals .entry)) (now (stamps .entry)) (now (markers .entry)))
+            r (now (rows .exit)) ⌝ }
     {
         if !self.in_range() {
             return Fed::Refused {

@@ -61,7 +61,8 @@ returns c =
     let three = c .before .before in
     let two = three .before .before in
     let one = two .before .before in (
-      four-read (one .before .before .before .pre) (one .byte .ensures .0) (two .byte2 .ensures .0) (three .byte3 .ensures .0) (c .byte4 .ensures .0),
+      four-read (one .before .before .before .pre) (one .byte .ensures .0) (two .byte2 .ensures .0) (three .byte3 .ensures .0)
+          (c .byte4 .ensures .0),
       omega (arith, one .byte .ensures .1, two .byte2 .ensures .1, three .byte3 .ensures .1, c .byte4 .ensures .1),
     )
 

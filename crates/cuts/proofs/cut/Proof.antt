@@ -75,7 +75,8 @@ part-fed-end-4 c = search needs
 mul-fed-2 : tie.Need-mul-fed-2
 mul-fed-2 c = let e = c .before .before .before .before .before .before .before .before .before .before .before in
     let s = e .before .before .before .before in
-    omega (arith, e .before .before .before .before .good .1 .1 .0, c .before .before .before .before .before .before .before .before .before .before .if2 .left)
+    let within = c .before .before .before .before .before .before .before .before .before .before .if2 .left in
+    omega (arith, e .before .before .before .before .good .1 .1 .0, within)
 
 sub-fed-5 : tie.Need-sub-fed-5
 sub-fed-5 c = search needs

@@ -50,7 +50,8 @@ loop-again : tie.Need-loop-again Inv-loop μ-loop
 loop-again c =
     let l = c .before .loop in
     let nine = c .before .before .summary .result in
-    (rw (zero-add (l .k), zero-add (l .k + 1)) at (laid-turn 0 (l .k) nine (l .out) 0 (omega (arith, l .inv .3))) ∙ l .inv .0, omega arith, simp length-set (l .inv .2), l .inv .3)
+    let turn = rw (zero-add (l .k), zero-add (l .k + 1)) at (laid-turn 0 (l .k) nine (l .out) 0 (omega (arith, l .inv .3))) in
+    (turn ∙ l .inv .0, omega arith, simp length-set (l .inv .2), l .inv .3)
 
 same-length : tie.Need-same-length Inv-loop μ-loop
 same-length c = search needs

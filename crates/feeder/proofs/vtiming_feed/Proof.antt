@@ -59,7 +59,8 @@ returns-2 : tie.Need-returns-2
 returns-2 c =
     let after-feed = c .before .before .before .before in
     let after-answer = after-feed .before .before .before in
-    call-refused _ _ _ _ _ _ (after-answer .before .before .set-up .ensures) (after-answer .answer .given .1) (after-feed .feed .ensures) (c .before .fed2 .given .1)
+    call-refused _ _ _ _ _ _ (after-answer .before .before .set-up .ensures) (after-answer .answer .given .1)
+    (after-feed .feed .ensures) (c .before .fed2 .given .1)
 
 -- src/lib.rt:37:1
 returns-3 : tie.Need-returns-3

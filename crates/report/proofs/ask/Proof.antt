@@ -22,7 +22,8 @@ returns : tie.Need-returns
 returns c =
     let told = c .before in
     let check = told .before .before in
-    c .refused-by .ensures ∙ ap refusedBy (told .enum-told .given .1) ∙ asked-refused _ _ _ _ (sym (check .check .ensures) ∙ told .enum-told .given .1)
+    c .refused-by .ensures ∙ ap refusedBy (told .enum-told .given .1)
+    ∙ asked-refused _ _ _ _ (sym (check .check .ensures) ∙ told .enum-told .given .1)
 
 fits-requires : tie.Need-fits-requires
 fits-requires c κs = search needs
@@ -35,13 +36,15 @@ returns-2 c =
     let after-fits = c .before .before in
     let told = after-fits .before .before in
     rw (c .stream .ensures)
-    (asked-room _ _ _ _ _ (sym (told .before .before .check .ensures) ∙ told .checked .given .1) (sym (after-fits .fits2 .ensures) ∙ c .before .if1 .taken))
+    (asked-room _ _ _ _ _ (sym (told .before .before .check .ensures) ∙ told .checked .given .1)
+    (sym (after-fits .fits2 .ensures) ∙ c .before .if1 .taken))
 
 returns-3 : tie.Need-returns-3
 returns-3 c =
     let after-fits = c .before in
     let told = after-fits .before .before in
-    asked-15 _ _ _ _ _ (sym (told .before .before .check .ensures) ∙ told .checked .given .1) (sym (after-fits .fits2 .ensures) ∙ c .if1 .left)
+    asked-15 _ _ _ _ _ (sym (told .before .before .check .ensures) ∙ told .checked .given .1)
+    (sym (after-fits .fits2 .ensures) ∙ c .if1 .left)
 
 pub ask-spec : {M : Type 1} → statement M
 ask-spec =

@@ -5,7 +5,8 @@ use mathlib.Core.Logic.{⊎-elim}
 use native.Mathlib.Omega.{arith}
 use lib.ListN.{length}
 use borrow.Author.Needs.{needs}
-use Rattle.report.proofs.Measuring.{Loop, loop-begins, sixteen, packet-arrives, packet-lays, packet-closed, turn-passes, turn-closes, loop-ends, measured-from}
+use Rattle.report.proofs.Measuring.{Loop, loop-begins, sixteen, packet-arrives, packet-lays, packet-closed, turn-passes, turn-closes}
+use Rattle.report.proofs.Measuring.{loop-ends, measured-from}
 use Rattle.report.proofs.measure.Statement.{statement}
 use Rattle.report.proofs.measure.Tie as tie
 
@@ -57,14 +58,16 @@ put-closed-requires : tie.Need-put-closed-requires Inv-loop μ-loop
 put-closed-requires c κs =
     let arrived = c .before .before .before in
     let turn = arrived .before .before .before in
-    packet-lays (turn .before .loop .inv) (turn .loop-test .taken) (arrived .before .before .read64 .ensures) (arrived .before .read32 .ensures) refl
+    packet-lays (turn .before .loop .inv) (turn .loop-test .taken)
+    (arrived .before .before .read64 .ensures) (arrived .before .read32 .ensures) refl
     (arrived .arrive .ensures) (c .before .if1 .taken)
 
 mark-requires : tie.Need-mark-requires Inv-loop μ-loop
 mark-requires c κs =
     let arrived = c .before .before .before .before .before .before in
     let turn = arrived .before .before .before in
-    packet-closed (turn .before .loop .inv) (turn .loop-test .taken) (arrived .before .before .read64 .ensures) (arrived .before .read32 .ensures) refl
+    packet-closed (turn .before .loop .inv) (turn .loop-test .taken)
+    (arrived .before .before .read64 .ensures) (arrived .before .read32 .ensures) refl
     (arrived .arrive .ensures)
 
 add-from : tie.Need-add-from Inv-loop μ-loop

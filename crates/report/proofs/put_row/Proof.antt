@@ -55,9 +55,10 @@ loop-again c =
     let turn = c .before .before .before .before .before .before .before in
     let l = turn .loop in
     let ten = turn .before .numbers .result in
-    let x = c .before .before .before .bits .ensures in (
+    let passed = c .before .before .before .before .bits-arg .given in
+    let x = c .before .before .before .bits .ensures ∙ sign-passed ten (l .k) (record { sfits = passed }) in (
       rw (c .before .before .write64 .ensures)
-          (store-turn _ _ (l .k) _ (map signed ten) (l .out) (omega arith) (omega (arith, l .inv .3, length-signs ten)) (x ∙ sign-passed ten (l .k) (record { sfits = c .before .before .before .before .bits-arg .given })) ∙ l .inv .0),
+          (store-turn _ _ (l .k) _ (map signed ten) (l .out) (omega arith) (omega (arith, l .inv .3, length-signs ten)) x ∙ l .inv .0),
       omega arith,
       search needs,
       l .inv .3,
@@ -70,7 +71,8 @@ returns : tie.Need-returns Inv-loop μ-loop
 returns c =
     let l = c .before .loop in
     let ten = c .before .before .numbers .result in
-    store-done _ (l .k) (map signed ten) (l .out) (omega (arith, l .inv .3, length-signs ten)) (l .inv .0) ∙ rw (c .before .before .numbers .ensures)
+    store-done _ (l .k) (map signed ten) (l .out) (omega (arith, l .inv .3, length-signs ten)) (l .inv .0)
+    ∙ rw (c .before .before .numbers .ensures)
 
 pub put-row-spec : {M : Type 1} → statement M
 put-row-spec =

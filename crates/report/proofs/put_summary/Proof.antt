@@ -12,7 +12,8 @@ use Rattle.report.proofs.put_summary.Tie as tie
 
 abbrev Inv-loop : tie.InvT-loop
 Inv-loop out₀ numbers k₀ out k =
-    (sets out (8 * k) (inBytes (drop k numbers)) ≡ sets out₀ 0 (inBytes numbers)) × (k ≤ 9) × (length out ≡ length out₀) × (length numbers ≡ 9)
+    (sets out (8 * k) (inBytes (drop k numbers)) ≡ sets out₀ 0 (inBytes numbers)) × (k ≤ 9)
+    × (length out ≡ length out₀) × (length numbers ≡ 9)
 
 abbrev μ-loop : tie.MeasureT-loop
 μ-loop out₀ numbers k₀ out k = 9 - k
@@ -46,7 +47,8 @@ loop-again c =
     let turn = c .before .before .before .before .before in
     let l = turn .loop in
     let all = turn .before .summary .result in (
-      rw (c .before .before .write64 .ensures) (store-turn _ _ (l .k) _ all (l .out) (omega arith) (omega (arith, l .inv .3)) refl ∙ l .inv .0),
+      rw (c .before .before .write64 .ensures)
+          (store-turn _ _ (l .k) _ all (l .out) (omega arith) (omega (arith, l .inv .3)) refl ∙ l .inv .0),
       omega arith,
       search needs,
       l .inv .3,

@@ -38,9 +38,10 @@ returns : tie.Need-returns
 returns c =
     let told = c .before .before .before .before .before .before .before .before .before in
     let fits = asked-fine _ _ _ (sym (told .before .before .ask .ensures) ∙ told .asked .given .1) in
+    let measured = c .before .before .before .before .before .before .measure .ensures in
     record {
       number-is = sym (ap (λ (a : Answer). a .number) (fine-number _ _ _ fits));
-      bytes-are = report-filled _ _ _ fits (c .before .before .before .before .before .before .measure .ensures) (c .before .before .put-summary .ensures);
+      bytes-are = report-filled _ _ _ fits measured (c .before .before .put-summary .ensures);
     }
 
 returns-2 : tie.Need-returns-2

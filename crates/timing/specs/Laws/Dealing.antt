@@ -1,5 +1,5 @@
--- A list dealt out over any calls: each call is accepted, and states and rows are those of one call with the whole list. The idea: an accepted list is
--- one whose packets all pass, and passing may be cut anywhere.
+-- A list dealt out over any calls: each call is accepted, and states and rows are those of one call with the
+-- whole list. The idea: an accepted list is one whose packets all pass, and passing may be cut anywhere.
 use mathlib.Core.Path.{_≡_, refl, sym, ap, _∙_, subst}
 use mathlib.Core.Bool.{Bool, true, false, _||_}
 use mathlib.Core.List.{List, [], _∷_, _++_}

@@ -1,4 +1,5 @@
--- The rules of accepted stream numbers keep to what the frames and the bucket demand, for every rate at once: by the table's greatest and least length.
+-- The rules of accepted stream numbers keep to what the frames and the bucket
+-- demand, for every rate at once: by the table's greatest and least length.
 use mathlib.Core.Path.{_≡_, refl}
 use mathlib.Core.Logic.{_⊎_, inl, inr}
 use Prim.Native.Nat.{ℕ, zero, suc, _+_, _*_, _≤_, _<_}

@@ -66,7 +66,8 @@ pub record Turn (rules : Rules) (s : State) (p : Packet) (at : ℕ) (rows : List
 
 module _ (rules : Rules) (s : State) (p : Packet) (at : ℕ) (rows : List ℤ) {a : State} (ea : a ≡ arriveOf rules s (p .time) (p .stamp))
   where
-    pub turn-marked : {s′ : State} {at′ : ℕ} {rows′ : List ℤ} → p .marker ≡ 1 → s′ ≡ markOf rules a (p .time) → Laid rules a at rows at′ rows′
+    pub turn-marked : {s′ : State} {at′ : ℕ} {rows′ : List ℤ} → p .marker ≡ 1 → s′ ≡ markOf rules a (p .time)
+        → Laid rules a at rows at′ rows′
         → Turn rules s p at rows s′ at′ rows′
     unfolding stepOf
     turn-marked m es l =

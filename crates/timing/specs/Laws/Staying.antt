@@ -1,4 +1,5 @@
--- An accepted packet keeps a state in range: each number by its own step. So accepted calls stay in range, and no demand of the code is ever missed.
+-- An accepted packet keeps a state in range: each number by its own step. So
+-- accepted calls stay in range, and no demand of the code is ever missed.
 use mathlib.Core.Path.{_≡_, refl, sym, ap, _∙_, subst}
 use mathlib.Core.Bool.{Bool, true, false}
 use Prim.Native.Nat.{ℕ, zero, suc, _+_, _-_, _*_, _≤_, _<_, max}

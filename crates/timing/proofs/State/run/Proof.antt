@@ -4,7 +4,8 @@ use mathlib.Core.Logic.{⊎-elim}
 use denote.Ref.{now}
 use Rattle.packet.specs.Paper.{packets, packetsFrom, lent}
 use Rattle.packet.proofs.Lent.{packets-cons, packets-none}
-use Rattle.timing.specs.Laws.Running.{Loop, Turn, loop-begins, loop-runs, loop-next, loop-ends, runs-arrives, runs-lays, runs-closed, turn-marked, turn-plain}
+use Rattle.timing.specs.Laws.Running.{Loop, Turn, loop-begins, loop-runs, loop-next, loop-ends, runs-arrives, runs-lays, runs-closed}
+use Rattle.timing.specs.Laws.Running.{turn-marked, turn-plain}
 use Prim.Native.Nat.{ℕ, _+_, _*_, _-_, _≤_, _<_}
 use mathlib.Core.Path.{_≡_}
 use native.Mathlib.Omega.{arith}
