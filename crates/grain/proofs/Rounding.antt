@@ -35,7 +35,7 @@ module _ (g F : ℕ) (p : 0 < F) where
 
 -- what the code does: the rest of g by F against what is left of the frame
 module _ (g F : ℕ) (p : 0 < F) where
-  pub goes-down : g % F < F - g % F → nearest g F ≡ g / F
+  goes-down : g % F < F - g % F → nearest g F ≡ g / F
   goes-down l =
       nearest-unique g F (nearest g F) (g / F) (nearest-is g F p)
       (record { low = omega (arith, div-add-mod' g F); high = omega (arith, div-add-mod' g F) })
@@ -43,7 +43,7 @@ module _ (g F : ℕ) (p : 0 < F) where
   next : (g / F + 1) * F ≡ g / F * F + F
   next = add-mul (g / F) 1 F ∙ ap (λ (n : ℕ). g / F * F + n) (omega arith)
 
-  pub goes-up : F - g % F ≤ g % F → nearest g F ≡ g / F + 1
+  goes-up : F - g % F ≤ g % F → nearest g F ≡ g / F + 1
   goes-up l =
       nearest-unique g F (nearest g F) (g / F + 1) (nearest-is g F p)
       (record { low = omega (arith, next, div-add-mod' g F); high = omega (arith, next, div-add-mod' g F, mod-lt g p) })
@@ -67,10 +67,3 @@ module _ (g F : ℕ) (p : 0 < F) where
 
   pub phase-small : phase g F < 2 * F
   phase-small = omega (arith, phase-from, nearest-is g F p .high)
-
--- rounded up, N is still no more than t where F is at least 27
-pub up-small : (t F : ℕ) → 27 ≤ F → F - 27 * t % F ≤ 27 * t % F → 27 * t / F + 1 ≤ t
-up-small t F h l =
-    let more : ¬ (t ≤ 27 * t / F) = λ q.
-    omega (arith, mul-le-mul-right F q, mul-le-mul-right t h, div-add-mod' (27 * t) F, mod-lt (27 * t) {m = F} (omega arith)) in
-    omega arith

@@ -7,43 +7,20 @@ ghost use Prim.Native.Nat.{_+_, _*_, _-_, _/_, _%_, _≤_, _<_};
 ghost use lib.IntN.{subℕ};
 ghost use mir.Syntax.{w64};
 ghost use mir.Val.{ofZ};
-ghost use Rattle.grain.specs.Paper.{grains, nearest, phase, firstPacketTime, latency, instants as instantsOf, readsBefore};
+ghost use Rattle.grain.specs.Paper.{grains, phase, latency, instants as instantsOf, readsBefore};
 
 // The grains of 2^32 ticks: RTP timestamps go round once in this time.
 const WRAP: u64 = 1288490188800000;
 // The grains of one tick of the 90 kHz RTP clock.
 const TICK: u64 = 300000;
 
-pub struct Split {
-    pub quotient: u64,
-    pub remainder: u64,
-}
-
-// 27·t divided by m. t is divided first: 27 times the rest is below 27·m and fits.
-pub fn split27(t: u64, m: u64) -> Split
+// What is left of 27·t when whole m's are taken away. t is divided first: 27 times its rest is below 27·m and fits.
+pub fn rest27(t: u64, m: u64) -> u64
     requires { ⌜ (27 ≤ m) × (m ≤ 576460752303423488) ⌝ }
-    ensures { λ r. ⌜ r ≡ record { quotient = grains t / m; remainder = grains t % m } ⌝ }
+    ensures { λ r. ⌜ r ≡ grains t % m ⌝ }
 {
-    let whole = t / m;
     let part = 27 * (t % m);
-    Split {
-        quotient: 27 * whole + part / m,
-        remainder: part % m,
-    }
-}
-
-// N, the number of the frame start that lies nearest to t; of two that lie as near, the later.
-pub fn nearest_frame(t: u64, frame: u64) -> u64
-    requires { ⌜ (27 ≤ frame) × (frame ≤ 576460752303423488) ⌝ }
-    ensures { λ r. ⌜ r ≡ nearest (grains t) frame ⌝ }
-{
-    let x = split27(t, frame);
-    let past = x.remainder;
-    if past < frame - past {
-        x.quotient
-    } else {
-        x.quotient + 1
-    }
+    part % m
 }
 
 // 27·t less the frame start that lies nearest, and one frame more, so that it is never below 0: where in
@@ -52,28 +29,17 @@ pub fn frame_phase(t: u64, frame: u64) -> u64
     requires { ⌜ (27 ≤ frame) × (frame ≤ 576460752303423488) ⌝ }
     ensures { λ r. ⌜ r ≡ phase (grains t) frame ⌝ }
 {
-    let x = split27(t, frame);
-    let past = x.remainder;
+    let past = rest27(t, frame);
     let left = frame - past;
     if past < left { past + frame } else { past }
-}
-
-// FPT: 27·t less the frame start that lies nearest.
-pub fn first_packet_time(t: u64, frame: u64) -> i64
-    requires { ⌜ (27 ≤ frame) × (frame ≤ 576460752303423488) ⌝ }
-    ensures { λ r. ⌜ r ≡ firstPacketTime (grains t) frame ⌝ }
-{
-    let at = frame_phase(t, frame);
-    difference(at, frame)
 }
 
 // VL: 27·t less the time that its timestamp encodes. Both count the same wraps, which drop out.
 pub fn video_latency(t: u64, stamp: u32) -> i64
     ensures { λ r. ⌜ r ≡ latency (grains t) stamp ⌝ }
 {
-    let x = split27(t, WRAP);
+    let past = rest27(t, WRAP);
     let ticks = stamp as u64;
-    let past = x.remainder;
     difference(past, TICK * ticks)
 }
 

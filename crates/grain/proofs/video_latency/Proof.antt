@@ -7,25 +7,25 @@ use mir.Syntax.{w64}
 use mir.Facts.{toZ-ofZ}
 use Rattle.grain.specs.Paper.{tick, wrap}
 use Rattle.grain.proofs.EncodedTime.{latency-is}
-use Rattle.grain.proofs.WideDivision.{rest-is, rest-small}
+use native.Mathlib.Nat.{mod-lt}
 use borrow.Author.Needs.{needs}
 use Rattle.grain.proofs.video_latency.Statement.{statement}
 use Rattle.grain.proofs.video_latency.Tie as tie
 
-split27-requires : tie.Need-split27-requires
-split27-requires c κs = search needs
+rest27-requires : tie.Need-rest27-requires
+rest27-requires c κs = search needs
 
 mul-difference : tie.Need-mul-difference
 mul-difference c = search needs
 
 difference-requires : tie.Need-difference-requires
-difference-requires c κs = omega (arith, rest-small _ _ (c .split27 .ensures) (omega arith))
+difference-requires c κs = omega (arith, c .rest27 .ensures, mod-lt (27 * c .before .args .t) {m = wrap} (omega arith))
 
 returns : tie.Need-returns
 returns c = let a = c .before .before .args in
     toZ-ofZ {w = w64} (record { sfits = c .difference .ok }) ∙ c .difference .ensures
-    ∙ ap (λ (n : ℕ). subℕ n (tick * a .stamp)) (rest-is (a .t) wrap (c .before .split27 .ensures)) ∙ latency-is (27 * a .t) (a .stamp)
+    ∙ ap (λ (n : ℕ). subℕ n (tick * a .stamp)) (c .before .rest27 .ensures) ∙ latency-is (27 * a .t) (a .stamp)
 
 pub video-latency-spec : {M : Type 1} → statement M
 video-latency-spec =
-    tie.close (tie.spec split27-requires mul-difference difference-requires returns)
+    tie.close (tie.spec rest27-requires mul-difference difference-requires returns)
