@@ -1,15 +1,13 @@
 -- The code's step, packet by packet from the empty bucket, goes through the states that the whole history declares by place.
-use mathlib.Core.Path.{_≡_, refl, sym, ap, _∙_}
-use mathlib.Core.Bool.{Bool, true, false}
+use mathlib.Core.Path.{_≡_, refl}
 use mathlib.Core.List.{List, flatten}
-use Prim.Native.Nat.{ℕ, zero, suc, _+_, _-_, _≤_, _<_}
-use native.Mathlib.Omega.{arith}
+use Prim.Native.Nat.{ℕ, zero, suc, _-_, _<_}
 use native.Mathlib.Nat.{zero-sub}
 use lib.Dec.{leb·zero}
 use lib.ListN.{length, getD}
 use Rattle.laws.specs.Fold.{fold, fold-states, fold-pieces, fold-joined}
 use Rattle.bucket.specs.declared.Bucket.{Bucket}
-use Rattle.bucket.specs.Step.{emptyOf, stepOf, levelAt, startAt, networkAt, bucketAt, drainsSince}
+use Rattle.bucket.specs.Step.{emptyOf, stepOf, bucketAt, drainsSince}
 
 pub step-by-place : (D : ℕ → ℕ) (limit i : ℕ) → stepOf (bucketAt D limit i) i (drainsSince D i) limit ≡ bucketAt D limit (suc i)
 unfolding stepOf bucketAt

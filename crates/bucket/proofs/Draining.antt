@@ -1,8 +1,8 @@
 -- Instant by instant: the packets up to i are the drains that found one, up to its arrival, and the
 -- level. Between two arrivals the drains see the same packets, so they take one each until none is left.
-use mathlib.Core.Path.{_≡_, refl, sym, ap, _∙_}
+use mathlib.Core.Path.{_≡_, refl, ap, _∙_}
 use mathlib.Core.Logic.{_⊎_, inl, inr}
-use mathlib.Core.Bool.{Bool, true, false, not, _&&_}
+use mathlib.Core.Bool.{Bool, true, false}
 use Prim.Native.Nat.{ℕ, zero, suc, _+_, _-_, _*_, _/_, _≤_, _<_, min}
 use native.Mathlib.Omega.{arith}
 use native.Mathlib.Nat.{le-suc-iff, sub-self, zero-mul, zero-div, div-lt-iff-lt-mul, le-div-iff-mul-le}
@@ -13,7 +13,6 @@ use Rattle.laws.specs.Choose.{pick}
 use Rattle.laws.specs.Count.{count, count-up-to, count-same}
 use Rattle.bucket.specs.Paper.{History, elapsed, drains, comesBefore, arrivedBefore, found, level}
 use Rattle.bucket.specs.Step.{levelAt}
-use Rattle.bucket.proofs.Levels.{level-positive}
 
 -- x/y is below k exactly when x is below k·y
 below-quotient : (x y k : ℕ) → 0 < y → ltb x (k * y) ≡ ltb (x / y) k

@@ -3,12 +3,12 @@
 use mathlib.Core.Path.{_≡_, refl, sym, ap, _∙_}
 use mathlib.Core.Logic.{_↔_}
 use mathlib.Core.Bool.{Bool, true, false, not, _&&_}
-use Prim.Native.Nat.{ℕ, zero, suc, pred, _+_, _-_, _*_, _/_, _≤_, _<_, min}
+use Prim.Native.Nat.{ℕ, zero, suc, _+_, _-_, _*_, _≤_, _<_}
 use native.Mathlib.Omega.{arith}
-use native.Mathlib.Nat.{not-suc-le-zero, le-div-iff-mul-le, div-lt-iff-lt-mul}
+use native.Mathlib.Nat.{le-div-iff-mul-le, div-lt-iff-lt-mul}
 use lib.Dec.{leb, leb→le}
-use lib.IntN.{ℤ, pos, subℕ}
-use lib.Signed.{_≤ℤ_, _<ℤ_}
+use lib.IntN.{ℤ, pos}
+use lib.Signed.{_≤ℤ_}
 use borrow.Author.Tests.{leb-true, leb-false, le-leb, lt-leb}
 use Rattle.laws.specs.Climb.{Climbs, climbs-le}
 use Rattle.laws.specs.Choose.{false-true}
@@ -17,14 +17,13 @@ use Rattle.laws.specs.Count.{count, count-between}
 use Rattle.laws.specs.Differ.{differ-sub, differ-same, differ-le, differ-lt, lt-differ}
 use Rattle.grain.specs.Paper.{InstantBy}
 use Rattle.grain.proofs.InstantCount.{instants-are, instants-grow}
-use Rattle.bucket.specs.declared.Run.{Run}
 use Rattle.bucket.specs.declared.Network.{Network}
 use Rattle.bucket.specs.declared.Network.the-variants.{Pass, Burst}
 use Rattle.bucket.specs.Paper.{History, elapsed, drains, found, level, IsRun, drainsRun, excess, GreatestEnding, GreatestExcess}
-use Rattle.bucket.specs.Paper.{Fails, FirstFailing, NetworkIs}
+use Rattle.bucket.specs.Paper.{Fails, NetworkIs}
 use Rattle.bucket.specs.Step.{levelAt, startAt, networkAt, bucketAt}
 use Rattle.bucket.proofs.Levels.{level-one, level-bound, level-named}
-use Rattle.bucket.proofs.Runs.{Above, Peak, peak-is, First, OfRuns, of-runs}
+use Rattle.bucket.proofs.Runs.{Above, Peak, peak-is, OfRuns, of-runs}
 use Rattle.bucket.proofs.Draining.{conserved, level-is}
 
 -- what each arrival says of the one before it, in an accepted history (refusal 12)

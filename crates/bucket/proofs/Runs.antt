@@ -1,6 +1,6 @@
 -- Peak and first burst in sums of naturals, over any D: the peak is the
 -- greatest level, and the first level above the limit names the first burst.
-use mathlib.Core.Path.{_≡_, refl, ap}
+use mathlib.Core.Path.{_≡_, refl}
 use mathlib.Core.Bool.{Bool, true, false}
 use Prim.Native.Nat.{ℕ, zero, suc, _+_, _-_, _≤_, _<_}
 use native.Mathlib.Omega.{arith}
@@ -10,7 +10,6 @@ use borrow.Author.Tests.{ltb-true, ltb-false}
 use Rattle.laws.specs.Climb.{Climbs}
 use Rattle.laws.specs.Choose.{up-to}
 use Rattle.laws.specs.Most.{most, most-is}
-use Rattle.bucket.specs.declared.Run.{Run}
 use Rattle.bucket.specs.declared.Network.{Network}
 use Rattle.bucket.specs.declared.Network.the-variants.{Pass, Burst}
 use Rattle.bucket.specs.Step.{levelAt, startAt, judged, networkAt}

@@ -9,7 +9,6 @@ use lib.Signed.{_≤ℤ_, _<ℤ_}
 use Rattle.laws.specs.Choose.{pick}
 use Rattle.laws.specs.Count.{count}
 use Rattle.grain.specs.Paper.{instants}
-use Rattle.bucket.specs.declared.Run.{Run}
 use Rattle.bucket.specs.declared.Network.{Network}
 use Rattle.bucket.specs.declared.Network.the-variants.{Pass, Burst}
 

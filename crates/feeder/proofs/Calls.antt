@@ -10,8 +10,8 @@ use Rattle.timing.specs.declared.SetUp.the-variants.{Fresh, Refused as Not-Set-
 use Rattle.timing.specs.declared.Fed.{Fed}
 use Rattle.timing.specs.declared.Fed.the-variants.{Accepted, Refused}
 use Rattle.timing.specs.Answers.{setUpAs}
-use Rattle.timing.specs.Feed.{Outcome, feedOf, Is as Fed-Is}
-use Rattle.feeder.specs.Whole.{Told, summed, byFed, told, from, wholeOf, Is}
+use Rattle.timing.specs.Feed.{feedOf, Is as Fed-Is}
+use Rattle.feeder.specs.Whole.{Told, summed, byFed, from, wholeOf, Is}
 
 -- what is told is the answer's, whatever the answer is
 answered : (x : StreamNumbers) (rows : List ℤ) (out ts ss ms : List ℕ) {a : SetUp} {s : State} {b : Fed} {after : List ℤ}

@@ -1,7 +1,7 @@
 -- The buffer answer is that of the first whole frame that fails: each frame's own answer first, then their joining, place by place.
 use mathlib.Core.Path.{_≡_, refl, sym, ap, _∙_, subst}
-use mathlib.Core.Bool.{Bool, true, false, _&&_}
-use Prim.Native.Nat.{ℕ, zero, suc, _+_, _-_, _*_, _≤_, _<_}
+use mathlib.Core.Bool.{Bool, true, false}
+use Prim.Native.Nat.{ℕ, zero, suc, _+_, _-_, _≤_, _<_}
 use native.Mathlib.Omega.{arith}
 use native.Mathlib.Nat.{not-suc-le-zero}
 use native.Mathlib.Decide.{decLt}
@@ -17,9 +17,9 @@ use Rattle.frame.specs.declared.Plan.{Plan}
 use Rattle.frame.specs.declared.Place.{Place}
 use Rattle.frame.specs.declared.Buffer.{Buffer}
 use Rattle.frame.specs.declared.Buffer.the-variants.{None, Pass, Under, Over}
-use Rattle.frame.specs.Paper.{History, closesAt, numberAt, since, kindAt, arrival, firstRead, readsTo, arrivedBy, PeakIs, LeastIs}
+use Rattle.frame.specs.Paper.{History, closesAt, numberAt, since, kindAt, arrival, firstRead, readsTo, arrivedBy, PeakIs}
 use Rattle.frame.specs.Paper.{late, Dry, Overfull, Whole, Fails, dry, overfull, UnderAt, OverAt, BufferIs}
-use Rattle.frame.specs.Step.{kindOf, answerOf, joined}
+use Rattle.frame.specs.Step.{answerOf, joined}
 use Rattle.frame.specs.ByPlace.{closedAt, answerAt, bufferAt}
 use Rattle.frame.specs.Range.{Planned}
 use Rattle.frame.proofs.FrameKinds.{answer-broken, answer-under, answer-over, answer-pass}

@@ -1,13 +1,13 @@
 -- Reads and arrivals of n packets: packet i is there by read j exactly when the reads before it are at most j. From it: least is minus
 -- the greatest lack at an arrival, the peak is the greatest level, and the buffer runs dry exactly when a packet comes after its read.
-use mathlib.Core.Path.{_≡_, refl, sym, ap, _∙_}
+use mathlib.Core.Path.{_≡_, refl, sym, _∙_}
 use mathlib.Core.Bool.{Bool, true, false}
-use Prim.Native.Nat.{ℕ, zero, suc, _+_, _-_, _*_, _≤_, _<_}
+use Prim.Native.Nat.{ℕ, suc, _+_, _-_, _*_, _≤_, _<_}
 use native.Mathlib.Omega.{arith}
 use native.Mathlib.Nat.{mul-le-mul-right}
 use native.Mathlib.Decide.{decLt}
 use lib.Dec.{ltb, leb}
-use lib.IntN.{ℤ, pos, subℕ}
+use lib.IntN.{pos, subℕ}
 use lib.Signed.{_≤ℤ_}
 use borrow.Author.Tests.{ltb-true, lt-ltb, leb-true, le-leb}
 use Rattle.laws.specs.Most.{most, most-is}

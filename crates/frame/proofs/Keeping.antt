@@ -1,19 +1,18 @@
 -- What the open frame keeps, packet by packet, is what its packets say: one step goes from what k
 -- packets say to what k + 1 say. And its times, taken from the first packet on, are those of the paper.
-use mathlib.Core.Path.{_≡_, refl, sym, ap, _∙_}
+use mathlib.Core.Path.{_≡_, refl, sym, _∙_}
 use mathlib.Core.Bool.{Bool, true, false}
 use Prim.Native.Nat.{ℕ, zero, suc, _+_, _-_, _*_, _≤_, _<_}
 use native.Mathlib.Omega.{arith}
 use native.Mathlib.Nat.{add-mul}
 use native.Mathlib.Numerals.{add-one}
-use lib.Dec.{ltb, eqb·suc-zero}
+use lib.Dec.{eqb·suc-zero}
 use borrow.Author.Tests.{ltb-true, ltb-false, lt-ltb, le-ltb}
 use Rattle.laws.specs.Count.{count-same}
 use Rattle.grain.specs.Paper.{frameTime, phase, readBefore, readsBefore}
 use Rattle.grain.proofs.Rounding.{phase-from}
 use Rattle.frame.specs.declared.Plan.{Plan}
-use Rattle.frame.specs.declared.Frame.{Frame}
-use Rattle.frame.specs.Step.{emptyOf, openedOf, countedOf, pushOf}
+use Rattle.frame.specs.Step.{openedOf, countedOf, pushOf}
 use Rattle.frame.specs.ByPlace.{readsFrom, keptOf}
 
 module _ (plan : Plan) (time stamp : ℕ → ℕ) where

@@ -1,10 +1,10 @@
 -- Each number that is kept of the frames stays in its range, packet by packet; and from these ranges the code's own demands follow.
-use mathlib.Core.Path.{_≡_, refl, sym, ap, _∙_, subst}
+use mathlib.Core.Path.{_≡_, refl, sym, _∙_}
 use mathlib.Core.Bool.{Bool, true, false, not}
-use Prim.Native.Nat.{ℕ, zero, suc, _+_, _-_, _*_, _≤_, _<_, max}
+use Prim.Native.Nat.{ℕ, _+_, _-_, _*_, _≤_, _<_}
 use native.Mathlib.Omega.{arith}
 use lib.Dec.{ltb, eqb}
-use borrow.Author.Tests.{ltb-true, ltb-false, eqb-true, eqb-false}
+use borrow.Author.Tests.{eqb-false}
 use Rattle.laws.specs.Choose.{pick, pick-either, false-true}
 use Rattle.laws.specs.Count.{count-le}
 use Rattle.grain.specs.Paper.{readBefore}
@@ -13,9 +13,8 @@ use Rattle.frame.specs.declared.Frame.{Frame}
 use Rattle.frame.specs.declared.Frames.{Frames}
 use Rattle.frame.specs.declared.Buffer.{Buffer}
 use Rattle.frame.specs.declared.Buffer.the-variants.{None, Pass, Under, Over}
-use Rattle.frame.specs.Paper.{bufferFrame, bufferPlace}
-use Rattle.frame.specs.Step.{lower, kindOf, emptyOf, openedOf, countedOf, readsOf, pushOf, answerOf, joined, noFrames, arriveOf}
-use Rattle.frame.specs.Step.{closeOf, stepOf}
+use Rattle.frame.specs.Step.{lower, kindOf, openedOf, countedOf, readsOf, pushOf, answerOf, joined, noFrames, arriveOf}
+use Rattle.frame.specs.Step.{closeOf}
 use Rattle.frame.specs.Range.{Planned, Pushable, Rowable, Answered, Kept}
 use Rattle.frame.proofs.Opening.{Timed, timed}
 

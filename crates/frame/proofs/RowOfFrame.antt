@@ -1,12 +1,12 @@
 -- A closed frame's row is the row of its stretch of the history: what was
 -- kept, packet by packet, in the paper's words; and one row only is so.
 use mathlib.Core.Path.{_≡_, refl, sym, ap, _∙_, subst}
-use mathlib.Core.Bool.{Bool, true, false, not, _&&_}
-use Prim.Native.Nat.{ℕ, zero, suc, pred, _+_, _-_, _*_, _≤_, _<_}
+use mathlib.Core.Bool.{Bool, true, false, _&&_}
+use Prim.Native.Nat.{ℕ, suc, pred, _+_, _-_, _*_, _≤_, _<_}
 use native.Mathlib.Omega.{arith}
-use native.Mathlib.Nat.{add-zero, add-sub-of-le}
-use lib.Dec.{ltb, leb, eqb}
-use lib.IntN.{ℤ, pos, subℕ, _-ℤ_}
+use native.Mathlib.Nat.{add-zero}
+use lib.Dec.{ltb, eqb}
+use lib.IntN.{ℤ, pos, subℕ}
 use lib.Signed.{_≤ℤ_}
 use borrow.Author.Tests.{ltb-false, eqb-true, eqb-false}
 use Rattle.laws.specs.Choose.{pick, false-true}
@@ -14,15 +14,14 @@ use Rattle.laws.specs.Climb.{Climbs, climbs-le}
 use Rattle.laws.specs.Most.{most, most-same}
 use Rattle.laws.specs.Seek.{seek, seek-same}
 use Rattle.laws.specs.Differ.{differ-sub, differ-same, both-ways}
-use Rattle.grain.specs.Paper.{grains, frameTime, firstPacketTime, rtpOffset, latency, phase, readsBefore}
+use Rattle.grain.specs.Paper.{grains, firstPacketTime, latency, phase}
 use Rattle.grain.proofs.Rounding.{phase-less}
 use Rattle.grain.proofs.EncodedTime.{offset-is, margin-is}
-use Rattle.grain.proofs.SignedRange.{not-below}
 use Rattle.frame.specs.declared.Plan.{Plan}
 use Rattle.frame.specs.declared.Frame.{Frame}
 use Rattle.frame.specs.declared.Row.{Row}
-use Rattle.frame.specs.Paper.{History, begunAt, closesAt, numberAt, since, heldAt, differsAt, kindAt, detailAt, arrival, firstRead}
-use Rattle.frame.specs.Paper.{readsTo, levelOf, PeakIs, arrivedBy, LeastIs, Measured, Zeros, RowIs}
+use Rattle.frame.specs.Paper.{History, begunAt, closesAt, numberAt, since, heldAt, differsAt, kindAt, arrival, firstRead}
+use Rattle.frame.specs.Paper.{readsTo, PeakIs, LeastIs, Measured, RowIs}
 use Rattle.frame.specs.Step.{kindOf, detailOf, wholeRow, brokenRow, rowOf}
 use Rattle.frame.specs.ByPlace.{readsFrom, keptOf, frameFrom, closedAt, markedTime}
 use Rattle.frame.specs.Range.{Planned}

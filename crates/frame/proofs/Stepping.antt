@@ -3,21 +3,18 @@
 use mathlib.Core.Path.{_≡_, refl, sym, ap, _∙_}
 use mathlib.Core.Bool.{Bool, true, false, _&&_}
 use mathlib.Core.List.{List, [], _∷_, flatten}
-use Prim.Native.Nat.{ℕ, zero, suc, _+_, _-_}
-use native.Mathlib.Omega.{arith}
+use Prim.Native.Nat.{ℕ, suc, _+_, _-_}
 use native.Mathlib.Nat.{add-sub-of-le, sub-self, add-zero}
 use Rattle.laws.specs.Choose.{pick}
 use Rattle.laws.specs.Count.{count}
 use Rattle.laws.specs.Fold.{fold, fold-pieces, fold-joined}
 use Rattle.frame.specs.declared.Plan.{Plan}
-use Rattle.frame.specs.declared.Frame.{Frame}
 use Rattle.frame.specs.declared.Frames.{Frames}
-use Rattle.frame.specs.declared.Row.{Row}
 use Rattle.frame.specs.declared.Buffer.{Buffer}
 use Rattle.frame.specs.declared.Buffer.the-variants.{None, Pass, Under, Over}
-use Rattle.frame.specs.Paper.{History, begunAt, closesAt, numberAt, since, heldAt}
+use Rattle.frame.specs.Paper.{History, begunAt, numberAt, since}
 use Rattle.frame.specs.Step.{emptyOf, pushOf, rowOf, answerOf, joined, noFrames, arriveOf, closeOf, stepOf, rowsOf}
-use Rattle.frame.specs.ByPlace.{keptOf, frameFrom, openAt, closedAt, markedTime, answerAt, bufferAt, framesAt, rowsAt}
+use Rattle.frame.specs.ByPlace.{keptOf, openAt, closedAt, markedTime, bufferAt, framesAt, rowsAt}
 use Rattle.frame.proofs.Stretches.{since-is, one-more, begun-next}
 use Rattle.frame.proofs.Keeping.{kept-step}
 

@@ -1,12 +1,10 @@
 -- What the steps keep, by place: of the open frame after k packets, and of all the frames before packet i of the history.
-use mathlib.Core.Path.{_≡_}
-use mathlib.Core.Bool.{Bool, true, false, not, _&&_}
+use mathlib.Core.Bool.{not}
 use mathlib.Core.List.{List, [], _∷_}
 use Prim.Native.Nat.{ℕ, zero, suc, _+_, _-_, _*_}
 use lib.Dec.{ltb, eqb}
 use Rattle.laws.specs.Choose.{pick}
 use Rattle.laws.specs.Most.{most}
-use Rattle.laws.specs.Count.{count}
 use Rattle.laws.specs.Seek.{seek}
 use Rattle.grain.specs.Paper.{phase, readsBefore}
 use Rattle.frame.specs.declared.Plan.{Plan}
@@ -14,7 +12,7 @@ use Rattle.frame.specs.declared.Frame.{Frame}
 use Rattle.frame.specs.declared.Frames.{Frames}
 use Rattle.frame.specs.declared.Row.{Row}
 use Rattle.frame.specs.declared.Buffer.{Buffer}
-use Rattle.frame.specs.declared.Buffer.the-variants.{None, Pass, Under, Over}
+use Rattle.frame.specs.declared.Buffer.the-variants.{None}
 use Rattle.frame.specs.Paper.{History, begunAt, closesAt, numberAt, since, heldAt}
 use Rattle.frame.specs.Step.{emptyOf, rowOf, answerOf, joined}
 

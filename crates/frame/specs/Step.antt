@@ -1,16 +1,15 @@
 -- The frames step by step, as the code goes: the open frame by one packet more, its row and its answer, and what a marker closes.
 use mathlib.Core.Bool.{Bool, true, false, not, _&&_}
 use mathlib.Core.List.{List, [], _∷_}
-use Prim.Native.Nat.{ℕ, zero, suc, _+_, _-_, _*_, max}
+use Prim.Native.Nat.{ℕ, _+_, _-_, _*_, max}
 use lib.Dec.{ltb, eqb}
-use lib.IntN.{ℤ, pos, negℤ, subℕ, _-ℤ_}
+use lib.IntN.{ℤ, pos, subℕ, _-ℤ_}
 use Rattle.laws.specs.Choose.{pick}
 use Rattle.grain.specs.Paper.{phase, latency, readsBefore}
 use Rattle.frame.specs.declared.Plan.{Plan}
 use Rattle.frame.specs.declared.Frame.{Frame}
 use Rattle.frame.specs.declared.Frames.{Frames}
 use Rattle.frame.specs.declared.Row.{Row}
-use Rattle.frame.specs.declared.Place.{Place}
 use Rattle.frame.specs.declared.Buffer.{Buffer}
 use Rattle.frame.specs.declared.Buffer.the-variants.{None, Pass, Under, Over}
 

@@ -1,5 +1,5 @@
 -- 27t less the encoded time is the rest of 27t by the wrap less the ticks: the wraps drop out. And RTP_OFFSET is FPT less VL.
-use Prim.Native.Nat.{ℕ, _+_, _*_, _/_, _%_, _≤_, _<_}
+use Prim.Native.Nat.{ℕ, _+_, _*_, _%_, _≤_, _<_}
 use mathlib.Core.Path.{_≡_, sym, ap, subst, _∙_}
 use native.Mathlib.Omega.{arith}
 use native.Mathlib.Nat.{div-add-mod', mod-lt}

@@ -5,7 +5,7 @@ use native.Mathlib.Omega.{arith}
 use native.Mathlib.Nat.{le-div-iff-mul-le, mul-le-mul-right, add-sub-of-le, add-mul, suc-mul, zero-mul, sub-eq-zero-of-le}
 use native.Mathlib.Decide.{decLe}
 use borrow.Author.Tests.{ltb-true, lt-ltb}
-use Rattle.laws.specs.Count.{count, UpTo, count-up-to}
+use Rattle.laws.specs.Count.{count-up-to}
 use Rattle.grain.specs.Paper.{readBefore, readsBefore}
 
 module _ (n base num den : ℕ) (p : 0 < num) (x : ℕ) where

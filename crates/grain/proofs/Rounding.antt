@@ -3,9 +3,9 @@ use Prim.Native.Nat.{ℕ, _+_, _*_, _-_, _/_, _%_, _≤_, _<_}
 use mathlib.Core.Path.{_≡_, ap, _∙_}
 use native.Mathlib.Omega.{arith}
 use native.Mathlib.Nat.{div-add-mod', mod-lt, div-mul-le-self, lt-div-mul-add, mul-le-mul-right, suc-mul, add-mul}
-use lib.IntN.{ℤ, pos, negℤ, subℕ, _+ℤ_}
+use lib.IntN.{pos, negℤ, subℕ}
 use lib.Signed.{_≤ℤ_, _<ℤ_}
-use Rattle.laws.specs.Differ.{Differ, differ-sub, differ-le, differ-lt, differ-neg, sub-same}
+use Rattle.laws.specs.Differ.{differ-sub, differ-le, differ-lt, differ-neg, sub-same}
 use Rattle.grain.specs.Paper.{Nearest, nearest, frameTime, phase, firstPacketTime}
 
 pub nearest-is : (g F : ℕ) → 0 < F → Nearest g F (nearest g F)

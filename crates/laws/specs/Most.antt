@@ -1,5 +1,5 @@
 -- The greatest of f 0 .. f (m - 1), and 0 where m is 0: as a predicate that one number meets, and by recursion on m.
-use mathlib.Core.Path.{_≡_, refl, ap}
+use mathlib.Core.Path.{_≡_, refl}
 use Prim.Native.Nat.{ℕ, zero, suc, _≤_, _<_, max}
 use native.Mathlib.Omega.{arith}
 use native.Mathlib.Nat.{not-suc-le-zero}

@@ -9,7 +9,7 @@ use native.Mathlib.Nat.{mul-one, one-mul, mul-comm, mul-assoc, mul-left-comm, mu
 use native.Mathlib.Nat.{div-div-eq-div-mul, mul-div-mul-left, div-le-of-le-mul}
 use lib.ListN.{List·getD-eq-default}
 use Rattle.laws.specs.Choose.{false-true}
-use Rattle.limits.specs.Fraction.{Fraction, whole, _·_, _÷_, int}
+use Rattle.limits.specs.Fraction.{whole, _·_, _÷_, int}
 use Rattle.limits.specs.Paper.{second, frameLengths, frameLength, activeRatio, seconds, classes, classOf, cMax, vrxFull, classFits}
 use Rattle.limits.specs.Paper.{firstNo}
 use Rattle.limits.specs.Steps.{Divides}

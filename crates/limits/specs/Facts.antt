@@ -10,7 +10,7 @@ use borrow.Author.Tests.{leb-true, eqb-true, eqb-false}
 use lib.Dec.{leb, eqb}
 use lib.ListN.{getD, length}
 use Rattle.laws.specs.Choose.{pick, pick-either}
-use Rattle.limits.specs.Fraction.{Fraction, whole, _·_, _÷_, Same, int}
+use Rattle.limits.specs.Fraction.{Fraction, whole, _÷_, Same, int}
 use Rattle.limits.specs.Paper.{microsecond, frameLengths, frameLength, activeRatio, allOnes, defaultTro, troGrains}
 use Rattle.limits.specs.Paper.{readSpacing, readNum, readDen}
 use Rattle.limits.specs.Accepted.{Accepted, both}

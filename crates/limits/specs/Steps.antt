@@ -1,5 +1,5 @@
 -- What the code of a limit asks of the number that it is given from the paper's formula.
-use mathlib.Core.Path.{_≡_, refl}
+use mathlib.Core.Path.{_≡_}
 use Prim.Native.Nat.{ℕ, _*_, _/_, _≤_}
 use Rattle.limits.specs.Paper.{second}
 

@@ -1,7 +1,7 @@
 -- What was to be printed is what a call writes, and then what is still to be printed. One record at a time: what stands at the walk is
 -- what stands there in the whole file, and each answer's line is the paper's. By the turns still allowed.
 use mathlib.Core.Path.{_≡_, refl, sym, ap, subst, _∙_}
-use mathlib.Core.Bool.{Bool, true, false, not}
+use mathlib.Core.Bool.{Bool, true, false}
 use mathlib.Core.List.{List, [], _∷_, _++_, append-nil, append-assoc}
 use Prim.Native.Nat.{ℕ, zero, suc, _+_, _-_, _^_, _≤_, _<_}
 use native.Mathlib.Omega.{arith}

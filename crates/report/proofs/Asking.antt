@@ -1,12 +1,12 @@
 -- A file is asked for and the room after it: the count of frames that the check gives tells how long the report is. So what is asked
 -- decides the number, the offset and the bytes, and a file that is fine can be measured.
-use mathlib.Core.Path.{_≡_, refl, sym, ap, subst, _∙_}
+use mathlib.Core.Path.{_≡_, refl, sym, ap, _∙_}
 use mathlib.Core.Bool.{Bool, true, false}
-use mathlib.Core.List.{List, [], _∷_, _++_, map}
+use mathlib.Core.List.{List, _++_, map}
 use Prim.Native.Nat.{ℕ, _+_, _-_, _*_, _/_, _≤_, _<_}
 use native.Mathlib.Omega.{arith}
 use lib.Dec.{leb}
-use lib.IntN.{ℤ, pos}
+use lib.IntN.{pos}
 use lib.ListN.{length, drop, length-append, length-map}
 use lib.Seq.{sets}
 use borrow.Author.Tests.{le-leb, lt-leb, leb-true, leb-false}
@@ -22,16 +22,14 @@ use Rattle.timing.specs.Step.{rulesOf, freshOf, numbers}
 use Rattle.timing.specs.Answers.{summaryOf}
 use Rattle.timing.specs.Laws.Scanning.{numbers-length, scan-runs}
 use Rattle.record.specs.declared.Numbers.{Numbers}
-use Rattle.record.specs.declared.Checked.{Checked}
 use Rattle.record.specs.declared.Checked.the-variants as checked
-use Rattle.record.specs.Paper.{done, packetsIn, Packets, File, file, refused, fileOf}
+use Rattle.record.specs.Paper.{Packets, File, file, refused, fileOf}
 use Rattle.record.specs.Walk.{asChecked, checkedOf}
 use Rattle.record.proofs.ReadWrite.{FileHolds, file-holds}
-use Rattle.report.specs.declared.Asked.{Asked}
 use Rattle.report.specs.declared.Asked.the-variants.{Fine, Refused}
 use Rattle.report.specs.Paper.{streamOf, stateOf, rowsOf, reportOf, inBytes, encoded, bytesFor, answer, answered, answerOf, filled}
 use Rattle.report.specs.Paper.{filledBy}
-use Rattle.report.specs.Step.{needed, asAsked, askedOf, packetsOf, Measurable, Measured, Measures}
+use Rattle.report.specs.Step.{needed, asAsked, askedOf, packetsOf, Measurable, Measured}
 use Rattle.report.proofs.Bytes.{nine, length-stored, length-encoded, encoded-append, naturals, front-last}
 
 -- the room, divided: fewer than nine numbers; then the rows

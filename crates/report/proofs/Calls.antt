@@ -1,11 +1,11 @@
 -- The other C functions, one law for each way out: the writer's answer as a number, the four limits, the three doubles.
 use mathlib.Core.Path.{_≡_, refl, sym, ap, _∙_}
-use mathlib.Core.List.{List, [], _∷_, _++_}
-use Prim.Native.Nat.{ℕ, _+_, _≤_, _<_}
+use mathlib.Core.List.{List, [], _∷_}
+use Prim.Native.Nat.{ℕ, _≤_, _<_}
 use native.Mathlib.Omega.{arith}
 use lib.Ieee.{Float}
 use lib.IntN.{ℤ}
-use lib.ListN.{length, drop, set}
+use lib.ListN.{length}
 use lib.Seq.{sets, sets-eq}
 use mir.Syntax.{w64}
 use mir.Val.{SFits, toZ, ofZ}
@@ -16,7 +16,7 @@ use Rattle.timing.specs.declared.StreamNumbers.{StreamNumbers}
 use Rattle.timing.specs.declared.Graph.{Graph}
 use Rattle.timing.specs.declared.Drawn.{Drawn}
 use Rattle.timing.specs.declared.Drawn.the-variants.{Figures, Refused as Not-Drawn}
-use Rattle.timing.specs.Step.{setUpOf, rulesOf}
+use Rattle.timing.specs.Step.{setUpOf}
 use Rattle.timing.specs.Answers.{graphOf}
 use Rattle.record.specs.declared.Numbers.{Numbers}
 use Rattle.record.specs.declared.Written.{Written}

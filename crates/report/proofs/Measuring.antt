@@ -1,8 +1,8 @@
 -- The packets of a file measured one by one: what is left of the file, from the state and the bytes so far, gives what the whole gives.
 -- A packet's turn is the measurement's one step (timing's Running), and its row is stored behind those before it.
 use mathlib.Core.Path.{_≡_, refl, sym, ap, subst, _∙_}
-use mathlib.Core.Bool.{Bool, true, false}
-use mathlib.Core.List.{List, [], _∷_, _++_, append-nil}
+use mathlib.Core.Bool.{true, false}
+use mathlib.Core.List.{List, [], _∷_}
 use Prim.Native.Nat.{ℕ, _+_, _*_, _/_, _≤_, _<_}
 use native.Mathlib.Omega.{arith}
 use native.Mathlib.Nat.{add-zero}
@@ -11,11 +11,10 @@ use lib.ListN.{length, take, drop, getD, length-drop}
 use lib.Seq.{sets, drop-drop, getD-drop, length-sets}
 use borrow.Author.Tests.{eq-eqb, ne-eqb}
 use Rattle.laws.specs.Fold.{fold}
-use Rattle.bigendian.specs.Number.{numberOf, numberAt, Room}
+use Rattle.bigendian.specs.Number.{numberOf, numberAt}
 use Rattle.bigendian.proofs.Width.{sets-join}
-use Rattle.packet.specs.declared.Past.{Past}
 use Rattle.packet.specs.Paper.{Packet}
-use Rattle.packet.specs.Step.{nothing, numberOf as refusedBy, nextOf}
+use Rattle.packet.specs.Step.{nothing, nextOf}
 use Rattle.frame.specs.declared.Row.{Row}
 use Rattle.frame.specs.Step.{rowOf, numbersOf}
 use Rattle.frame.specs.Step as F
@@ -23,7 +22,7 @@ use Rattle.timing.specs.declared.StreamNumbers.{StreamNumbers}
 use Rattle.timing.specs.declared.Rules.{Rules}
 use Rattle.timing.specs.declared.State.{State}
 use Rattle.timing.specs.Step.{rulesOf, freshOf, arriveOf, markOf, stepOf, rowsOf, stateAfter, rowsAfter, numbers}
-use Rattle.timing.specs.Feed.{Arrives, Lays, closing, Passes, Runs}
+use Rattle.timing.specs.Feed.{Arrives, Lays, closing, Runs}
 use Rattle.timing.specs.Laws.InRange.{sound-fresh}
 use Rattle.timing.specs.Laws.Laying.{one-row}
 use Rattle.timing.specs.Laws.Scanning.{scan-runs}

@@ -1,5 +1,5 @@
 -- What the C call does with a file and lent bytes, in document 01's words, one theorem a sentence; each by cases on what the file reads as.
-use mathlib.Core.Path.{_≡_, refl, sym, ap, subst, _∙_}
+use mathlib.Core.Path.{_≡_, refl, sym, ap, _∙_}
 use mathlib.Core.Bool.{Bool, true, false}
 use mathlib.Core.List.{List, [], _∷_, _++_, map, append-nil}
 use Prim.Native.Nat.{ℕ, zero, suc, _+_, _*_, _^_, _≤_, _<_}
@@ -11,16 +11,15 @@ use lib.Seq.{take-at, drop-at, drop-drop, drop-length}
 use borrow.Author.Tests.{le-leb, lt-leb}
 use Rattle.laws.specs.Choose.{pick}
 use Rattle.laws.specs.Lay.{laid, laid-is}
-use Rattle.bigendian.specs.Number.{numberOf, bytesOf, numberAt}
+use Rattle.bigendian.specs.Number.{numberOf, bytesOf}
 use Rattle.bigendian.proofs.Width.{length-bytes, number-bytes}
-use Rattle.packet.specs.Paper.{Packet, packets}
+use Rattle.packet.specs.Paper.{Packet}
 use Rattle.timing.specs.declared.State.{State}
 use Rattle.timing.specs.declared.Fed.the-variants.{Accepted}
-use Rattle.timing.specs.Step.{rulesOf, freshOf, numbers}
+use Rattle.timing.specs.Step.{freshOf, numbers}
 use Rattle.timing.specs.Answers.{summaryOf, fedState}
 use Rattle.timing.specs.Feed.{Outcome, acceptedAs}
 use Rattle.record.specs.declared.Numbers.{Numbers}
-use Rattle.record.specs.declared.Written.the-variants.{Done}
 use Rattle.record.specs.Paper.{File, file, refused, fileOf}
 use Rattle.record.specs.Write as record-write
 use Rattle.report.specs.Paper.{streamOf, stateOf, rowsOf, signed, inBytes, encoded, bytesFor, answer, answered, answerOf, filled}

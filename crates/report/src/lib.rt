@@ -24,7 +24,7 @@ ghost use Rattle.timing.specs.Feed.{Lays};
 ghost use Rattle.timing.specs.Step.{streamWith};
 ghost use Rattle.record.specs.Paper.{numbersWith};
 ghost use Rattle.record.specs.Write.{writtenOf};
-ghost use Rattle.report.specs.Paper.{streamOf, inBytes, encoded, answerOf, writtenNumber, writtenPlace};
+ghost use Rattle.report.specs.Paper.{streamOf, inBytes, encoded, answerOf, writtenPlace};
 ghost use Rattle.report.specs.Step.{refusedBy, needed, askedOf, Closed, Measurable, Measured, Measures, Writes, Limits, Draws};
 
 // What is lent for a file: fine with its stream numbers, or the number and the offset of the refusal.

@@ -1,8 +1,8 @@
 -- Feeding a call's packets: what each part of the code asks and gives, and the whole call, refusals included.
 use mathlib.Core.Path.{_≡_}
-use mathlib.Core.Bool.{Bool, true, false}
+use mathlib.Core.Bool.{true}
 use mathlib.Core.List.{List, [], _∷_, _++_}
-use Prim.Native.Nat.{ℕ, zero, suc, _+_, _*_, _≤_, _<_}
+use Prim.Native.Nat.{ℕ, _+_, _*_, _≤_, _<_}
 use lib.Dec.{leb}
 use lib.IntN.{ℤ}
 use lib.ListN.{length}
@@ -20,7 +20,7 @@ use Rattle.timing.specs.declared.Rules.{Rules}
 use Rattle.timing.specs.declared.State.{State}
 use Rattle.timing.specs.declared.Fed.{Fed}
 use Rattle.timing.specs.declared.Fed.the-variants.{Accepted, Refused}
-use Rattle.timing.specs.Step.{rulesOf, freshOf, stateAfter, rowsAfter, numbers}
+use Rattle.timing.specs.Step.{rulesOf, stateAfter, rowsAfter, numbers}
 use Rattle.timing.specs.Range.{inRange, Sound}
 
 -- ---- what the parts ask and give

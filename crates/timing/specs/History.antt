@@ -1,6 +1,5 @@
 -- The declared state: what the measurement is before packet i of a history, in the words of the crates below, over the whole list by place.
-use mathlib.Core.Bool.{Bool}
-use mathlib.Core.List.{List, [], _∷_, _++_}
+use mathlib.Core.List.{List, [], _++_}
 use Prim.Native.Nat.{ℕ, zero, suc, _*_}
 use lib.ListN.{length}
 use Rattle.packet.specs.Paper.{Packet, marked, at, pastAt}

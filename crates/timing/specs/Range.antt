@@ -1,14 +1,13 @@
 -- The range of each number of a state, as docs/STATE.md gives it, and `inRange`: refusal 9 is for a state where it is false.
-use mathlib.Core.Bool.{Bool, true, false, not, _&&_, _||_}
+use mathlib.Core.Bool.{Bool, true, not, _&&_, _||_}
 use mathlib.Core.List.{List, [], _∷_}
 use mathlib.Core.Path.{_≡_}
-use Prim.Native.Nat.{ℕ, _+_, _-_, _*_, _≤_}
+use Prim.Native.Nat.{_-_, _*_, _≤_}
 use lib.Dec.{leb, ltb, eqb}
 use Rattle.bucket.specs.Paper.{networkFirst, networkLast}
 use Rattle.frame.specs.Paper.{bufferFrame, bufferPlace}
 use Rattle.frame.specs.Range.{Kept}
 use Rattle.timing.specs.declared.State.{State}
-use Rattle.timing.specs.declared.StreamNumbers.{StreamNumbers}
 use Rattle.timing.specs.Step.{setUpOf, frameOf, rulesOf}
 
 unfoldable pub every : List Bool → Bool

@@ -1,5 +1,4 @@
 -- The measurement step by step: what follows from the stream numbers, one packet more, and the rows that it writes.
-use mathlib.Core.Bool.{Bool, true, false}
 use mathlib.Core.List.{List, [], _∷_, _++_}
 use Prim.Native.Nat.{ℕ, _+_, _-_, _*_}
 use lib.IntN.{ℤ}
@@ -11,7 +10,6 @@ use Rattle.packet.specs.declared.Past.{Past}
 use Rattle.packet.specs.Paper.{Packet, marked}
 use Rattle.packet.specs.Step.{nothing, elapsedOf, nextOf}
 use Rattle.bucket.specs.Step as B
-use Rattle.frame.specs.declared.Plan.{Plan}
 use Rattle.frame.specs.declared.Row.{Row}
 use Rattle.frame.specs.Step as F
 use Rattle.timing.specs.declared.StreamNumbers.{StreamNumbers}

@@ -1,8 +1,5 @@
 -- One line for each place, from none to all.
-use Prim.Native.Nat.{ℕ, _+_, _*_, _-_, _≤_, _<_}
-use mathlib.Core.Path.{_≡_}
-use native.Mathlib.Omega.{arith}
-use lib.ListN.{length, length-set}
+use Prim.Native.Nat.{_-_, _≤_}
 use borrow.Author.Needs.{needs}
 use Rattle.cuts.proofs.main.Statement.{statement}
 use Rattle.cuts.proofs.main.Tie as tie

@@ -1,8 +1,6 @@
 -- Each number in turn, up to the end.
-use Prim.Native.Nat.{ℕ, _+_, _*_, _-_, _≤_, _<_}
-use mathlib.Core.Path.{_≡_}
-use native.Mathlib.Omega.{arith}
-use lib.ListN.{length, length-set}
+use Prim.Native.Nat.{_-_, _≤_}
+use lib.ListN.{length}
 use borrow.Author.Needs.{needs}
 use Rattle.cuts.proofs.print_rows.Statement.{statement}
 use Rattle.cuts.proofs.print_rows.Tie as tie

@@ -1,6 +1,6 @@
 -- A number that is not below 0 is its own bits; of one below 0 they are all ones less what −1 less it is.
 use Prim.Native.Nat.{ℕ, _-_}
-use mathlib.Core.Path.{sym, ap, _∙_}
+use mathlib.Core.Path.{ap, _∙_}
 use native.Mathlib.Omega.{arith}
 use mir.Syntax.{w64}
 use mir.Val.{toZ, ofZ}

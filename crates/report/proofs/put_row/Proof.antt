@@ -1,11 +1,11 @@
 -- What is left of the ten numbers, stored from the next place on, gives the end; each turn stores one.
-use mathlib.Core.Path.{_≡_, refl, sym, ap, _∙_}
+use mathlib.Core.Path.{_≡_, refl, ap, _∙_}
 use mathlib.Core.List.{map}
 use Prim.Native.Nat.{_+_, _-_, _*_, _≤_}
 use native.Mathlib.Omega.{arith}
 use native.Mathlib.Nat.{add-zero}
 use lib.ListN.{length, drop}
-use lib.Seq.{sets, length-sets}
+use lib.Seq.{sets}
 use Rattle.report.proofs.Bytes.{length-signs, sign-passed, store-turn, store-done}
 use borrow.Author.Needs.{needs}
 use Rattle.report.specs.Paper.{signed, inBytes, encoded}

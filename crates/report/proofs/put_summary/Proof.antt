@@ -1,9 +1,9 @@
 -- What is left of the nine numbers, stored from the next place on, gives the end; each turn stores one.
-use mathlib.Core.Path.{_≡_, refl, sym, ap, _∙_}
-use Prim.Native.Nat.{_+_, _-_, _*_, _≤_}
+use mathlib.Core.Path.{_≡_, refl, ap, _∙_}
+use Prim.Native.Nat.{_-_, _*_, _≤_}
 use native.Mathlib.Omega.{arith}
 use lib.ListN.{length, drop}
-use lib.Seq.{sets, length-sets}
+use lib.Seq.{sets}
 use Rattle.report.proofs.Bytes.{nine, store-turn, store-done}
 use borrow.Author.Needs.{needs}
 use Rattle.report.specs.Paper.{inBytes}

@@ -7,7 +7,6 @@ use mir.Facts.{toZ-ofZ}
 use Rattle.text.specs.Decimal.{codes, signed}
 use borrow.Author.Needs.{needs}
 use Rattle.text.proofs.Parts.{part-then, part-is}
-use borrow.Author.Needs.{needs}
 use Rattle.text.proofs.put_field.Statement.{statement}
 use Rattle.text.proofs.put_field.Tie as tie
 

@@ -1,7 +1,6 @@
 -- The word, and behind it the number.
 use borrow.Author.Needs.{needs}
 use Rattle.text.proofs.Parts.{part-then}
-use borrow.Author.Needs.{needs}
 use Rattle.text.proofs.put_named.Statement.{statement}
 use Rattle.text.proofs.put_named.Tie as tie
 

@@ -4,7 +4,6 @@ use borrow.Author.Needs.{needs}
 use Rattle.text.specs.Lines.{summaryLine}
 use Rattle.text.proofs.Parts.{part-then, part-is, part-put}
 use Rattle.text.proofs.Grouping.{summary-grouped}
-use borrow.Author.Needs.{needs}
 use Rattle.text.proofs.put_summary.Statement.{statement}
 use Rattle.text.proofs.put_summary.Tie as tie
 

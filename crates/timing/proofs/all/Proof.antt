@@ -1,5 +1,4 @@
 -- Five tests, two at a time.
-use mathlib.Core.Path.{_≡_, _∙_}
 use Rattle.timing.specs.Range.{every}
 use Rattle.timing.specs.Laws.Tests.{and-true}
 use borrow.Author.Needs.{needs}

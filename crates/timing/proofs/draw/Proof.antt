@@ -1,7 +1,6 @@
 -- Each figure in turn: the first that no double holds refuses all three.
-use mathlib.Core.Path.{_≡_, sym, _∙_}
+use mathlib.Core.Path.{sym, _∙_}
 use borrow.Author.Tests.{not-true, not-false}
-use lib.Ieee.{binary64, inFloat}
 use Rattle.timing.specs.Answers.{graphOf, microsecondsOf}
 use Rattle.timing.proofs.Doubles.{back, holds, told}
 use borrow.Author.Needs.{needs}

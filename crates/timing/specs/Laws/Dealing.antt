@@ -1,26 +1,22 @@
 -- A list dealt out over any calls: each call is accepted, and states and rows are those of one call with the
 -- whole list. The idea: an accepted list is one whose packets all pass, and passing may be cut anywhere.
 use mathlib.Core.Path.{_≡_, refl, sym, ap, _∙_, subst}
-use mathlib.Core.Bool.{Bool, true, false, _||_}
+use mathlib.Core.Bool.{Bool}
 use mathlib.Core.List.{List, [], _∷_, _++_}
-use Prim.Native.Nat.{ℕ, zero, suc, _+_, _*_, _≤_}
+use Prim.Native.Nat.{ℕ, _+_, _*_, _≤_}
 use native.Mathlib.Omega.{arith}
-use lib.Dec.{leb}
 use lib.IntN.{ℤ}
 use lib.ListN.{length, length-append}
 use borrow.Author.Tests.{le-leb, eq-eqb}
 use Rattle.laws.specs.Fold.{fold, fold-cut}
-use Rattle.laws.specs.Lay.{laid}
 use Rattle.packet.specs.declared.Past.{Past}
-use Rattle.packet.specs.declared.Scanned.{Scanned}
 use Rattle.packet.specs.declared.Scanned.the-variants.{Fine}
-use Rattle.packet.specs.Paper.{Packet, marked}
+use Rattle.packet.specs.Paper.{Packet}
 use Rattle.packet.specs.Step.{numberOf, nextOf, closes, scanOf}
-use Rattle.frame.specs.declared.Row.{Row}
 use Rattle.timing.specs.declared.Rules.{Rules}
 use Rattle.timing.specs.declared.State.{State}
 use Rattle.timing.specs.Step.{rulesOf, stepOf, rowsOf, stateAfter, rowsAfter, numbers}
-use Rattle.timing.specs.Range.{inRange, Sound}
+use Rattle.timing.specs.Range.{Sound}
 use Rattle.timing.specs.Feed.{Passes, acceptedAs, feedAll, Call, allOf, Deals, none, call, Rooms}
 use Rattle.timing.specs.Laws.InRange.{of-sound}
 use Rattle.timing.specs.Laws.Staying.{sound-step}

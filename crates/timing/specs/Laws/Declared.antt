@@ -2,11 +2,11 @@
 use mathlib.Core.Path.{_≡_, refl, sym, ap, _∙_, subst}
 use mathlib.Core.Bool.{Bool, true, false}
 use mathlib.Core.List.{List, [], _∷_, _++_, append-assoc, append-nil}
-use Prim.Native.Nat.{ℕ, zero, suc, _+_, _-_, _*_, _<_, _≤_}
+use Prim.Native.Nat.{ℕ, zero, suc, _+_, _-_, _*_, _≤_}
 use native.Mathlib.Omega.{arith}
 use native.Mathlib.Nat.{sub-zero}
 use lib.Dec.{ltb, leb, eqb·suc-zero}
-use lib.ListN.{length, take, getD}
+use lib.ListN.{length, take}
 use lib.Seq.{take-suc, take-length}
 use Rattle.laws.specs.Choose.{pick}
 use Rattle.laws.specs.Fold.{fold, fold-up-to, fold-states}
@@ -17,7 +17,7 @@ use Rattle.packet.specs.declared.Refusal.{Refusal}
 use Rattle.packet.specs.declared.Scanned.{Scanned}
 use Rattle.packet.specs.declared.Scanned.the-variants.{Fine, Refused}
 use Rattle.packet.specs.Paper.{Packet, nought, marked, at, earlierAt, refusalAt, declared, pastAt}
-use Rattle.packet.specs.Step.{nothing, firstOf, elapsedOf, nextOf, scanOf}
+use Rattle.packet.specs.Step.{nothing, elapsedOf, nextOf, scanOf}
 use Rattle.packet.specs.Calls.{pastAfter, begunAfter, andThen, more}
 use Rattle.packet.proofs.Cutting.{scan-cut, scan-more}
 use Rattle.packet.proofs.Declared.{scan-declared, past-after, begun-after, next-at, fine-everywhere}
@@ -25,7 +25,6 @@ use Rattle.bucket.specs.Paper as BP
 use Rattle.bucket.specs.Step as B
 use Rattle.bucket.proofs.ByPlace as BB
 use Rattle.frame.specs.declared.Row.{Row}
-use Rattle.frame.specs.declared.Frames.{Frames}
 use Rattle.frame.specs.Paper as FP
 use Rattle.frame.specs.Step as FS
 use Rattle.frame.specs.ByPlace as F

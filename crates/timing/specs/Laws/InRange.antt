@@ -1,20 +1,18 @@
 -- A state is in range, by the tests of the code, exactly when each of its numbers is, as a fact; the fresh state of accepted numbers is.
-use mathlib.Core.Path.{_≡_, refl, sym, ap, _∙_}
-use mathlib.Core.Bool.{Bool, true, false, _&&_}
-use mathlib.Core.List.{List, [], _∷_}
-use Prim.Native.Nat.{ℕ, _+_, _-_, _*_, _≤_, _<_}
+use mathlib.Core.Path.{_≡_, refl}
+use mathlib.Core.Bool.{true}
+use mathlib.Core.List.{[], _∷_}
+use Prim.Native.Nat.{_-_}
 use native.Mathlib.Omega.{arith}
-use lib.Dec.{leb, ltb, eqb}
+use lib.Dec.{leb, eqb}
 use borrow.Author.Tests.{leb-true, le-leb, ltb-true, lt-ltb, eqb-true, eq-eqb}
-use Rattle.bucket.specs.Paper.{networkFirst, networkLast}
 use Rattle.frame.specs.Paper.{bufferFrame, bufferPlace}
-use Rattle.frame.specs.Range.{Answered, Kept}
 use Rattle.frame.proofs.Ranges.{kept-none}
 use Rattle.timing.specs.declared.State.{State}
 use Rattle.timing.specs.declared.StreamNumbers.{StreamNumbers}
-use Rattle.timing.specs.Step.{setUpOf, frameOf, rulesOf, freshOf}
-use Rattle.timing.specs.Range.{every, implies, pastRanges, bucketRanges, countRanges, openRanges, keptRanges, inRange, Sound}
-use Rattle.timing.specs.Laws.Tests.{and-left, and-right, and-both, use-implies, make-implies, Five, five-of, of-five}
+use Rattle.timing.specs.Step.{setUpOf, rulesOf, freshOf}
+use Rattle.timing.specs.Range.{every, pastRanges, bucketRanges, countRanges, openRanges, keptRanges, inRange, Sound}
+use Rattle.timing.specs.Laws.Tests.{and-left, and-right, and-both, use-implies, make-implies, five-of, of-five}
 
 module _ (s : State) where
   -- ---- from the tests to the facts

@@ -1,15 +1,14 @@
 -- What a scan that refuses nothing tells of the run: every packet passes, and as many rows are written as it counted.
-use mathlib.Core.Path.{_≡_, refl, sym, ap, _∙_, subst}
+use mathlib.Core.Path.{_≡_, refl, subst}
 use mathlib.Core.Bool.{Bool, true, false, _&&_, _||_}
 use mathlib.Core.List.{List, [], _∷_, _++_}
-use Prim.Native.Nat.{ℕ, zero, suc, _+_, _*_, _≤_}
+use Prim.Native.Nat.{ℕ, _+_, _*_}
 use native.Mathlib.Omega.{arith}
 use lib.Dec.{eqb}
 use lib.ListN.{length, length-append}
 use borrow.Author.Tests.{eqb-true}
 use Rattle.laws.specs.Choose.{pick}
 use Rattle.packet.specs.declared.Past.{Past}
-use Rattle.packet.specs.declared.Scanned.{Scanned}
 use Rattle.packet.specs.declared.Scanned.the-variants.{Fine, Refused}
 use Rattle.packet.specs.Paper.{Packet, marked}
 use Rattle.packet.specs.Step.{numberOf, nextOf, closes, scanOf}
@@ -19,7 +18,7 @@ use Rattle.timing.specs.declared.Rules.{Rules}
 use Rattle.timing.specs.declared.State.{State}
 use Rattle.timing.specs.Step.{arriveOf, markOf, stepOf, rowsOf, rowsAfter, numbers}
 use Rattle.timing.specs.Feed.{Passes}
-use Rattle.timing.specs.Laws.Running.{step-past, numbers-append}
+use Rattle.timing.specs.Laws.Running.{step-past}
 
 -- ten numbers a row
 pub numbers-length : (l : List Row) → length (numbers l) ≡ length l * 10

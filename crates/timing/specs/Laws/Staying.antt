@@ -1,29 +1,26 @@
 -- An accepted packet keeps a state in range: each number by its own step. So
 -- accepted calls stay in range, and no demand of the code is ever missed.
-use mathlib.Core.Path.{_≡_, refl, sym, ap, _∙_, subst}
+use mathlib.Core.Path.{_≡_}
 use mathlib.Core.Bool.{Bool, true, false}
-use Prim.Native.Nat.{ℕ, zero, suc, _+_, _-_, _*_, _≤_, _<_, max}
+use Prim.Native.Nat.{ℕ, _+_, _-_, _≤_, _<_}
 use native.Mathlib.Omega.{arith}
-use lib.Dec.{leb, ltb, eqb}
-use borrow.Author.Tests.{eqb-true, eqb-false, eq-eqb, ne-eqb}
-use Rattle.laws.specs.Choose.{pick, pick-either, false-true}
-use Rattle.packet.specs.declared.Past.{Past}
+use lib.Dec.{leb, eqb}
+use borrow.Author.Tests.{ne-eqb}
+use Rattle.laws.specs.Choose.{pick, pick-either}
 use Rattle.packet.specs.Paper.{Packet, marked}
-use Rattle.packet.specs.Step.{firstOf, elapsedOf, nextOf, numberOf}
+use Rattle.packet.specs.Step.{firstOf, elapsedOf, numberOf}
 use Rattle.packet.proofs.Refusals as P
-use Rattle.bucket.specs.declared.Bucket.{Bucket}
 use Rattle.bucket.specs.declared.Network.{Network}
 use Rattle.bucket.specs.declared.Network.the-variants.{Pass, Burst}
 use Rattle.bucket.specs.Paper.{networkFirst, networkLast}
 use Rattle.bucket.specs.Step as B
 use Rattle.frame.specs.Step as F
-use Rattle.frame.specs.Range.{Planned, Pushable, Rowable, Kept}
+use Rattle.frame.specs.Range.{Rowable, Kept}
 use Rattle.frame.proofs.Ranges as R
-use Rattle.timing.specs.declared.Rules.{Rules}
 use Rattle.timing.specs.declared.State.{State}
 use Rattle.timing.specs.Step.{rulesOf, arriveOf, markOf, stepOf, drainedOf}
 use Rattle.timing.specs.Range.{Sound}
-use Rattle.timing.specs.Feed.{Arrives, Lays}
+use Rattle.timing.specs.Feed.{Arrives}
 use Rattle.timing.specs.Laws.Planning.{planned, spacing-some, reach-fits, drains-few, guess-fits}
 
 -- the bucket names no more than the packets

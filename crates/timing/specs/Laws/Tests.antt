@@ -1,7 +1,7 @@
 -- Tests as facts: a list of tests that all pass, and a test that implies another.
-use mathlib.Core.Path.{_≡_, refl, sym, ap, _∙_}
-use mathlib.Core.Bool.{Bool, true, false, not, _&&_, _||_}
-use mathlib.Core.List.{List, [], _∷_}
+use mathlib.Core.Path.{_≡_, refl}
+use mathlib.Core.Bool.{Bool, true, false, _&&_}
+use mathlib.Core.List.{[], _∷_}
 use Rattle.laws.specs.Choose.{false-true}
 use Rattle.timing.specs.Range.{every, implies}
 

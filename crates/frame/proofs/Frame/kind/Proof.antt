@@ -1,8 +1,6 @@
 -- The kinds by their tests, in order.
 use native.Mathlib.Omega.{arith}
 use Rattle.frame.proofs.FrameKinds.{kind-short, kind-long, kind-stamp, kind-whole}
-use borrow.Author.Tests.{lt-ltb, le-ltb}
-use Rattle.frame.specs.Step.{kindOf}
 use Rattle.frame.proofs.Frame.kind.Statement.{statement}
 use Rattle.frame.proofs.Frame.kind.Tie as tie
 

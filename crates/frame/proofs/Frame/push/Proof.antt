@@ -2,7 +2,7 @@
 use native.Mathlib.Omega.{arith}
 use mathlib.Core.Path.{ap, _∙_}
 use Rattle.frame.specs.declared.Frame.{Frame}
-use Rattle.frame.specs.Step.{openedOf, countedOf, readsOf}
+use Rattle.frame.specs.Step.{countedOf, readsOf}
 use Rattle.frame.proofs.Opening.{opened-timed, time-fits, guess-fits, reach-fits}
 use borrow.Author.Needs.{needs}
 use Rattle.frame.proofs.Frame.push.Statement.{statement}

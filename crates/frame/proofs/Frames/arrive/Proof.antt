@@ -1,5 +1,4 @@
 -- In the lead-in nothing changes; after it the packet is pushed into the open frame.
-use mathlib.Core.Path.{_≡_}
 use Rattle.frame.specs.Step.{arriveOf}
 use Rattle.frame.proofs.Frames.arrive.Statement.{statement}
 use Rattle.frame.proofs.Frames.arrive.Tie as tie

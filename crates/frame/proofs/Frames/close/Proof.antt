@@ -1,9 +1,6 @@
 -- A marker closes the open frame, with its answer after the answers so far, or ends the lead-in.
 use native.Mathlib.Nat.{add-zero}
-use mathlib.Core.Path.{_≡_, ap}
-use Prim.Native.Nat.{ℕ, _+_}
-use native.Mathlib.Omega.{arith}
-use Rattle.frame.specs.Step.{closeOf, joined}
+use Rattle.frame.specs.Step.{closeOf}
 use borrow.Author.Needs.{needs}
 use Rattle.frame.proofs.Frames.close.Statement.{statement}
 use Rattle.frame.proofs.Frames.close.Tie as tie

@@ -1,5 +1,4 @@
 -- The empty frame, and nothing else.
-use mathlib.Core.Path.{ap}
 use borrow.Author.Needs.{needs}
 use Rattle.frame.proofs.Frames.none.Statement.{statement}
 use Rattle.frame.proofs.Frames.none.Tie as tie

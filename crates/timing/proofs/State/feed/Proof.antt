@@ -1,11 +1,7 @@
 -- The call by its branches: 9, the scan's refusal, 15, or the run (Feeding).
-use mathlib.Core.Path.{_≡_, sym, _∙_, subst}
-use native.Mathlib.Omega.{arith}
+use mathlib.Core.Path.{sym, _∙_}
 use borrow.Author.Tests.{not-true, not-false}
 use denote.Ref.{now}
-use Rattle.timing.specs.declared.Rules.{Rules}
-use Rattle.timing.specs.Feed.{Runs, Ran}
-use Rattle.packet.specs.Paper.{packets}
 use Rattle.timing.specs.Laws.Feeding.{fed-9, fed-refused, fed-15, one-length, runs, fed}
 use borrow.Author.Needs.{needs}
 use Rattle.timing.proofs.State.feed.Statement.{statement}

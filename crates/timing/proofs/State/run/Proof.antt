@@ -1,15 +1,13 @@
 -- What is left of the packets, run from the state and the rows so far, gives what the whole call gives; each turn is one step (Running).
-use mathlib.Core.Path.{_≡_, refl, sym, ap, _∙_}
 use mathlib.Core.Logic.{⊎-elim}
 use denote.Ref.{now}
 use Rattle.packet.specs.Paper.{packets, packetsFrom, lent}
 use Rattle.packet.proofs.Lent.{packets-cons, packets-none}
 use Rattle.timing.specs.Laws.Running.{Loop, Turn, loop-begins, loop-runs, loop-next, loop-ends, runs-arrives, runs-lays, runs-closed}
 use Rattle.timing.specs.Laws.Running.{turn-marked, turn-plain}
-use Prim.Native.Nat.{ℕ, _+_, _*_, _-_, _≤_, _<_}
-use mathlib.Core.Path.{_≡_}
+use Prim.Native.Nat.{_-_, _≤_}
 use native.Mathlib.Omega.{arith}
-use lib.ListN.{length, length-set}
+use lib.ListN.{length}
 use borrow.Author.Needs.{needs}
 use Rattle.timing.proofs.State.run.Statement.{statement}
 use Rattle.timing.proofs.State.run.Tie as tie
