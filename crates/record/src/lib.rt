@@ -200,6 +200,21 @@ impl Cursor {
         self.read_piece(&s[at..], true)
     }
 
+    // The same after the parameters, in the walk over a file: a packet's record is looked for here, so that each costs no call.
+    fn read_next(self, s: &[u8]) -> Read
+        requires { ⌜ 1 < self .at ⌝ }
+        ensures { λ r. ⌜ r ≡ itemOf (self .at) (drop (self .at) (now (s .entry))) ⌝ }
+    {
+        let at = self.at as usize;
+        if s.len() < at {
+            return self.read(s);
+        }
+        if packet_stands(&s[at..]) {
+            return packet_of(&s[at..], after_packet(self.at));
+        }
+        self.read(s)
+    }
+
     // What stands at the cursor, of which `window` shows the bytes from there on; `last`: no more will come.
     // After the parameters a packet's record mostly stands there, and that is seen at once.
     pub fn read_piece(self, window: &[u8], last: bool) -> Read
@@ -422,7 +437,7 @@ fn check_packets(numbers: Numbers, from: Cursor, s: &[u8]) -> Checked
     let mut cursor = from;
     let mut tally = Tally::none();
     loop {
-        let item = cursor.read(s);
+        let item = cursor.read_next(s);
         let Read::Packet {
             t,
             stamp: _,

@@ -28,8 +28,8 @@ none-requires c κs = search needs
 loop-holds : tie.Need-loop-holds Inv-loop μ-loop
 loop-holds c = (rw (c .none .ensures), search needs, rw (c .none .ensures) (omega arith))
 
-read-requires : tie.Need-read-requires Inv-loop μ-loop
-read-requires c κs = search needs
+read-next-requires : tie.Need-read-next-requires Inv-loop μ-loop
+read-next-requires c κs = c .loop .inv .1
 
 enum-known-item : tie.Need-enum-known-item Inv-loop μ-loop
 enum-known-item c = search needs
@@ -41,7 +41,7 @@ returns : tie.Need-returns Inv-loop μ-loop
 returns c =
     let after-read = c .before .before in
     let at = after-read .before .loop in
-    c .close .ensures ∙ sym (stops _ _ _ _ _ (at .inv .1) (c .before .match .keys2) (sym (after-read .read .ensures))) ∙ at .inv .0
+    c .close .ensures ∙ sym (stops _ _ _ _ _ (at .inv .1) (c .before .match .keys2) (sym (after-read .read-next .ensures))) ∙ at .inv .0
 
 refusal-requires : tie.Need-refusal-requires Inv-loop μ-loop
 refusal-requires c κs = search needs
@@ -51,7 +51,7 @@ returns-2 c =
     let after-item = c .before .before .before .before in
     let after-read = after-item .before .before in
     let at = after-read .before .loop in
-    let here = sym (after-read .read .ensures) ∙ after-item .item .given .1 in
+    let here = sym (after-read .read-next .ensures) ∙ after-item .item .given .1 in
     sym (refuses _ (at .inv .1) (omega arith) here _ (at .tally) _ (sym (c .before .refusal .ensures)) (omega arith)) ∙ at .inv .0
 
 with-requires : tie.Need-with-requires Inv-loop μ-loop
@@ -65,7 +65,7 @@ loop-less c =
     let after-read = after-item .before .before in
     let at = after-read .before .loop in
     let start = after-read .before .before .before .before in
-    let here = sym (after-read .read .ensures) ∙ after-item .item .given .1 in
+    let here = sym (after-read .read-next .ensures) ∙ after-item .item .given .1 in
     omega (arith, next-at _ (at .inv .1) (omega (arith, start .good)) here, next-within _ (at .inv .1) (omega (arith, start .good)) here)
 
 loop-again : tie.Need-loop-again Inv-loop μ-loop
@@ -75,7 +75,7 @@ loop-again c =
     let after-read = after-item .before .before in
     let at = after-read .before .loop in
     let start = after-read .before .before .before .before in
-    let here = sym (after-read .read .ensures) ∙ after-item .item .given .1 in
+    let here = sym (after-read .read-next .ensures) ∙ after-item .item .given .1 in
     let fine = sym (not-refused .before .refusal .ensures) ∙ not-refused .if1 .left in (
       rw (c .with .ensures) (sym (goes _ (at .inv .1) (omega (arith, start .good)) here _ (at .tally) fine) ∙ at .inv .0),
       omega (arith, next-at _ (at .inv .1) (omega (arith, start .good)) here),
@@ -90,7 +90,7 @@ check-packets-spec =
     μ-loop
     none-requires
     loop-holds
-    read-requires
+    read-next-requires
     enum-known-item
     close-requires
     returns

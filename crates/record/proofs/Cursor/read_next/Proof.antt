@@ -1,0 +1,81 @@
+-- A packet's record that stands there is the answer (Standing); else the cursor reads.
+use mathlib.Core.Path.{refl, sym, ap, _∙_}
+use native.Mathlib.Omega.{arith}
+use mathlib.Core.Bool.{true}
+use Rattle.record.specs.Step.{itemOf}
+use Rattle.record.proofs.Items.{piece-last, rest-all}
+use Rattle.record.proofs.Standing.{stands, stands-packet}
+use borrow.Author.Needs.{needs}
+use Rattle.record.proofs.Cursor.read_next.Statement.{statement}
+use Rattle.record.proofs.Cursor.read_next.Tie as tie
+
+read-requires : tie.Need-read-requires
+read-requires c κs = search needs
+
+returns : tie.Need-returns
+returns c = search needs
+
+sub-packet-stands : tie.Need-sub-packet-stands
+sub-packet-stands c = search needs
+
+part-packet-stands-start : tie.Need-part-packet-stands-start
+part-packet-stands-start c = search needs
+
+part-packet-stands-end : tie.Need-part-packet-stands-end
+part-packet-stands-end c = search needs
+
+packet-stands-requires : tie.Need-packet-stands-requires
+packet-stands-requires c κs = search needs
+
+sub-packet-of : tie.Need-sub-packet-of
+sub-packet-of c = search needs
+
+part-packet-of-start : tie.Need-part-packet-of-start
+part-packet-of-start c = search needs
+
+part-packet-of-end : tie.Need-part-packet-of-end
+part-packet-of-end c = search needs
+
+after-packet-requires : tie.Need-after-packet-requires
+after-packet-requires c κs = search needs
+
+packet-of-requires : tie.Need-packet-of-requires
+packet-of-requires c κs =
+    let seen = c .before .before in
+    let there = stands _ (sym (seen .before .packet-stands .ensures) ∙ seen .if2 .taken) in
+    record { inside = omega (arith, there .sixteen) }
+
+returns-2 : tie.Need-returns-2
+returns-2 c =
+    let seen = c .before .before .before in
+    let start = seen .before .before .before .before .before in
+    let there = stands _ (sym (seen .before .packet-stands .ensures) ∙ seen .if2 .taken) in
+    c .packet-of .ensures
+    ∙ rw (c .before .after-packet .ensures) (stands-packet _ _ true (start .pre) there)
+    ∙ piece-last _ _ true refl
+    ∙ ap (itemOf (start .args .self .at)) (rest-all (start .args .s .now) (start .args .self .at))
+
+read-requires-2 : tie.Need-read-requires-2
+read-requires-2 c κs = search needs
+
+returns-3 : tie.Need-returns-3
+returns-3 c = search needs
+
+pub read-next-spec : {M : Type 1} → statement M
+read-next-spec =
+    tie.close
+    (tie.spec
+    read-requires
+    returns
+    sub-packet-stands
+    part-packet-stands-start
+    part-packet-stands-end
+    packet-stands-requires
+    sub-packet-of
+    part-packet-of-start
+    part-packet-of-end
+    after-packet-requires
+    packet-of-requires
+    returns-2
+    read-requires-2
+    returns-3)
