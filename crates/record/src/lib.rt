@@ -207,12 +207,12 @@ impl Cursor {
     {
         let at = self.at as usize;
         if s.len() < at {
-            return self.read(s);
+            return self.read_any(&s[s.len()..], true);
         }
         if packet_stands(&s[at..]) {
             return packet_of(&s[at..], after_packet(self.at));
         }
-        self.read(s)
+        self.read_any(&s[at..], true)
     }
 
     // What stands at the cursor, of which `window` shows the bytes from there on; `last`: no more will come.

@@ -1,19 +1,30 @@
--- A packet's record that stands there is the answer (Standing); else the cursor reads.
+-- A packet's record that stands there is the answer (Standing); else any record is read, of the last window.
 use mathlib.Core.Path.{refl, sym, ap, _∙_}
 use native.Mathlib.Omega.{arith}
 use mathlib.Core.Bool.{true}
 use Rattle.record.specs.Step.{itemOf}
-use Rattle.record.proofs.Items.{piece-last, rest-all}
+use Rattle.record.proofs.Items.{piece-last, rest-all, rest-none}
 use Rattle.record.proofs.Standing.{stands, stands-packet}
 use borrow.Author.Needs.{needs}
 use Rattle.record.proofs.Cursor.read_next.Statement.{statement}
 use Rattle.record.proofs.Cursor.read_next.Tie as tie
 
-read-requires : tie.Need-read-requires
-read-requires c κs = search needs
+sub-read-any : tie.Need-sub-read-any
+sub-read-any c = search needs
+
+part-read-any-start : tie.Need-part-read-any-start
+part-read-any-start c = search needs
+
+part-read-any-end : tie.Need-part-read-any-end
+part-read-any-end c = search needs
+
+read-any-requires : tie.Need-read-any-requires
+read-any-requires c κs = search needs
 
 returns : tie.Need-returns
-returns c = search needs
+returns c =
+    let a = c .before .before .before .before .args in
+    c .read-any .ensures ∙ piece-last _ _ true refl ∙ ap (itemOf _) (rest-none (a .s .now) (a .self .at) (omega arith))
 
 sub-packet-stands : tie.Need-sub-packet-stands
 sub-packet-stands c = search needs
@@ -55,17 +66,29 @@ returns-2 c =
     ∙ piece-last _ _ true refl
     ∙ ap (itemOf (start .args .self .at)) (rest-all (start .args .s .now) (start .args .self .at))
 
-read-requires-2 : tie.Need-read-requires-2
-read-requires-2 c κs = search needs
+sub-read-any-2 : tie.Need-sub-read-any-2
+sub-read-any-2 c = search needs
+
+part-read-any-start-2 : tie.Need-part-read-any-start-2
+part-read-any-start-2 c = search needs
+
+part-read-any-end-2 : tie.Need-part-read-any-end-2
+part-read-any-end-2 c = search needs
+
+read-any-requires-2 : tie.Need-read-any-requires-2
+read-any-requires-2 c κs = search needs
 
 returns-3 : tie.Need-returns-3
-returns-3 c = search needs
+returns-3 c = c .read-any2 .ensures ∙ piece-last _ _ true refl ∙ rw (rest-all _ _)
 
 pub read-next-spec : {M : Type 1} → statement M
 read-next-spec =
     tie.close
     (tie.spec
-    read-requires
+    sub-read-any
+    part-read-any-start
+    part-read-any-end
+    read-any-requires
     returns
     sub-packet-stands
     part-packet-stands-start
@@ -77,5 +100,8 @@ read-next-spec =
     after-packet-requires
     packet-of-requires
     returns-2
-    read-requires-2
+    sub-read-any-2
+    part-read-any-start-2
+    part-read-any-end-2
+    read-any-requires-2
     returns-3)
