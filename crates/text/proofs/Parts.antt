@@ -35,14 +35,3 @@ part-byte at d before = record { next = refl; bytes = refl; short = omega arith 
 -- a part that is the whole line
 pub part-put : {m at k : ℕ} {a before after : List ℕ} → m ≤ 256 → Part m a at before k after → Put a at before k after
 part-put h p = record { next = p .next; bytes = p .bytes; short = omega (arith, p .short) }
-
--- ---- for a caller of the three lines
-
-pub put-kept : {at k : ℕ} {a before after : List ℕ} → Put a at before k after → length after ≡ length before
-put-kept {at} {k} {a} {before} p = ap length (p .bytes) ∙ laid-length at a before
-
--- two lines, one behind the other
-pub put-then : {at k r : ℕ} {a b before between after : List ℕ} → Put a at before k between → Put b k between r after
-    → (r ≡ at + length (a ++ b)) × (after ≡ laid at (a ++ b) before)
-put-then {at} {k} {r} {a} {b} {before} p q =
-    (omega (arith, length-append a b, p .next, q .next), cc (laid-more at a b before, p .next, p .bytes, q .bytes))
