@@ -119,5 +119,8 @@ cases =
     ∷ []
 
 pub cases-hold : map (λ c. c .got) cases ≡ map (λ c. c .want) cases
-unfolding cases setUpRefusal firstNo troFits frameLength activeRatio classOf cMax vrxFull int troGrains defaultTro nearest phase encoded count fold rulesOf arriveOf markOf stepOf rowsAfter numbers summaryOf B.stepOf F.openedOf F.countedOf F.kindOf F.wholeRow F.rowOf F.answerOf F.joined F.arriveOf F.closeOf F.rowsOf since readingOf packetsBy formatRefusal kindLength numberOf refusalOf
+unfolding cases setUpRefusal firstNo troFits frameLength activeRatio classOf cMax vrxFull int troGrains defaultTro nearest phase encoded
+    count fold rulesOf arriveOf markOf stepOf rowsAfter numbers summaryOf B.stepOf F.openedOf F.countedOf F.kindOf F.wholeRow
+    F.rowOf F.answerOf F.joined F.arriveOf F.closeOf F.rowsOf since readingOf packetsBy formatRefusal kindLength numberOf
+    refusalOf
 cases-hold = refl

@@ -33,7 +33,10 @@ packets =
 
 pub file-output : outputOf (head ++ packets)
     ≡ codes "frame 0 0 0 18900000 0 18900000 1740000 45900000 1 0\npackets 5 frames 1 peak 2 network pass buffer pass\n"
-unfolding outputOf rowLines rowLine fields digitsOf summaryLine refusalLine setUpRefusal firstNo troFits frameLength activeRatio classOf cMax vrxFull int troGrains defaultTro nearest phase encoded count fold rulesOf arriveOf markOf stepOf rowsAfter B.stepOf F.openedOf F.countedOf F.kindOf F.wholeRow F.rowOf F.answerOf F.joined F.arriveOf F.closeOf F.rowsOf readingOf packetsBy formatRefusal kindLength numberOf refusalOf
+unfolding outputOf rowLines rowLine fields digitsOf summaryLine refusalLine setUpRefusal firstNo troFits frameLength activeRatio classOf
+    cMax vrxFull int troGrains defaultTro nearest phase encoded count fold rulesOf arriveOf markOf stepOf rowsAfter B.stepOf F.openedOf
+    F.countedOf F.kindOf F.wholeRow F.rowOf F.answerOf F.joined F.arriveOf F.closeOf F.rowsOf readingOf packetsBy formatRefusal
+    kindLength numberOf refusalOf
 file-output = refl
 
 pub empty-output : outputOf [] ≡ codes "refused 20 0\n"

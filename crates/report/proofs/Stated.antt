@@ -16,11 +16,14 @@ use Rattle.bigendian.proofs.Width.{length-bytes, number-bytes}
 use Rattle.packet.specs.Paper.{Packet}
 use Rattle.timing.specs.declared.State.{State}
 use Rattle.timing.specs.declared.Fed.the-variants.{Accepted}
-use Rattle.timing.specs.Step.{freshOf, numbers}
-use Rattle.timing.specs.Answers.{summaryOf, fedState}
-use Rattle.timing.specs.Feed.{Outcome, acceptedAs}
+use Rattle.timing.specs.Step.{rulesOf, freshOf, numbers}
+use Rattle.timing.specs.Answers.{summaryOf}
+use Rattle.timing.specs.Feed.{feedAll}
+use Rattle.timing.specs.Laws.InRange.{sound-fresh, of-sound}
+use Rattle.timing.specs.Laws.Scanning.{numbers-length, scan-runs}
 use Rattle.record.specs.declared.Numbers.{Numbers}
 use Rattle.record.specs.Paper.{File, file, refused, fileOf}
+use Rattle.record.proofs.ReadWrite.{file-holds}
 use Rattle.record.specs.Write as record-write
 use Rattle.report.specs.Paper.{streamOf, stateOf, rowsOf, signed, inBytes, encoded, bytesFor, answer, answered, answerOf, filled}
 use Rattle.report.specs.Paper.{filledBy}
@@ -61,19 +64,28 @@ module _ (s : List ℕ) where
           by true n = absurd (n refl)
           by false n = refl
 
--- the numbers are those of the measurement: the packets fed in one call to the fresh state, with just enough row numbers lent
-pub as-fed : (w : Numbers) (ps : List Packet) (rows : List ℤ) {state : State} {written : List ℤ}
+-- the numbers are those of the measurement: one call of `feed` with the file's packets, from the fresh state and with just enough row
+-- numbers lent, is accepted, and the bytes are the nine numbers of its state and the row numbers that it wrote
+pub as-fed : (s : List ℕ) (w : Numbers) (ps : List Packet) → fileOf s ≡ file w ps → (rows : List ℤ)
     → length rows ≡ length (numbers (rowsOf (streamOf w) ps))
-    → acceptedAs (freshOf (streamOf w)) rows ps ≡ record { answer = Accepted state; rows = written }
-    → bytesFor w ps ≡ encoded (map pos (summaryOf state) ++ written)
-as-fed w ps rows {state} {written} same e =
-    let all = numbers (rowsOf (streamOf w) ps) in
-    let st : stateOf (streamOf w) ps ≡ state = ap (λ (o : Outcome). fedState (o .answer)) e in
+    → (state : State) × (written : List ℤ)
+    × (feedAll (freshOf (streamOf w)) rows ps ≡ record { answer = Accepted state; rows = written })
+    × (bytesFor w ps ≡ encoded (map pos (summaryOf state) ++ written))
+unfolding feedAll
+as-fed s w ps e rows same =
+    let x = streamOf w in
+    let all = numbers (rowsOf x ps) in
+    let holds = file-holds s w ps e in
+    let counted = scan-runs ps (rulesOf x) (freshOf x) 0 (holds .closed) (holds .scan-fine) .1 in
+    let room : holds .closed * 10 ≤ length rows = omega (arith, counted, numbers-length (rowsOf x ps)) in
     let in-order : laid 0 all rows ≡ all =
     laid-is [] all rows (omega arith) ∙ ap (λ (l : List ℤ). all ++ l) (ap (λ (n : ℕ). drop n rows) (sym same) ∙ drop-length rows)
-    ∙ append-nil all in
-    let wr : all ≡ written = sym in-order ∙ ap (λ (o : Outcome). o .rows) e in
-    rw (st, wr)
+    ∙ append-nil all in (
+      stateOf x ps,
+      all,
+      rw (of-sound (freshOf x) (sound-fresh x (holds .set-up)), holds .scan-fine, le-leb (holds .closed * 10) (length rows) room, in-order),
+      refl,
+    )
 
 -- "Each number is 8 bytes, signed, big-endian": number k of what is encoded reads back as its 64 bits
 pub reads-back : (zs : List ℤ) (k : ℕ) → k < length zs → signed (getD zs k (pos 0)) < 256 ^ 8
