@@ -1,91 +1,178 @@
--- The parts fit the arrays; a walk begins behind a head that the window holds.
-use mathlib.Core.Path.{subst}
+-- The loop of the program: where it is reached by reads and steps alone, and how it ends, by the laws of pump's Program.
+use Prim.Native.Nat.{ℕ, _+_, _*_, _-_, _≤_, _<_}
+use mathlib.Core.Path.{_≡_, refl, _∙_}
+use mathlib.Core.Logic.{⊎-elim}
+use denote.Ref.{now}
+use borrow.Author.Tests.{not-true, not-false}
+use native.Mathlib.Omega.{arith}
+use lib.ListN.{length}
+use Rattle.pump.specs.Run.{Reached}
+use Rattle.pump.proofs.Program.{reached-begins, reached-fits, reached-worn, spoken, reached-steps, reached-ends, reached-unwritten}
+use Rattle.pump.proofs.Program.{reached-wants, reached-roomy, reached-reads, reached-unread, joined}
 use borrow.Author.Needs.{needs}
-use Rattle.printer.specs.declared.Opened.{Opened}
-use Rattle.printer.specs.Step.{Headed}
 use Rattle.vtiming.proofs.run.Statement.{statement}
 use Rattle.vtiming.proofs.run.Tie as tie
 
-start-requires : tie.Need-start-requires
-start-requires c κs = search needs
+abbrev Inv-loop : tie.InvT-loop
+Inv-loop window₀ out₀ pump₀ turns₀ window out pump turns =
+    (length window ≡ length window₀) × (length out ≡ length out₀) × Reached (length out₀) pump window
 
-enum-told : tie.Need-enum-told
-enum-told c = search needs
+abbrev μ-loop : tie.MeasureT-loop
+μ-loop window₀ out₀ pump₀ turns₀ window out pump turns = turns
 
-enum-known-opened : tie.Need-enum-known-opened
-enum-known-opened c = search needs
+begin-requires : tie.Need-begin-requires Inv-loop μ-loop
+begin-requires c κs = search needs
 
-put-refusal-requires : tie.Need-put-refusal-requires
-put-refusal-requires c κs = search needs
+loop-holds : tie.Need-loop-holds Inv-loop μ-loop
+loop-holds c = let a = c .before .before .before .args in
+    (refl, refl, reached-begins (length (now (a .out))) (c .begin .result) (now (a .window)) (c .begin .ensures))
 
-sub-write-all : tie.Need-sub-write-all
-sub-write-all c = search needs
+step-requires : tie.Need-step-requires Inv-loop μ-loop
+step-requires c κs = let l = c .before .before .before .loop in
+    (reached-fits (l .inv .2), omega (arith, l .inv .1, c .before .before .before .before .before .before .before .pre .1))
 
-part-write-all-start : tie.Need-part-write-all-start
-part-write-all-start c = search needs
+sub-tell : tie.Need-sub-tell Inv-loop μ-loop
+sub-tell c = search needs
 
-part-write-all-end : tie.Need-part-write-all-end
-part-write-all-end c = search needs
+part-tell-start : tie.Need-part-tell-start Inv-loop μ-loop
+part-tell-start c = search needs
 
-write-all-requires : tie.Need-write-all-requires
-write-all-requires c κs = search needs
+part-tell-end : tie.Need-part-tell-end Inv-loop μ-loop
+part-tell-end c = search needs
 
-enum-known-opened-2 : tie.Need-enum-known-opened-2
-enum-known-opened-2 c = search needs
+tell-requires : tie.Need-tell-requires Inv-loop μ-loop
+tell-requires c κs = search needs
 
-keep-requires : tie.Need-keep-requires
-keep-requires c κs =
-    let head = c .before .before .before .opened2 .given .1 in
-    let front = c .before .before .before .before .before .before .before .start in
-    (subst (λ (o : Opened). Headed o (front .result .held .bytes)) head (front .ensures .1), search needs)
-
-pump-requires : tie.Need-pump-requires
-pump-requires c κs = search needs
-
-same-length : tie.Need-same-length
+same-length : tie.Need-same-length Inv-loop μ-loop
 same-length c = search needs
 
-returns : tie.Need-returns
-returns c = search needs
-
-same-length-2 : tie.Need-same-length-2
+same-length-2 : tie.Need-same-length-2 Inv-loop μ-loop
 same-length-2 c = search needs
 
-same-length-3 : tie.Need-same-length-3
+returns : tie.Need-returns Inv-loop μ-loop
+returns c = let told = c .before in
+    let t = told .before .before .before .before .before in
+    let l = t .before .before .before .before .loop in
+    let start = t .before .before .before .before .before .before .before .before in
+    let k = spoken (length (now (start .args .out))) (length (l .out)) (l .pump) (l .window) (t .step .result) (t .step .last .1 .1 .0)
+    (told .tell .result) (l .inv .1) (l .inv .2) (t .step .ensures) (told .tell .ensures) in
+    reached-unwritten k (not-true (told .tell .result) (c .if1 .taken))
+
+same-length-3 : tie.Need-same-length-3 Inv-loop μ-loop
 same-length-3 c = search needs
 
-returns-2 : tie.Need-returns-2
-returns-2 c = search needs
-
-same-length-4 : tie.Need-same-length-4
+same-length-4 : tie.Need-same-length-4 Inv-loop μ-loop
 same-length-4 c = search needs
 
-same-length-5 : tie.Need-same-length-5
+returns-2 : tie.Need-returns-2 Inv-loop μ-loop
+returns-2 c = let told = c .before .before in
+    let t = told .before .before .before .before .before in
+    let l = t .before .before .before .before .loop in
+    let start = t .before .before .before .before .before .before .before .before in
+    let k = spoken (length (now (start .args .out))) (length (l .out)) (l .pump) (l .window) (t .step .result) (t .step .last .1 .1 .0)
+    (told .tell .result) (l .inv .1) (l .inv .2) (t .step .ensures) (told .tell .ensures) in
+    reached-ends k (not-false (told .tell .result) (c .before .if1 .left)) (c .if2 .taken)
+
+fetch-requires : tie.Need-fetch-requires Inv-loop μ-loop
+fetch-requires c κs = let told = c .before .before .before .before .before in
+    let t = told .before .before .before .before .before in
+    let l = t .before .before .before .before .loop in
+    let start = t .before .before .before .before .before .before .before .before in
+    let k = spoken (length (now (start .args .out))) (length (l .out)) (l .pump) (l .window) (t .step .result) (t .step .last .1 .1 .0)
+    (told .tell .result) (l .inv .1) (l .inv .2) (t .step .ensures) (told .tell .ensures) in (
+      reached-fits
+          (reached-steps k (not-false (told .tell .result) (c .before .before .before .before .if1 .left))
+          (c .before .before .before .if2 .left)),
+      reached-roomy k
+          (start .pre .1) (omega (arith, l .inv .0, start .pre .0)) (c .before .before .before .if2 .left) (c .before .if3 .taken),
+    )
+
+enum-known-came : tie.Need-enum-known-came Inv-loop μ-loop
+enum-known-came c = search needs
+
+enum-told : tie.Need-enum-told Inv-loop μ-loop
+enum-told c = search needs
+
+same-length-5 : tie.Need-same-length-5 Inv-loop μ-loop
 same-length-5 c = search needs
 
-returns-3 : tie.Need-returns-3
-returns-3 c = search needs
+same-length-6 : tie.Need-same-length-6 Inv-loop μ-loop
+same-length-6 c = search needs
+
+returns-3 : tie.Need-returns-3 Inv-loop μ-loop
+returns-3 c = let told = c .before .before .before .before .before .before .before .before .before .before in
+    let t = told .before .before .before .before .before in
+    let l = t .before .before .before .before .loop in
+    let start = t .before .before .before .before .before .before .before .before in
+    let k = spoken (length (now (start .args .out))) (length (l .out)) (l .pump) (l .window) (t .step .result) (t .step .last .1 .1 .0)
+    (told .tell .result) (l .inv .1) (l .inv .2) (t .step .ensures) (told .tell .ensures) in
+    let fetched = c .before .before .before .before in
+    let wanted = fetched .before .before in
+    let went = reached-steps k (not-false (told .tell .result) (wanted .before .before .before .if1 .left))
+    (wanted .before .before .if2 .left) in
+    let more = reached-wants k (start .pre .1) (wanted .before .before .if2 .left) (wanted .if3 .taken) in
+    reached-unread went more (c .enum-told .given .1) (fetched .fetch .ensures)
+
+sub-turns : tie.Need-sub-turns Inv-loop μ-loop
+sub-turns c = search needs
+
+loop-less : tie.Need-loop-less Inv-loop μ-loop
+loop-less c = search needs
+
+loop-again : tie.Need-loop-again Inv-loop μ-loop
+loop-again c = let told = c .before .before .before .before in
+    let t = told .before .before .before .before .before in
+    let l = t .before .before .before .before .loop in
+    let start = t .before .before .before .before .before .before .before .before in
+    let k = spoken (length (now (start .args .out))) (length (l .out)) (l .pump) (l .window) (t .step .result) (t .step .last .1 .1 .0)
+    (told .tell .result) (l .inv .1) (l .inv .2) (t .step .ensures) (told .tell .ensures) in
+    let went = reached-steps k (not-false (told .tell .result) (c .before .before .before .if1 .left)) (c .before .before .if2 .left) in
+    let both : (length (c .if3 .window) ≡ length (now (start .args .window)))
+    × Reached (length (now (start .args .out))) (c .if3 .pump) (c .if3 .window) =
+    ⊎-elim
+    (λ x. joined (x .8) (x .9) (x .3 .given ∙ l .inv .0)
+    (reached-reads went (reached-wants k (start .pre .1) (c .before .before .if2 .left) (x .0 .taken))
+    (x .2 .last .1 .0) (x .2 .result) _ (x .6 .given .1) (x .2 .ensures)))
+    (λ x. joined (x .1) (x .2) (l .inv .0) went) (c .if3 .came) in
+    (both .0, search needs, both .1)
+
+same-length-7 : tie.Need-same-length-7 Inv-loop μ-loop
+same-length-7 c = search needs
+
+same-length-8 : tie.Need-same-length-8 Inv-loop μ-loop
+same-length-8 c = search needs
+
+returns-4 : tie.Need-returns-4 Inv-loop μ-loop
+returns-4 c = reached-worn (c .before .loop .inv .2)
 
 pub run-spec : {M : Type 1} → statement M
 run-spec =
     tie.close
     (tie.spec
-    start-requires
-    enum-told
-    enum-known-opened
-    put-refusal-requires
-    sub-write-all
-    part-write-all-start
-    part-write-all-end
-    write-all-requires
-    enum-known-opened-2
-    keep-requires
-    pump-requires
+    Inv-loop
+    μ-loop
+    begin-requires
+    loop-holds
+    step-requires
+    sub-tell
+    part-tell-start
+    part-tell-end
+    tell-requires
     same-length
-    returns
     same-length-2
+    returns
     same-length-3
-    returns-2
     same-length-4
+    returns-2
+    fetch-requires
+    enum-known-came
+    enum-told
     same-length-5
-    returns-3)
+    same-length-6
+    returns-3
+    sub-turns
+    loop-less
+    loop-again
+    same-length-7
+    same-length-8
+    returns-4)

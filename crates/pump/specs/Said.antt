@@ -1,0 +1,22 @@
+-- What calls of the system were handed and answered. The logic knows of no read and no write, so these are marks: they are opaque, and
+-- `say-so` and `hear-so` are cited in one place each, the proof of the function that makes that call and does nothing else.
+use mathlib.Core.Bool.{Bool}
+use mathlib.Core.List.{List}
+use Prim.Native.Nat.{ℕ}
+use lib.IntN.{ℤ}
+
+-- a call was handed these bytes to be written, and answered whether it wrote them all
+pub Said : List ℕ → Bool → Type 0
+Said bytes fine = Unit
+
+pub say-so : (bytes : List ℕ) (fine : Bool) → Said bytes fine
+unfolding Said
+say-so bytes fine = tt
+
+-- a read answered this
+pub Heard : ℤ → Type 0
+Heard got = Unit
+
+pub hear-so : (got : ℤ) → Heard got
+unfolding Heard
+hear-so got = tt
