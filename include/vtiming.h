@@ -6,16 +6,25 @@
  *
  * What is lent. Every pointer is lent for the length of the call and no longer: nothing is kept, nothing is allocated,
  * nothing is freed. Each pointer comes with its length, counted in elements of its type; where the length is 0 the pointer
- * may be null. Input is only read. Areas lent for writing must overlap no other lent area. Calls share nothing, so any
- * number of threads may call at once. Every call ends, and whatever the bytes or numbers are there is an answer: no
- * argument is forbidden, but a pointer to fewer elements than its length says.
+ * may be null. Input is only read. Calls share nothing, so any number of threads may call at once.
+ *
+ * Four things are forbidden, and nothing is promised of a call that does one of them:
+ *
+ *   - a pointer to fewer elements than its length says;
+ *   - an area lent for writing that overlaps any other lent area (those lent for reading may overlap each other);
+ *   - an array of uint64_t, uint32_t or double that is not aligned for its type, as C requires of every array (what is
+ *     declared as one, or comes from malloc, is aligned); bytes need no alignment;
+ *   - another thread that, during the call, writes into what was lent or reads what was lent for writing.
+ *
+ * Nothing else is forbidden: whatever the bytes and numbers are, every call ends and there is an answer.
  *
  * What comes back. Each function returns 0 where it has done its work, or the number by which it refuses. A refused call
  * writes nothing at all. An accepted call writes at the front of what was lent, and what lies behind stays as it was.
  * The two functions that can refuse at a place have a twin that takes the same input, writes nothing and returns that
- * place; it returns 0 for an accepted call, and also where the place is 0, so ask the number first.
+ * place; it returns 0 for an accepted call, and also where the place is 0, so ask the number first. vtiming_measure_room
+ * writes nothing either, and returns a number of bytes.
  *
- * The numbers:
+ * The numbers, which vtiming_refusal below names:
  *
  *    0  accepted
  *    1  the rate code is not 1 to 8                                   give one of the codes below
@@ -52,10 +61,16 @@
 extern "C" {
 #endif
 
+/* The version of this header and of the archive that it goes with. */
+#define VTIMING_VERSION "1.1.0"
+#define VTIMING_VERSION_MAJOR 1
+#define VTIMING_VERSION_MINOR 1
+#define VTIMING_VERSION_PATCH 0
+
 /* A TRO of all ones stands for the default: 43F/1125 from height 1080 on, 28F/750 below. */
 #define VTIMING_DEFAULT_TRO UINT32_C(0xFFFFFFFF)
 
-/* Room for vtiming_measure: the summary, and a row for each frame that closes. */
+/* Room for vtiming_measure: the summary, and a row for each frame that closes. vtiming_measure_room adds them up. */
 #define VTIMING_SUMMARY_BYTES 72
 #define VTIMING_ROW_BYTES 80
 
@@ -63,13 +78,59 @@ extern "C" {
 #define VTIMING_HEAD_BYTES 19
 #define VTIMING_PACKET_BYTES 16
 
+/* The numbers by which a call refuses, as the list above has them. The functions return uint32_t, and the names compare
+ * with that as they are. */
+enum vtiming_refusal {
+    VTIMING_ACCEPTED = 0,
+    VTIMING_REFUSED_RATE = 1,
+    VTIMING_REFUSED_SCHEDULE = 2,
+    VTIMING_REFUSED_CLASS = 3,
+    VTIMING_REFUSED_HEIGHT = 4,
+    VTIMING_REFUSED_PACKETS_PER_FRAME = 5,
+    VTIMING_REFUSED_MAXUDP = 6,
+    VTIMING_REFUSED_TRO = 7,
+    VTIMING_REFUSED_LENGTHS = 10,
+    VTIMING_REFUSED_MARKER = 11,
+    VTIMING_REFUSED_ORDER = 12,
+    VTIMING_REFUSED_SPAN = 13,
+    VTIMING_REFUSED_COUNT = 14,
+    VTIMING_REFUSED_ROOM = 15,
+    VTIMING_REFUSED_FIGURE = 16,
+    VTIMING_REFUSED_VERSION = 20,
+    VTIMING_REFUSED_CUT = 21,
+    VTIMING_REFUSED_KIND = 22,
+    VTIMING_REFUSED_PARAMETERS = 23,
+    VTIMING_REFUSED_WRITE_ROOM = 24
+};
+
+/* The kind of a frame: number 1 of its row. */
+enum vtiming_frame_kind {
+    VTIMING_FRAME_WHOLE = 0,
+    VTIMING_FRAME_SHORT = 1,
+    VTIMING_FRAME_LONG = 2,
+    VTIMING_FRAME_STAMP = 3
+};
+
+/* The network answer: number 3 of what vtiming_measure fills. */
+enum vtiming_network_answer {
+    VTIMING_NETWORK_PASS = 0,
+    VTIMING_NETWORK_BURST = 1
+};
+
+/* The buffer answer: number 6. */
+enum vtiming_buffer_answer {
+    VTIMING_BUFFER_NONE = 0,
+    VTIMING_BUFFER_PASS = 1,
+    VTIMING_BUFFER_UNDER = 2,
+    VTIMING_BUFFER_OVER = 3
+};
+
 /* Measures a whole record file.
  *
  *   file, file_len   the file's bytes, all of them
- *   out, out_len     room for the answer: 72 bytes and 80 for each frame that closes. Before the first frame comes a
- *                    lead-in, so 5·file_len bytes are always enough
+ *   out, out_len     room for the answer: 72 bytes and 80 for each frame that closes; vtiming_measure_room says how many
  *
- * The answer is a row of numbers, each 8 bytes, signed, big-endian:
+ * The answer is a row of numbers, each 8 bytes, signed, big-endian; vtiming_number reads one of them:
  *
  *   0  packets       how many there were
  *   1  frames        how many closed
@@ -82,7 +143,7 @@ extern "C" {
  *
  * and then for each frame ten: frame number from 0; kind (0 whole, 1 short, 2 long, 3 stamp); detail (the count of packets
  * for 1 and 2, the place of the first differing timestamp for 3, else 0); FPT; RTP_OFFSET; VL; margin; GAP (five times in
- * grains); the buffer's peak; its least. For kinds 1 to 3 the last seven are 0.
+ * grains); the buffer's peak; its least. For kinds 1 to 3 the last seven are 0. So number j of row r is 9 + 10·r + j of all.
  *
  * Refuses by 20 to 23, 1 to 7 and 11 to 14 at the first record that is refused, and by 15 after all else. */
 uint32_t vtiming_measure(const uint8_t *file, size_t file_len, uint8_t *out, size_t out_len);
@@ -90,6 +151,22 @@ uint32_t vtiming_measure(const uint8_t *file, size_t file_len, uint8_t *out, siz
 /* The twin of vtiming_measure, told how much room there would be: the offset in the file of the refused record (0 for
  * 20), the file's length for 15, 0 for an accepted file. */
 uint64_t vtiming_measure_offset(const uint8_t *file, size_t file_len, size_t out_len);
+
+/* How many bytes vtiming_measure fills for this file, so that no host has to guess: ask, lend as many, measure. That is 72
+ * and 80 for each frame that closes; one byte fewer would be refused by 15. It is 0 for a file that vtiming_measure refuses
+ * whatever is lent, by 20 to 23, 1 to 7 or 11 to 14. */
+uint64_t vtiming_measure_room(const uint8_t *file, size_t file_len);
+
+/* Number k, from 0, of what vtiming_measure has filled; k is below 9 + 10·frames. It is C of this header, and is tried but
+ * not proved. */
+static inline int64_t vtiming_number(const uint8_t *answer, size_t k)
+{
+    const uint8_t *bytes = answer + 8 * k;
+    uint64_t bits = 0;
+    for (int i = 0; i < 8; i++) bits = (bits << 8) | bytes[i];
+    /* By arithmetic, since C leaves it to the compiler what a number above INT64_MAX is converted to. */
+    return bits >> 63 ? -1 - (int64_t)~bits : (int64_t)bits;
+}
 
 /* Writes a record file.
  *
