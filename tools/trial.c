@@ -1,0 +1,173 @@
+/* Tries what the package installs, as somebody else's program would use it: prints of each record file that is named what
+ * `vtiming` prints of it, by the C functions and the names of the header alone; before that, the header's version. tools/package
+ * compiles it as C and as C++ and compares what it prints. No file here closes more than one frame, nor any row before a
+ * refusal, of which the C call says nothing. */
+#include <vtiming.h>
+#include <inttypes.h>
+#include <stdio.h>
+
+#define TRY(what)                                                   \
+    do {                                                            \
+        if (!(what)) {                                              \
+            fprintf(stderr, "trial: this does not hold: %s\n", #what); \
+            return 1;                                               \
+        }                                                           \
+    } while (0)
+
+/* The number that document 01 gives to each refusal, by its name in the header. */
+static const char *refusal(uint32_t number)
+{
+    switch (number) {
+    case VTIMING_REFUSED_RATE: return "1";
+    case VTIMING_REFUSED_SCHEDULE: return "2";
+    case VTIMING_REFUSED_CLASS: return "3";
+    case VTIMING_REFUSED_HEIGHT: return "4";
+    case VTIMING_REFUSED_PACKETS_PER_FRAME: return "5";
+    case VTIMING_REFUSED_MAXUDP: return "6";
+    case VTIMING_REFUSED_TRO: return "7";
+    case VTIMING_REFUSED_MARKER: return "11";
+    case VTIMING_REFUSED_ORDER: return "12";
+    case VTIMING_REFUSED_SPAN: return "13";
+    case VTIMING_REFUSED_COUNT: return "14";
+    case VTIMING_REFUSED_VERSION: return "20";
+    case VTIMING_REFUSED_CUT: return "21";
+    case VTIMING_REFUSED_KIND: return "22";
+    case VTIMING_REFUSED_PARAMETERS: return "23";
+    default: return "by a number that no file brings about";
+    }
+}
+
+static const char *kind(int64_t number)
+{
+    switch (number) {
+    case VTIMING_FRAME_WHOLE: return "0";
+    case VTIMING_FRAME_SHORT: return "1";
+    case VTIMING_FRAME_LONG: return "2";
+    case VTIMING_FRAME_STAMP: return "3";
+    default: return "unknown";
+    }
+}
+
+/* The two answers with the two numbers that go with each. */
+static void put_verdict(const uint8_t *answer)
+{
+    int64_t a = vtiming_number(answer, 4), b = vtiming_number(answer, 5), c = vtiming_number(answer, 7), d = vtiming_number(answer, 8);
+    switch (vtiming_number(answer, 3)) {
+    case VTIMING_NETWORK_PASS: printf("network pass"); break;
+    case VTIMING_NETWORK_BURST: printf("network burst %" PRId64 " %" PRId64, a, b); break;
+    }
+    switch (vtiming_number(answer, 6)) {
+    case VTIMING_BUFFER_NONE: printf(" buffer none\n"); break;
+    case VTIMING_BUFFER_PASS: printf(" buffer pass\n"); break;
+    case VTIMING_BUFFER_UNDER: printf(" buffer under %" PRId64 " %" PRId64 "\n", c, d); break;
+    case VTIMING_BUFFER_OVER: printf(" buffer over %" PRId64 " %" PRId64 "\n", c, d); break;
+    }
+}
+
+static void put_file(const uint8_t *file, size_t size)
+{
+    uint8_t answer[VTIMING_SUMMARY_BYTES + VTIMING_ROW_BYTES];
+    uint32_t refused = vtiming_measure(file, size, answer, sizeof answer);
+    if (refused != VTIMING_ACCEPTED) {
+        printf("refused %s %" PRIu64 "\n", refusal(refused), vtiming_measure_offset(file, size, sizeof answer));
+        return;
+    }
+    for (size_t row = 9; row < 9 + 10 * (size_t)vtiming_number(answer, 1); row += 10) {
+        printf("frame %" PRId64 " %s", vtiming_number(answer, row), kind(vtiming_number(answer, row + 1)));
+        for (size_t k = row + 2; k < row + 10; k++) printf(" %" PRId64, vtiming_number(answer, k));
+        printf("\n");
+    }
+    printf("packets %" PRId64 " frames %" PRId64 " peak %" PRId64 " ", vtiming_number(answer, 0), vtiming_number(answer, 1),
+           vtiming_number(answer, 2));
+    put_verdict(answer);
+}
+
+/* The numbers at both ends of 64 bits, and about 0. */
+static int try_decoder(void)
+{
+    static const uint8_t answer[] = {0x7f, 255, 255, 255, 255, 255, 255, 255, 0x80, 0, 0, 0, 0, 0, 0, 0,
+                                     255,  255, 255, 255, 255, 255, 255, 255, 0,    1, 2, 3, 4, 5, 6, 7};
+    TRY(vtiming_number(answer, 0) == INT64_MAX);
+    TRY(vtiming_number(answer, 1) == INT64_MIN);
+    TRY(vtiming_number(answer, 2) == -1);
+    TRY(vtiming_number(answer, 3) == INT64_C(0x01020304050607));
+    return 0;
+}
+
+/* A lead-in packet and then one frame of `count` packets, where `n` are wanted: `step` ns apart from `first` on, with another
+ * timestamp at place `odd`. Written, and then measured into `answer`. */
+static int measured(uint32_t n, size_t count, uint64_t first, uint64_t step, size_t odd, uint8_t *answer)
+{
+    uint64_t arrivals[11] = {19000000};
+    uint32_t stamps[11] = {0};
+    uint8_t markers[11] = {1};
+    uint8_t file[VTIMING_HEAD_BYTES + 11 * VTIMING_PACKET_BYTES];
+    size_t packets = count + 1, size = VTIMING_HEAD_BYTES + packets * VTIMING_PACKET_BYTES;
+    for (size_t k = 0; k < count; k++) {
+        arrivals[k + 1] = first + k * step;
+        stamps[k + 1] = k == odd ? 1801 : 1800;
+        markers[k + 1] = k + 1 == count;
+    }
+    TRY(vtiming_write(6, 0, 1, 1080, n, 1460, VTIMING_DEFAULT_TRO, arrivals, packets, stamps, count, markers, packets, file, size) ==
+        VTIMING_REFUSED_LENGTHS);
+    TRY(vtiming_write(6, 0, 1, 1080, n, 1460, VTIMING_DEFAULT_TRO, arrivals, packets, stamps, packets, markers, packets, file,
+                      size - 1) == VTIMING_REFUSED_WRITE_ROOM);
+    TRY(vtiming_write(6, 0, 1, 1080, n, 1460, VTIMING_DEFAULT_TRO, arrivals, packets, stamps, packets, markers, packets, file, size) ==
+        VTIMING_ACCEPTED);
+    TRY(vtiming_measure(file, size, answer, VTIMING_SUMMARY_BYTES + VTIMING_ROW_BYTES - 1) == VTIMING_REFUSED_ROOM);
+    TRY(vtiming_measure(file, size, answer, VTIMING_SUMMARY_BYTES + VTIMING_ROW_BYTES) == VTIMING_ACCEPTED);
+    return 0;
+}
+
+/* Each kind and each answer that examples/ does not bring about. */
+static int try_answers(void)
+{
+    uint8_t answer[VTIMING_SUMMARY_BYTES + VTIMING_ROW_BYTES];
+    /* It begins a microsecond before its frame time: FPT and VL are below 0. */
+    if (measured(4, 4, 19999000, 4800000, 11, answer)) return 1;
+    TRY(vtiming_number(answer, 9 + 1) == VTIMING_FRAME_WHOLE && vtiming_number(answer, 6) == VTIMING_BUFFER_PASS);
+    TRY(vtiming_number(answer, 9 + 3) == -27000 && vtiming_number(answer, 9 + 5) == -27000);
+    TRY(vtiming_number(answer, 9 + 6) == 20640000 + 27000);
+    if (measured(4, 3, 20700000, 4800000, 11, answer)) return 1;
+    TRY(vtiming_number(answer, 9 + 1) == VTIMING_FRAME_SHORT && vtiming_number(answer, 6) == VTIMING_BUFFER_NONE);
+    if (measured(4, 5, 20700000, 4800000, 11, answer)) return 1;
+    TRY(vtiming_number(answer, 9 + 1) == VTIMING_FRAME_LONG && vtiming_number(answer, 9 + 2) == 5);
+    if (measured(4, 4, 20700000, 4800000, 2, answer)) return 1;
+    TRY(vtiming_number(answer, 9 + 1) == VTIMING_FRAME_STAMP && vtiming_number(answer, 9 + 2) == 2);
+    /* The first read is 764.4 microseconds after the frame time. */
+    if (measured(4, 4, 20800000, 4800000, 11, answer)) return 1;
+    TRY(vtiming_number(answer, 6) == VTIMING_BUFFER_UNDER && vtiming_number(answer, 9 + 9) == -1);
+    /* Ten packets at once, where the buffer holds eight and the bucket four. */
+    if (measured(10, 10, 20100000, 0, 11, answer)) return 1;
+    TRY(vtiming_number(answer, 6) == VTIMING_BUFFER_OVER && vtiming_number(answer, 8) == 10);
+    TRY(vtiming_number(answer, 3) == VTIMING_NETWORK_BURST);
+    return 0;
+}
+
+static int try_limits_and_graph(void)
+{
+    uint64_t limits[4];
+    double figures[3];
+    TRY(vtiming_limits(6, 0, 1, 1080, 4320, 1460, VTIMING_DEFAULT_TRO, limits, 4) == VTIMING_ACCEPTED);
+    TRY(limits[0] == 540000000 && limits[1] == 20640000 && limits[2] == 5 && limits[3] == 8);
+    TRY(vtiming_graph(27000, -27000, 54000, figures, 3) == VTIMING_ACCEPTED);
+    TRY(figures[0] == 1.0 && figures[1] == -1.0 && figures[2] == 2.0);
+    TRY(vtiming_graph(INT64_MAX, 0, 0, figures, 3) == VTIMING_REFUSED_FIGURE);
+    return 0;
+}
+
+int main(int count, char **names)
+{
+    static uint8_t file[65536];
+    if (try_decoder() || try_answers() || try_limits_and_graph()) return 1;
+    printf("%s %d.%d.%d\n", VTIMING_VERSION, VTIMING_VERSION_MAJOR, VTIMING_VERSION_MINOR, VTIMING_VERSION_PATCH);
+    for (int k = 1; k < count; k++) {
+        FILE *from = fopen(names[k], "rb");
+        TRY(from);
+        size_t size = fread(file, 1, sizeof file, from);
+        TRY(!ferror(from) && size < sizeof file);
+        fclose(from);
+        put_file(file, size);
+    }
+    return fflush(stdout) ? 1 : 0;
+}
