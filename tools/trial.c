@@ -1,7 +1,7 @@
 /* Tries what the package installs, as somebody else's program would use it: prints of each record file that is named what
  * `vtiming` prints of it, by the C functions and the names of the header alone; before that, the header's version. tools/package
- * compiles it as C and as C++ and compares what it prints. No file here closes more than one frame, nor any row before a
- * refusal, of which the C call says nothing. */
+ * compiles it as C and as C++ and compares what it prints. It lends room for one frame; and no file here closes a frame before
+ * it is refused, which the program would print and the C call does not tell. */
 #include <vtiming.h>
 #include <inttypes.h>
 #include <stdio.h>
