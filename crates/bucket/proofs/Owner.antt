@@ -2,14 +2,14 @@
 -- peak, answer and conservation. The idea: sums of naturals (Levels, Runs) are turned into the signed excess once, here.
 use mathlib.Core.Path.{_≡_, refl, sym, ap, _∙_}
 use mathlib.Core.Logic.{_↔_}
-use mathlib.Core.Bool.{Bool, true, false, not, _&&_}
+use mathlib.Core.Bool.{Bool, true, false, _&&_}
 use Prim.Native.Nat.{ℕ, zero, suc, _+_, _-_, _*_, _≤_, _<_}
 use native.Mathlib.Omega.{arith}
 use native.Mathlib.Nat.{le-div-iff-mul-le, div-lt-iff-lt-mul}
-use lib.Dec.{leb, leb→le}
+use lib.Dec.{leb, ltb, leb→le}
 use lib.IntN.{ℤ, pos}
 use lib.Signed.{_≤ℤ_}
-use borrow.Author.Tests.{leb-true, leb-false, le-leb, lt-leb}
+use borrow.Author.Tests.{leb-true, le-leb, ltb-true, lt-ltb}
 use Rattle.laws.specs.Climb.{Climbs, climbs-le}
 use Rattle.laws.specs.Choose.{false-true}
 use Rattle.laws.specs.Most.{most}
@@ -19,8 +19,8 @@ use Rattle.grain.specs.Paper.{InstantBy}
 use Rattle.grain.proofs.InstantCount.{instants-are, instants-grow}
 use Rattle.bucket.specs.declared.Network.{Network}
 use Rattle.bucket.specs.declared.Network.the-variants.{Pass, Burst}
-use Rattle.bucket.specs.Paper.{History, elapsed, drains, found, level, IsRun, drainsRun, excess, GreatestEnding, GreatestExcess}
-use Rattle.bucket.specs.Paper.{Fails, NetworkIs}
+use Rattle.bucket.specs.Paper.{History, elapsed, drains, found, level, IsRun, drainsRun, drainsIn, excess}
+use Rattle.bucket.specs.Paper.{GreatestEnding, GreatestExcess, Fails, NetworkIs}
 use Rattle.bucket.specs.Step.{levelAt, startAt, networkAt, bucketAt}
 use Rattle.bucket.proofs.Levels.{level-one, level-bound, level-named}
 use Rattle.bucket.proofs.Runs.{Above, Peak, peak-is, OfRuns, of-runs}
@@ -76,60 +76,60 @@ module _ (h : History) (p : 0 < h .frame) (ordered : Ordered h) where
   up = climbs-le (drains h) (h .packets) drains-grow
 
   -- the drain instants of a run, counted one by one among any number of instants that reaches its end
-  pub drains-of-run : (a b K : ℕ) → IsRun h a b → drains h b ≤ K → count (drainsRun h a b) K ≡ drains h b - drains h a
+  pub drains-of-run : (a b K : ℕ) → IsRun h a b → drains h b ≤ K → count (λ k. drainsRun h a b (suc k)) K ≡ drains h b - drains h a
   drains-of-run a b K r l =
-      let c = count-between (drainsRun h a b) K (drains h a) (drains h b)
+      let c = count-between (λ k. drainsRun h a b (suc k)) K (drains h a) (drains h b)
       (record { inside = λ k g t. inside k t; passes = λ k g. passes k }) in
       omega (arith, up a b (r .starts) (r .ends))
     where
       q : 0 < 10 * h .frame
       q = omega arith
 
-      inside : (k : ℕ) → drainsRun h a b k ≡ true → (drains h a ≤ k) × (k < drains h b)
-      inside k = go (leb (suc k * (10 * h .frame)) (elapsed h a * (11 * h .perFrame))) refl
+      inside : (k : ℕ) → drainsRun h a b (suc k) ≡ true → (drains h a ≤ k) × (k < drains h b)
+      inside k = go (ltb (elapsed h a * (11 * h .perFrame)) (suc k * (10 * h .frame))) refl
           (leb (suc k * (10 * h .frame)) (elapsed h b * (11 * h .perFrame))) refl
         where
-          go : (s : Bool) → leb (suc k * (10 * h .frame)) (elapsed h a * (11 * h .perFrame)) ≡ s → (t : Bool)
-              → leb (suc k * (10 * h .frame)) (elapsed h b * (11 * h .perFrame)) ≡ t → (not s && t) ≡ true → (drains h a ≤ k)
-              × (k < drains h b)
-          go true x t y w = absurd (false-true w)
-          go false x true y w = (
-            let after : drains h a < suc k = div-lt-iff-lt-mul q .1 (leb-false _ _ x) in omega arith,
+          go : (s : Bool) → ltb (elapsed h a * (11 * h .perFrame)) (suc k * (10 * h .frame)) ≡ s → (t : Bool)
+              → leb (suc k * (10 * h .frame)) (elapsed h b * (11 * h .perFrame)) ≡ t → (s && t) ≡ true
+              → (drains h a ≤ k) × (k < drains h b)
+          go true x true y w = (
+            let after : drains h a < suc k = div-lt-iff-lt-mul q .1 (ltb-true _ _ x) in omega arith,
             le-div-iff-mul-le q .1 (leb-true _ _ y),
           )
-          go false x false y w = absurd (false-true w)
+          go true x false y w = absurd (false-true w)
+          go false x t y w = absurd (false-true w)
 
-      passes : (k : ℕ) → drains h a ≤ k → k < drains h b → drainsRun h a b k ≡ true
+      passes : (k : ℕ) → drains h a ≤ k → k < drains h b → drainsRun h a b (suc k) ≡ true
       passes k x y = rw (
-        lt-leb (suc k * (10 * h .frame)) (elapsed h a * (11 * h .perFrame)) (div-lt-iff-lt-mul q .0 (omega arith)),
+        lt-ltb (elapsed h a * (11 * h .perFrame)) (suc k * (10 * h .frame)) (div-lt-iff-lt-mul q .0 (omega arith)),
         le-leb (suc k * (10 * h .frame)) (elapsed h b * (11 * h .perFrame)) (le-div-iff-mul-le q .0 y),
       )
+
+  -- so a run's excess is a difference of two counts from the first packet on
+  in-run : (a b : ℕ) → IsRun h a b → drainsIn h a b ≡ drains h b - drains h a
+  in-run a b r = drains-of-run a b (drains h b) r (omega arith)
 
   -- ---- the signed excess, and the sums of naturals
 
   at-most : (a b c : ℕ) → IsRun h a b → b + 1 + drains h a ≤ c + drains h b + a → excess h a b ≤ℤ pos c
   at-most a b c r l =
-      differ-le (excess h a b) (pos c) (suc b - a) (drains h b - drains h a) c 0 (differ-sub (suc b - a) (drains h b - drains h a))
-      (omega arith)
-      (omega (arith, r .starts, up a b (r .starts) (r .ends)))
+      differ-le (excess h a b) (pos c) (suc b - a) (drainsIn h a b) c 0 (differ-sub (suc b - a) (drainsIn h a b)) (omega arith)
+      (omega (arith, r .starts, in-run a b r, up a b (r .starts) (r .ends)))
 
   equals : (a b c : ℕ) → IsRun h a b → b + 1 + drains h a ≡ c + drains h b + a → excess h a b ≡ pos c
   equals a b c r e =
-      differ-same (excess h a b) (pos c) (suc b - a) (drains h b - drains h a) c 0 (differ-sub (suc b - a) (drains h b - drains h a))
-      (omega arith)
-      (omega (arith, r .starts, up a b (r .starts) (r .ends)))
+      differ-same (excess h a b) (pos c) (suc b - a) (drainsIn h a b) c 0 (differ-sub (suc b - a) (drainsIn h a b)) (omega arith)
+      (omega (arith, r .starts, in-run a b r, up a b (r .starts) (r .ends)))
 
   fails-above : (a b c : ℕ) → IsRun h a b → Above (drains h) c a b → Fails h c a b
   fails-above a b c r l =
-      differ-lt (pos c) (excess h a b) c 0 (suc b - a) (drains h b - drains h a) (omega arith)
-      (differ-sub (suc b - a) (drains h b - drains h a))
-      (omega (arith, r .starts, up a b (r .starts) (r .ends)))
+      differ-lt (pos c) (excess h a b) c 0 (suc b - a) (drainsIn h a b) (omega arith) (differ-sub (suc b - a) (drainsIn h a b))
+      (omega (arith, r .starts, in-run a b r, up a b (r .starts) (r .ends)))
 
   above-fails : (a b c : ℕ) → IsRun h a b → Fails h c a b → Above (drains h) c a b
   above-fails a b c r l =
-      let s = lt-differ (pos c) (excess h a b) c 0 (suc b - a) (drains h b - drains h a) (omega arith)
-      (differ-sub (suc b - a) (drains h b - drains h a)) l in
-      omega (arith, r .starts, up a b (r .starts) (r .ends))
+      let s = lt-differ (pos c) (excess h a b) c 0 (suc b - a) (drainsIn h a b) (omega arith) (differ-sub (suc b - a) (drainsIn h a b)) l in
+      omega (arith, s, r .starts, in-run a b r, up a b (r .starts) (r .ends))
 
   -- ---- the theorems
 

@@ -1,7 +1,7 @@
 -- Document 01's section "The bucket" and demand 3's words on it, over the
 -- whole history by place: m packets, packet i arriving at a i grains.
 use mathlib.Core.Path.{_≡_}
-use mathlib.Core.Bool.{Bool, not, _&&_}
+use mathlib.Core.Bool.{Bool, _&&_}
 use Prim.Native.Nat.{ℕ, zero, suc, _+_, _-_, _*_, _≤_, _<_}
 use lib.Dec.{ltb, leb}
 use lib.IntN.{ℤ, pos, subℕ}
@@ -45,18 +45,22 @@ module _ (h : History) where
   abbrev pub level : ℕ → ℕ
   level i = suc i - found (drains i)
 
-  -- The packets a .. b are an unbroken run; its excess is its packets less the drain instants after its first arrival up to its last.
+  -- The packets a .. b are an unbroken run; its excess is its packets less "the drain instants after its first arrival up to its last".
   pub record IsRun (a b : ℕ) : Type 0 where
     pub starts : a ≤ b
     pub ends : b < h .packets
 
-  -- instant k + 1 is such a one; counted one by one these are as many as `excess` takes (proofs/Owner.antt, drains-of-run)
+  -- instant k is such a one: after the first arrival, up to the last
   abbrev pub drainsRun : ℕ → ℕ → ℕ → Bool
-  drainsRun a b k = not (leb (suc k * (10 * h .frame)) (elapsed a * (11 * h .perFrame))) && leb (suc k * (10 * h .frame))
-      (elapsed b * (11 * h .perFrame))
+  drainsRun a b k =
+      ltb (elapsed a * (11 * h .perFrame)) (k * (10 * h .frame)) && leb (k * (10 * h .frame)) (elapsed b * (11 * h .perFrame))
+
+  -- how many there are, counted one by one: among the first `drains b` instants, since none later is up to the last arrival
+  abbrev pub drainsIn : ℕ → ℕ → ℕ
+  drainsIn a b = count (λ k. drainsRun a b (suc k)) (drains b)
 
   abbrev pub excess : ℕ → ℕ → ℤ
-  excess a b = subℕ (suc b - a) (drains b - drains a)
+  excess a b = subℕ (suc b - a) (drainsIn a b)
 
   -- the greatest excess of the runs that end at i
   pub record GreatestEnding (i p : ℕ) : Type 0 where

@@ -2,18 +2,19 @@
 -- is what the paper gives. Each case stands under its words. Numbers of any kind are written as integers, one list a side.
 use mathlib.Core.Path.{_≡_, refl}
 use mathlib.Core.List.{List, [], _∷_, map}
-use Prim.Native.Nat.{ℕ, _*_}
+use Prim.Native.Nat.{ℕ}
 use lib.IntN.{ℤ, pos, negℤ}
+use Rattle.laws.specs.Choose.{pick}
 use Rattle.laws.specs.Count.{count}
 use Rattle.laws.specs.Fold.{fold}
-use Rattle.grain.specs.Paper.{nearest, phase, firstPacketTime, encoded, latency}
+use Rattle.grain.specs.Paper.{grains, nearest, phase, firstPacketTime, encoded, latency}
 use Rattle.limits.specs.Fraction.{int}
 use Rattle.limits.specs.Paper.{frameLength, activeRatio, classOf, cMax, vrxFull, defaultTro, troGrains, troFits, firstNo, setUpRefusal}
 use Rattle.packet.specs.Paper.{Packet}
 use Rattle.packet.specs.Step.{refusalOf}
 use Rattle.bucket.specs.Paper.{networkNumber, networkFirst, networkLast}
 use Rattle.bucket.specs.Step as B
-use Rattle.frame.specs.Paper.{since, levelOf}
+use Rattle.frame.specs.Paper.{since, late, levelOf}
 use Rattle.frame.specs.Step as F
 use Rattle.bigendian.specs.Number.{numberOf}
 use Rattle.record.specs.Paper.{kindLength, formatRefusal, packetsBy, readingOf, File, file, refused, fileOf}
@@ -21,7 +22,7 @@ use Rattle.report.specs.Paper.{streamOf, reportOf}
 use Rattle.timing.specs.declared.StreamNumbers.{StreamNumbers}
 use Rattle.timing.specs.declared.State.{State}
 use Rattle.timing.specs.Step.{rulesOf, freshOf, arriveOf, markOf, stepOf, stateAfter, rowsAfter, numbers}
-use Rattle.timing.specs.Answers.{summaryOf}
+use Rattle.timing.specs.Answers.{summaryWith}
 use Rattle.timing.specs.History.{frameHistory}
 
 pub record Case : Type 0 where
@@ -58,9 +59,18 @@ rows x l = numbers (rowsAfter (rulesOf x) (freshOf x) l)
 abbrev late-by : ℕ → List Packet
 late-by t = packet 19000000 0 1 ∷ packet t 1800 0 ∷ packet 25500000 1800 0 ∷ packet 30300000 1800 0 ∷ packet 35100000 1800 1 ∷ []
 
--- the level just after its first packet
-abbrev first-level : List Packet → List ℤ
-first-level l = levelOf (rulesOf (rate6 4 700) .plan) (frameHistory (rate6 4 700) l) 1 0 ∷ []
+-- whether packet j of that frame is late, 1 or 0, and the level just after it
+abbrev late-then-level : List Packet → ℕ → List ℤ
+late-then-level l j =
+    let plan = rulesOf (rate6 4 700) .plan in
+    let h = frameHistory (rate6 4 700) l in
+    pos (pick (late plan h 1 j) 1 0) ∷ levelOf plan h 1 j ∷ []
+
+-- which of the other three are late
+abbrev others-late : List Packet → List ℤ
+others-late l =
+    let late-one : ℕ → ℤ = λ j. pos (pick (late (rulesOf (rate6 4 700) .plan) (frameHistory (rate6 4 700) l) 1 j) 1 0) in
+    late-one 1 ∷ late-one 2 ∷ late-one 3 ∷ []
 
 -- a whole file: the nine numbers and the rows of the C call, or the refusal's number and offset
 abbrev measured : File → List ℤ
@@ -97,19 +107,21 @@ cases =
     ∷ (one (vrxFull (classOf 1) 1460 (frameLength 6) 4859) gives one 8)
     ∷ (one (vrxFull (classOf 1) 1460 (frameLength 6) 4860) gives one 9)
     -- 5. "Rate 6: t 10,000,000 gives FPT −270,000,000." 6. "t 9,999,999 gives 269,999,973."
-    ∷ ((firstPacketTime (27 * 10000000) (frameLength 6) ∷ []) gives (negℤ (pos 270000000) ∷ []))
-    ∷ ((firstPacketTime (27 * 9999999) (frameLength 6) ∷ []) gives (pos 269999973 ∷ []))
+    ∷ ((firstPacketTime (grains 10000000) (frameLength 6) ∷ []) gives (negℤ (pos 270000000) ∷ []))
+    ∷ ((firstPacketTime (grains 9999999) (frameLength 6) ∷ []) gives (pos 269999973 ∷ []))
     -- 7. "Rate 6, n 4, TRO 700: a first packet 700,000 ns after T_CF is in time, level 1."
-    ∷ (first-level (late-by 20700000) gives one 1)
+    ∷ (late-then-level (late-by 20700000) 0 gives (pos 0 ∷ pos 1 ∷ []))
     -- 8. "At 700,001 it is late, level 0, and least −1 with the other three in time."
-    ∷ (first-level (late-by 20700001) gives one 0)
+    ∷ (late-then-level (late-by 20700001) 0 gives (pos 1 ∷ pos 0 ∷ []))
+    ∷ (others-late (late-by 20700001) gives (pos 0 ∷ pos 0 ∷ pos 0 ∷ []))
     ∷ (rows (rate6 4 700) (late-by 20700001)
     gives (pos 0 ∷ pos 0 ∷ pos 0 ∷ pos 18900027 ∷ pos 0 ∷ pos 18900027 ∷ negℤ (pos 27) ∷ pos 45900027 ∷ pos 1 ∷ negℤ (pos 1) ∷ []))
     -- 9. "Five packets at one instant, C_MAX 4: burst 0 4."
+    ∷ (one (rulesOf (rate6 4 700) .limit) gives one 4)
     ∷ (network (after (rate6 4 700) (packet 5 0 0 ∷ packet 5 0 0 ∷ packet 5 0 0 ∷ packet 5 0 0 ∷ packet 5 0 0 ∷ []))
     gives (pos 1 ∷ pos 0 ∷ pos 4 ∷ []))
     -- 10. "t 47,721,858,844,445 with timestamp 4,294,967,295: VL −1,288,490,188,499,985."
-    ∷ ((latency (27 * 47721858844445) 4294967295 ∷ []) gives (negℤ (pos 1288490188499985) ∷ []))
+    ∷ ((latency (grains 47721858844445) 4294967295 ∷ []) gives (negℤ (pos 1288490188499985) ∷ []))
     -- 11. "The file above.": its row, and packets 5, frames 1, peak 2, network pass, buffer pass
     ∷ (measured (fileOf the-file)
     gives (pos 5 ∷ pos 1 ∷ pos 2 ∷ pos 0 ∷ pos 0 ∷ pos 0 ∷ pos 1 ∷ pos 0 ∷ pos 0
@@ -120,7 +132,7 @@ cases =
 
 pub cases-hold : map (λ c. c .got) cases ≡ map (λ c. c .want) cases
 unfolding cases setUpRefusal firstNo troFits frameLength activeRatio classOf cMax vrxFull int troGrains defaultTro nearest phase encoded
-    count fold rulesOf arriveOf markOf stepOf rowsAfter numbers summaryOf B.stepOf F.openedOf F.countedOf F.kindOf F.wholeRow
+    count fold rulesOf arriveOf markOf stepOf rowsAfter numbers summaryWith B.stepOf F.openedOf F.countedOf F.kindOf F.wholeRow
     F.rowOf F.answerOf F.joined F.arriveOf F.closeOf F.rowsOf since readingOf packetsBy formatRefusal kindLength numberOf
     refusalOf
 cases-hold = refl

@@ -8,3 +8,4 @@ pub mod Stepping
 pub mod RowOfFrame
 pub mod BufferOfFrames
 pub mod Ranges
+pub mod RowsFit

@@ -2,12 +2,11 @@
 -- whole history declares by place, and writes the rows that it declares.
 use mathlib.Core.Path.{_≡_, refl, sym, ap, _∙_}
 use mathlib.Core.Bool.{Bool, true, false, _&&_}
-use mathlib.Core.List.{List, [], _∷_, flatten}
+use mathlib.Core.List.{List, [], _∷_}
 use Prim.Native.Nat.{ℕ, suc, _+_, _-_}
 use native.Mathlib.Nat.{add-sub-of-le, sub-self, add-zero}
 use Rattle.laws.specs.Choose.{pick}
 use Rattle.laws.specs.Count.{count}
-use Rattle.laws.specs.Fold.{fold, fold-pieces, fold-joined}
 use Rattle.frame.specs.declared.Plan.{Plan}
 use Rattle.frame.specs.declared.Frames.{Frames}
 use Rattle.frame.specs.declared.Buffer.{Buffer}
@@ -115,16 +114,3 @@ module _ (plan : Plan) (h : History) (i : ℕ) where
 pub frames-first : (plan : Plan) (h : History) → framesAt plan h 0 ≡ noFrames
 unfolding framesAt count
 frames-first plan h = refl
-
--- a packet as the frames see it, and stepping through a list of them, cut into any pieces
-pub record Seen : Type 0 where
-  pub time : ℕ
-  pub stamp : ℕ
-  pub marker : Bool
-
-abbrev pub seenStep : Plan → Frames → Seen → Frames
-seenStep plan s p = stepOf plan s (p .time) (p .stamp) (p .marker)
-
-pub cut-anywhere : (plan : Plan) (s : Frames) (pieces : List (List Seen)) → fold-pieces (seenStep plan) s pieces
-    ≡ fold (seenStep plan) s (flatten pieces)
-cut-anywhere plan s pieces = fold-joined (seenStep plan) s pieces

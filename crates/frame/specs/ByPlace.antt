@@ -6,7 +6,7 @@ use lib.Dec.{ltb, eqb}
 use Rattle.laws.specs.Choose.{pick}
 use Rattle.laws.specs.Most.{most}
 use Rattle.laws.specs.Seek.{seek}
-use Rattle.grain.specs.Paper.{phase, readsBefore}
+use Rattle.grain.specs.Paper.{grains, phase, readsBefore}
 use Rattle.frame.specs.declared.Plan.{Plan}
 use Rattle.frame.specs.declared.Frame.{Frame}
 use Rattle.frame.specs.declared.Frames.{Frames}
@@ -21,7 +21,7 @@ module _ (plan : Plan) (time stamp : ℕ → ℕ) where
   abbrev pub readsFrom : ℕ → ℕ
   readsFrom j =
       readsBefore (plan .packets) (plan .tro + plan .period) (plan .num) (plan .den)
-      (27 * (time j - time 0) + phase (27 * time 0) (plan .period))
+      (grains (time j - time 0) + phase (grains (time 0)) (plan .period))
 
   -- what is kept of the first k of them
   unfoldable pub keptOf : ℕ → Frame
@@ -31,7 +31,7 @@ module _ (plan : Plan) (time stamp : ℕ → ℕ) where
     held = suc k;
     first = time 0;
     stamp = stamp 0;
-    phase = phase (27 * time 0) (plan .period);
+    phase = phase (grains (time 0)) (plan .period);
     differs = seek (λ j. not (eqb (stamp j) (stamp 0))) (suc k);
     reads = readsFrom k;
     top = most (λ j. suc j - readsFrom j) (suc k);

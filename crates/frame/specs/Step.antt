@@ -5,7 +5,7 @@ use Prim.Native.Nat.{ℕ, _+_, _-_, _*_, max}
 use lib.Dec.{ltb, eqb}
 use lib.IntN.{ℤ, pos, subℕ, _-ℤ_}
 use Rattle.laws.specs.Choose.{pick}
-use Rattle.grain.specs.Paper.{phase, latency, readsBefore}
+use Rattle.grain.specs.Paper.{grains, phase, latency, readsBefore}
 use Rattle.frame.specs.declared.Plan.{Plan}
 use Rattle.frame.specs.declared.Frame.{Frame}
 use Rattle.frame.specs.declared.Frames.{Frames}
@@ -27,7 +27,7 @@ openedOf f period t stamp = record {
   held = f .held;
   first = pick (eqb (f .held) 0) t (f .first);
   stamp = pick (eqb (f .held) 0) stamp (f .stamp);
-  phase = pick (eqb (f .held) 0) (phase (27 * t) period) (f .phase);
+  phase = pick (eqb (f .held) 0) (phase (grains t) period) (f .phase);
   differs = f .differs;
   reads = f .reads;
   top = f .top;
@@ -50,7 +50,7 @@ countedOf f stamp reads = record {
 
 -- the frame's reads before an arrival, with all times from one period before the frame's start on
 abbrev pub readsOf : Plan → Frame → ℕ → ℕ
-readsOf plan f t = readsBefore (plan .packets) (plan .tro + plan .period) (plan .num) (plan .den) (27 * (t - f .first) + f .phase)
+readsOf plan f t = readsBefore (plan .packets) (plan .tro + plan .period) (plan .num) (plan .den) (grains (t - f .first) + f .phase)
 
 abbrev pub pushOf : Plan → Frame → ℕ → ℕ → Frame
 pushOf plan f t stamp = countedOf (openedOf f (plan .period) t stamp) stamp (readsOf plan (openedOf f (plan .period) t stamp) t)
@@ -72,10 +72,10 @@ wholeRow plan number marked f = record {
   kind = pos 0;
   detail = pos 0;
   fpt = subℕ (f .phase) (plan .period);
-  offset = subℕ (f .phase) (plan .period) -ℤ latency (27 * f .first) (f .stamp);
-  latency = latency (27 * f .first) (f .stamp);
+  offset = subℕ (f .phase) (plan .period) -ℤ latency (grains (f .first)) (f .stamp);
+  latency = latency (grains (f .first)) (f .stamp);
   margin = subℕ (plan .tro + plan .period) (f .phase);
-  gap = pos (27 * (f .first - marked));
+  gap = pos (grains (f .first - marked));
   peak = pos (f .top);
   least = subℕ 0 (f .deficit);
 }

@@ -155,7 +155,7 @@ impl Frame {
         ensures { λ r. ⌜ r ≡ pushOf plan self t stamp ⌝ }
     {
         let f = self.opened(plan.period, t, stamp);
-        let x = 27 * (t - f.first) + f.phase;
+        let x = grain::GRAINS_PER_NANOSECOND * (t - f.first) + f.phase;
         let base = plan.tro + plan.period;
         let reads = grain::reads_before(f.reads, plan.packets, base, plan.num, plan.den, x);
         f.counted(stamp, reads)
@@ -215,7 +215,7 @@ impl Frame {
             offset,
             latency,
             margin: grain::difference(plan.tro + plan.period, self.phase),
-            gap: (27 * (self.first - marked)) as i64,
+            gap: (grain::GRAINS_PER_NANOSECOND * (self.first - marked)) as i64,
             peak: self.top as i64,
             least: grain::difference(0, self.deficit),
         }

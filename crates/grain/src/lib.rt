@@ -9,17 +9,21 @@ ghost use mir.Syntax.{w64};
 ghost use mir.Val.{ofZ};
 ghost use Rattle.grain.specs.Paper.{grains, phase, latency, instants as instantsOf, readsBefore};
 
-// The grains of 2^32 ticks: RTP timestamps go round once in this time.
-const WRAP: u64 = 1288490188800000;
+// The one home of both numbers: every crate that needs them takes them from here.
+pub const GRAINS_PER_NANOSECOND: u64 = 27;
+
 // The grains of one tick of the 90 kHz RTP clock.
-const TICK: u64 = 300000;
+pub const GRAINS_PER_TICK: u64 = 300000;
+
+// The grains of 2^32 ticks: RTP timestamps go round once in this time.
+const WRAP: u64 = 4294967296 * GRAINS_PER_TICK;
 
 // What is left of 27·t when whole m's are taken away. t is divided first: 27 times its rest is below 27·m and fits.
 pub fn rest27(t: u64, m: u64) -> u64
     requires { ⌜ (27 ≤ m) × (m ≤ 576460752303423488) ⌝ }
     ensures { λ r. ⌜ r ≡ grains t % m ⌝ }
 {
-    let part = 27 * (t % m);
+    let part = GRAINS_PER_NANOSECOND * (t % m);
     part % m
 }
 
@@ -40,7 +44,7 @@ pub fn video_latency(t: u64, stamp: u32) -> i64
 {
     let past = rest27(t, WRAP);
     let ticks = stamp as u64;
-    difference(past, TICK * ticks)
+    difference(past, GRAINS_PER_TICK * ticks)
 }
 
 // a less b, with its sign.

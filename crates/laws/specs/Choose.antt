@@ -5,11 +5,16 @@ use mathlib.Core.Bool.{Bool, true, false}
 use Prim.Native.Nat.{ℕ, suc, _≤_, _<_}
 use native.Mathlib.Omega.{arith}
 use native.Mathlib.Nat.{le-suc-iff}
+use lib.Dec.{eqb}
 
 -- the first of two where the test holds, the second where it does not
 abbrev pub pick {ℓ} : {A : Type ℓ} → Bool → A → A → A
 pick true a b = a
 pick false a b = b
+
+-- the first of two numbers that is not 0: the second only where the first is 0
+abbrev pub orElse : ℕ → ℕ → ℕ
+orElse a b = pick (eqb a 0) b a
 
 pub false-true : false ≡ true → ⊥
 false-true e = let z : _≡_ {A = ℕ} 0 1 = cc in omega arith

@@ -1,6 +1,6 @@
 -- A list gone through from the left, and that it may be cut anywhere.
 use mathlib.Core.Path.{_≡_, refl, _∙_}
-use mathlib.Core.List.{List, [], _∷_, _++_, flatten}
+use mathlib.Core.List.{List, [], _∷_, _++_}
 use Prim.Native.Nat.{ℕ, zero, suc, _≤_, _<_}
 use native.Mathlib.Omega.{arith}
 use lib.ListN.{length, take, getD}
@@ -16,17 +16,6 @@ module _ {S A : Type 0} (step : S → A → S) where
   unfolding fold
   fold-cut s [] m = refl
   fold-cut s (x ∷ l) m = fold-cut (step s x) l m
-
-  -- and so is stepping through it cut into any pieces, one after the other
-  unfoldable pub fold-pieces : S → List (List A) → S
-  unfolding fold
-  fold-pieces s [] = s
-  fold-pieces s (c ∷ cs) = fold-pieces (fold s c) cs
-
-  pub fold-joined : (s : S) (cs : List (List A)) → fold-pieces s cs ≡ fold s (flatten cs)
-  unfolding fold-pieces flatten
-  fold-joined s [] = refl
-  fold-joined s (c ∷ cs) = fold-joined (fold s c) cs ∙ rw (fold-cut s c (flatten cs))
 
   -- one more of a list's first elements
   fold-take : (s : S) (l : List A) (d : A) (i : ℕ) → i < length l → fold s (take (suc i) l) ≡ step (fold s (take i l)) (getD l i d)

@@ -6,3 +6,4 @@ pub mod Seek
 pub mod Fold
 pub mod Lay
 pub mod Differ
+pub mod Unique

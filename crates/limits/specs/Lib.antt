@@ -3,4 +3,5 @@ pub mod Paper
 pub mod Steps
 pub mod Accepted
 pub mod Facts
+pub mod Exact
 pub mod Figures

@@ -5,16 +5,17 @@ use Prim.Native.Nat.{ℕ, zero, suc, _*_, max}
 use lib.Dec.{ltb, leb, eqb}
 use lib.ListN.{getD}
 use Rattle.laws.specs.Choose.{pick}
+use Rattle.grain.specs.Paper.{grains}
 use Rattle.limits.specs.Fraction.{Fraction, whole, _·_, _÷_, int}
 use Rattle.limits.specs.declared.Class.{Class}
 use Rattle.limits.specs.declared.Class.the-variants.{Narrow, NarrowLinear, Wide, Unknown}
 
 -- "Every duration is a whole number of grains; 27 grains are one nanosecond."
 abbrev pub microsecond : ℕ
-microsecond = 27 * 1000
+microsecond = grains 1000
 
 abbrev pub second : ℕ
-second = 27 * 1000000000
+second = grains 1000000000
 
 -- "The frame length in grains for each rate code, 1 to 8"; a code outside has 0, and set-up refuses it
 abbrev pub frameLengths : List ℕ

@@ -1,7 +1,8 @@
 // The numbers that a stream is set up with: the frame length of each rate, the share of a frame in
 // which its packets are read, the offset TRO, the limits C_MAX and VRX_FULL, and the seven refusals.
-// It knows plain numbers, as the record file holds them, and a frame length in grains, whatever its
-// rate. It must never know a packet, an arrival or a state: what a limit is held against lies above.
+// It knows plain numbers, as the record file holds them, a frame length in grains, whatever its rate, and
+// from `grain` how many grains a nanosecond has. It must never know a packet, an arrival or a state: what a
+// limit is held against lies above.
 
 ghost use mathlib.Core.Path.{_≡_};
 ghost use mathlib.Core.List.{[], _∷_};
@@ -11,9 +12,9 @@ ghost use Rattle.limits.specs.Steps.{Divides};
 ghost use Rattle.limits.specs.Paper.{frameLength, activeRatio, seconds, classOf, cMax, vrxFull, troGrains, readNum, readDen};
 ghost use Rattle.limits.specs.Paper.{within, classFits, maxudpKnown, troFits, firstNo, setUpRefusal};
 
-const MICROSECOND: u64 = 27000;
+const MICROSECOND: u64 = 1000 * grain::GRAINS_PER_NANOSECOND;
 
-const SECOND: u64 = 27000000000;
+const SECOND: u64 = 1000000 * MICROSECOND;
 
 const GAPPED: u8 = 0;
 

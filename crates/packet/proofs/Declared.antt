@@ -7,6 +7,7 @@ use Prim.Native.Nat.{ℕ, zero, suc, _+_, _≤_, _<_}
 use native.Mathlib.Omega.{arith}
 use native.Mathlib.Nat.{add-zero}
 use native.Mathlib.Numerals.{add-one}
+use native.Mathlib.Decide.{decLe}
 use lib.Dec.{ltb, eqb·suc-zero}
 use lib.ListN.{length, drop}
 use lib.Seq.{drop-cons, drop-length}
@@ -20,6 +21,7 @@ use Rattle.packet.specs.Paper.{Packet, nought, marked, at, refusalAt, re
 use Rattle.packet.specs.Paper.{firstRefused, declared, pastAt}
 use Rattle.packet.specs.Step.{nothing, refusalOf, nextOf, scanOf}
 use Rattle.packet.specs.Calls.{pastAfter, begunAfter}
+use Rattle.packet.proofs.Refusals.{accepted}
 use Rattle.packet.proofs.Turn.{fine-refused, scan-ends, scan-goes, scan-stops}
 
 -- one more place, whether or not it is marked
@@ -98,6 +100,16 @@ module _ (l : List Packet) where
       pick-either (λ s. s ≡ Fine n → refusalAt l i ≡ 0) (ltb (firstRefused l) (length l))
       (λ t f. absurd (fine-refused n _ (sym f)))
       (λ t f. eqb-true _ 0 (not-false _ (low .before i (omega (arith, ltb-false (firstRefused l) (length l) t))))) e
+
+  -- so that by 14 it has at most 1,000,000,000 packets
+  pub fine-few : (n : ℕ) → declared l ≡ Fine n → length l ≤ 1000000000
+  fine-few n e = go (decLe (length l) 1000000000)
+    where
+      go : Dec (length l ≤ 1000000000) → length l ≤ 1000000000
+      go (yes h) = h
+      go (no m) =
+          let here = fine-everywhere n 1000000000 e (omega arith) in
+          absurd (omega (arith, accepted _ _ _ (refusal-at 1000000000 ∙ here) .few))
 
   -- and counts the frames that close
   pub fine-count : (n : ℕ) → declared l ≡ Fine n → n ≡ count (closesAt l) (length l)

@@ -1,6 +1,6 @@
--- Three lent slices of one length as one list of packets: from place i on, by place, and put end to end. By the lists.
+-- Three lent slices of one length as one list of packets: from place i on, and by place. By the lists.
 use mathlib.Core.Path.{_≡_, refl, ap}
-use mathlib.Core.List.{List, [], _∷_, _++_}
+use mathlib.Core.List.{List, [], _∷_}
 use Prim.Native.Nat.{ℕ, zero, suc, _+_, _≤_, _<_}
 use native.Mathlib.Omega.{arith}
 use native.Mathlib.Nat.{suc-inj}
@@ -42,15 +42,3 @@ packets-at (t ∷ ts) [] ms i same = absurd (omega arith)
 packets-at (t ∷ ts) (s ∷ ss) [] i same = absurd (omega arith)
 packets-at (t ∷ ts) (s ∷ ss) (m ∷ ms) zero same = refl
 packets-at (t ∷ ts) (s ∷ ss) (m ∷ ms) (suc i) same = packets-at ts ss ms i (fewer same)
-
--- slices put end to end lend the packets of the first and then those of the second
-pub packets-join : (ts ss ms ts′ ss′ ms′ : List ℕ) → OneLength ts ss ms
-    → packets (ts ++ ts′) (ss ++ ss′) (ms ++ ms′) ≡ packets ts ss ms ++ packets ts′ ss′ ms′
-unfolding packets
-packets-join [] [] [] ts′ ss′ ms′ same = refl
-packets-join [] [] (m ∷ ms) ts′ ss′ ms′ same = absurd (omega arith)
-packets-join [] (s ∷ ss) ms ts′ ss′ ms′ same = absurd (omega arith)
-packets-join (t ∷ ts) [] ms ts′ ss′ ms′ same = absurd (omega arith)
-packets-join (t ∷ ts) (s ∷ ss) [] ts′ ss′ ms′ same = absurd (omega arith)
-packets-join (t ∷ ts) (s ∷ ss) (m ∷ ms) ts′ ss′ ms′ same =
-    ap (λ (l : List Packet). record { time = t; stamp = s; marker = m } ∷ l) (packets-join ts ss ms ts′ ss′ ms′ (fewer same))

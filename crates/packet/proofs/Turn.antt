@@ -1,6 +1,6 @@
 -- One packet of a scan: where the scan goes after it, what an answer of the scan says of it, and what there is room for.
 -- By the test on its refusal.
-use mathlib.Core.Path.{_≡_, refl, sym, subst, _∙_}
+use mathlib.Core.Path.{_≡_, refl, sym, ap, subst, _∙_}
 use mathlib.Core.Bool.{Bool, true, false, _&&_, _||_, and-false, or-false}
 use mathlib.Core.List.{List, [], _∷_}
 use Prim.Native.Nat.{ℕ, _+_, _≤_}
@@ -15,7 +15,7 @@ use Rattle.packet.specs.declared.Refusal.{Refusal}
 use Rattle.packet.specs.declared.Scanned.{Scanned}
 use Rattle.packet.specs.declared.Scanned.the-variants.{Fine, Refused}
 use Rattle.packet.specs.Paper.{Packet, marked, packets, OneLength}
-use Rattle.packet.specs.Step.{numberOf, nextOf, closes, scanOf, unequal, scannedOf, Ready}
+use Rattle.packet.specs.Step.{numberOf, nextOf, closes, scanOf, unequal, scannedOf, Ready, scannedNumber}
 
 pub fine-refused : (n : ℕ) (r : Refusal) → Fine n ≡ Refused r → ⊥
 fine-refused n r e = let z : _≡_ {A = ℕ} 0 1 = cc in omega arith
@@ -87,3 +87,26 @@ module _ (past : Past) (begun : Bool) (ts ss ms : List ℕ) where
   scanned-fine n =
       by-length (λ s. s ≡ Fine n → OneLength ts ss ms × (scanOf past begun 0 (packets ts ss ms) ≡ Fine n))
       (λ same e. (same, e)) (λ differ e. absurd (fine-refused n _ (sym e)))
+
+-- a refusal has a number that is not 0
+scan-some : (l : List Packet) (past : Past) (begun : Bool) (closed : ℕ) (r : Refusal) → scanOf past begun closed l ≡ Refused r
+    → r .number ≡ 0 → ⊥
+unfolding scanOf
+scan-some [] past begun closed r = λ e z. fine-refused closed r e
+scan-some (p ∷ ps) past begun closed r = go (eqb (numberOf past p) 0) refl
+    (scan-some ps (nextOf past (p .time)) (begun || marked p) (closed + closes begun p) r)
+  where
+    go : (t : Bool) → eqb (numberOf past p) 0 ≡ t
+        → (scanOf (nextOf past (p .time)) (begun || marked p) (closed + closes begun p) ps ≡ Refused r → r .number ≡ 0 → ⊥)
+        → pick t (scanOf (nextOf past (p .time)) (begun || marked p) (closed + closes begun p) ps)
+        (Refused (record { number = numberOf past p; place = past .packets })) ≡ Refused r → r .number ≡ 0 → ⊥
+    go true n ih e z = ih e z
+    go false n ih e z =
+        let same : numberOf past p ≡ r .number = ap scannedNumber e in
+        eqb-false (numberOf past p) 0 n (same ∙ z)
+
+pub scanned-some : (past : Past) (begun : Bool) (ts ss ms : List ℕ) (r : Refusal) → scannedOf past begun ts ss ms ≡ Refused r
+    → r .number ≡ 0 → ⊥
+scanned-some past begun ts ss ms r =
+    by-length past begun ts ss ms (λ s. s ≡ Refused r → r .number ≡ 0 → ⊥) (λ same. scan-some (packets ts ss ms) past begun 0 r)
+    (λ differ e z. let ten : 10 ≡ r .number = ap scannedNumber e in omega arith)

@@ -65,3 +65,16 @@ scannedOf past begun ts ss ms =
 abbrev pub Ready : Scanned → ℕ → Type 0
 Ready (Fine closed) room = closed ≤ room
 Ready (Refused r) room = ⊥
+
+-- The paper's number, 0 where nothing is refused, the place, and the frames that close, for each case of the answer.
+abbrev pub scannedNumber : Scanned → ℕ
+scannedNumber (Fine closed) = 0
+scannedNumber (Refused r) = r .number
+
+abbrev pub scannedPlace : Scanned → ℕ
+scannedPlace (Fine closed) = 0
+scannedPlace (Refused r) = r .place
+
+abbrev pub scannedClosed : Scanned → ℕ
+scannedClosed (Fine closed) = closed
+scannedClosed (Refused r) = 0

@@ -14,6 +14,8 @@ use Rattle.bigendian.specs.Number.{numberOf}
 use Rattle.text.specs.Decimal.{codes, digitsOf}
 use Rattle.text.specs.Lines.{fields, rowLine, summaryLine, refusalLine}
 use Rattle.record.specs.Paper.{kindLength, formatRefusal, packetsBy, readingOf}
+use Rattle.timing.specs.Answers.{verdictOf}
+use Rattle.timing.specs.Range.{inRange}
 use Rattle.timing.specs.Step.{rulesOf, arriveOf, markOf, stepOf, rowsAfter}
 use Rattle.printer.specs.Paper.{rowLines, outputOf}
 
@@ -36,7 +38,7 @@ pub file-output : outputOf (head ++ packets)
 unfolding outputOf rowLines rowLine fields digitsOf summaryLine refusalLine setUpRefusal firstNo troFits frameLength activeRatio classOf
     cMax vrxFull int troGrains defaultTro nearest phase encoded count fold rulesOf arriveOf markOf stepOf rowsAfter B.stepOf F.openedOf
     F.countedOf F.kindOf F.wholeRow F.rowOf F.answerOf F.joined F.arriveOf F.closeOf F.rowsOf readingOf packetsBy formatRefusal
-    kindLength numberOf refusalOf
+    kindLength numberOf refusalOf verdictOf inRange
 file-output = refl
 
 pub empty-output : outputOf [] ≡ codes "refused 20 0\n"

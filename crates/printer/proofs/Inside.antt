@@ -1,12 +1,11 @@
 -- What is used of a window lies within it: 16 bytes for each packet that was shown, and 19 before the first. By the turns still allowed.
-use mathlib.Core.Path.{_≡_, refl, sym, subst, _∙_}
+use mathlib.Core.Path.{_≡_, refl, subst}
 use mathlib.Core.Bool.{Bool}
 use mathlib.Core.List.{List}
 use Prim.Native.Nat.{ℕ, zero, suc, _+_, _-_, _≤_}
 use native.Mathlib.Omega.{arith}
 use lib.Dec.{eqb, ltb}
-use lib.ListN.{length, take, drop, length-drop}
-use lib.Seq.{length-take-le}
+use lib.ListN.{length, drop, length-drop}
 use Rattle.laws.specs.Choose.{pick-either}
 use Rattle.packet.specs.Step.{refusalOf}
 use Rattle.record.specs.declared.Cursor.{Cursor}
@@ -15,7 +14,6 @@ use Rattle.record.specs.declared.Read.{Read}
 use Rattle.record.specs.declared.Read.the-variants.{Version, Parameters, Packet, End, More, Refused}
 use Rattle.record.specs.Step.{pieceOf}
 use Rattle.record.specs.Pieces.{taken}
-use Rattle.record.proofs.Items.{rest-all}
 use Rattle.record.proofs.Window.{item-within}
 use Rattle.timing.specs.declared.Rules.{Rules}
 use Rattle.timing.specs.declared.SetUp.{SetUp}
@@ -24,11 +22,9 @@ use Rattle.timing.specs.Step.{rulesOf}
 use Rattle.timing.specs.Range.{inRange}
 use Rattle.timing.specs.Answers.{setUpAs}
 use Rattle.printer.specs.declared.Walk.{Walk}
-use Rattle.printer.specs.declared.Taken.{Taken}
-use Rattle.printer.specs.declared.Opened.{Opened}
 use Rattle.report.specs.Paper.{streamOf}
 use Rattle.printer.specs.Step.{Took, unopenedOf, readyBy, readyOf, firstBy, versionBy, beginOf, Headed, packetOf}
-use Rattle.printer.specs.Step.{stepped, linesAt, itemBy, walkBy, takeOf, Takes}
+use Rattle.printer.specs.Step.{stepped, linesAt, itemBy, walkBy, takeOf}
 use Rattle.printer.proofs.Answers.{piece-item}
 use Rattle.printer.proofs.Turning.{piece-sixteen}
 
@@ -101,18 +97,3 @@ begin-headed w last = go (pieceOf 0 w last) refl
     go End e = tt
     go More e = tt
     go (Refused n o) e = tt
-
--- for a caller, which lends parts of a longer window
-
-pub used-within : (walk : Walk) (w : List ℕ) (last : Bool) (room used : ℕ) {before : List ℕ} {r : Taken} {after : List ℕ} → used ≤ length w
-    → Takes (takeOf walk (take (length w - used) (drop used w)) last room) 0 0 before r after → used + r .used ≤ length w
-used-within walk w last room used {before} {r} {after} h t =
-    let s = subst (λ (l : List ℕ). Takes (takeOf walk l last room) 0 0 before r after) (rest-all w used) t in
-    omega (arith, s .used-is, take-inside walk (drop used w) last room, length-drop used w)
-
-pub headed-within : (w : List ℕ) (last : Bool) (bytes : ℕ) {opened : Opened} → bytes ≤ length w
-    → opened ≡ beginOf (take (bytes - 0) (drop 0 w)) last → Headed opened bytes
-headed-within w last bytes {opened} h e =
-    let size : length (take (bytes - 0) (drop 0 w)) ≡ bytes = length-take-le (bytes - 0) w (omega arith) ∙ omega arith in
-    subst (Headed opened) size (subst (λ (o : Opened). Headed o (length (take (bytes - 0) (drop 0 w)))) (sym e)
-    (begin-headed (take (bytes - 0) (drop 0 w)) last))

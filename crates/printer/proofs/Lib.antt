@@ -7,3 +7,4 @@ pub mod Beginning
 pub mod Progress
 pub mod Output
 pub mod Examples
+pub mod OneAnswer

@@ -11,17 +11,40 @@ use Rattle.laws.specs.Choose.{pick}
 use Rattle.record.specs.declared.Read.the-variants.{More}
 use Rattle.record.specs.Step.{pieceOf}
 use Rattle.record.proofs.InPieces.{last-answers, window-suffices}
+use Rattle.text.specs.Lines.{summaryLine, refusalLine}
+use Rattle.timing.specs.declared.State.{State}
 use Rattle.timing.specs.Step.{rulesOf}
+use Rattle.timing.specs.Answers.{answersOf, verdictOf}
+use Rattle.timing.specs.Range.{Sound}
+use Rattle.timing.specs.Laws.InRange.{of-sound}
 use Rattle.printer.specs.declared.Walk.{Walk}
 use Rattle.printer.specs.declared.Opened.{Opened}
 use Rattle.printer.specs.declared.Opened.the-variants.{More as Wanting, Refused as Unopened, Ready}
-use Rattle.printer.specs.Paper.{restOf, outputOf}
-use Rattle.printer.specs.Step.{beginOf, takeOf}
+use Rattle.printer.specs.Paper.{sumLine, restOf, outputOf}
+use Rattle.printer.specs.Step.{openedNumber, openedOffset, beginOf, takeOf}
 use Rattle.printer.specs.Drive.{Stands, restFrom, Shows, Drives, last-call, call, Prints, refused, walked}
 use Rattle.printer.proofs.Carrying.{take-carries}
 use Rattle.printer.proofs.Inside.{take-inside}
 use Rattle.printer.proofs.Progress.{take-stuck, take-moves}
 use Rattle.printer.proofs.Beginning.{Tells, begin-tells, Answered, begin-answered}
+
+-- ---- the last line of a measured file: "packets, frames closed, peak, verdicts", the state's own
+
+pub last-line : (s : State) → Sound s → sumLine s
+    ≡ summaryLine (s .past .packets) (s .frames .closed) (s .bucket .peak) (answersOf s .network) (answersOf s .buffer)
+unfolding verdictOf
+last-line s x = rw (of-sound s x)
+
+-- ---- the start of a file: where it is refused, its number and offset are all that is printed, whatever follows
+
+pub start-refused : (w v : List ℕ) (last : Bool) → (last ≡ true → v ≡ []) → 0 < openedNumber (beginOf w last)
+    → outputOf (w ++ v) ≡ refusalLine (openedNumber (beginOf w last)) (openedOffset (beginOf w last))
+start-refused w v last l = go (beginOf w last) (begin-tells w v last l)
+  where
+    go : (o : Opened) → Tells w v o → 0 < openedNumber o → outputOf (w ++ v) ≡ refusalLine (openedNumber o) (openedOffset o)
+    go Wanting t p = absurd (omega arith)
+    go (Unopened number offset) t p = t
+    go (Ready walk) t p = absurd (omega arith)
 
 -- ---- one call, from a walk that a file leads to
 

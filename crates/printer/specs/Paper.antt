@@ -7,6 +7,9 @@ use Rattle.record.specs.Paper.{Ending, done, stopped, Packets, packetsIn, Readi
 use Rattle.report.specs.Paper.{streamOf}
 use Rattle.timing.specs.declared.Rules.{Rules}
 use Rattle.timing.specs.declared.State.{State}
+use Rattle.timing.specs.declared.Judged.{Judged}
+use Rattle.timing.specs.declared.Judged.the-variants.{Given, Refused as Not-Judged}
+use Rattle.timing.specs.Answers.{verdictOf}
 use Rattle.timing.specs.Step.{rulesOf, freshOf, stateAfter, rowsAfter}
 
 -- "It prints `frame` and the ten numbers of each row as it closes"
@@ -14,9 +17,14 @@ unfoldable pub rowLines : List Row → List ℕ
 rowLines [] = []
 rowLines (r ∷ rs) = rowLine r ++ rowLines rs
 
--- "then one last line: packets, frames closed, peak, verdicts"
+-- "then one last line: packets, frames closed, peak, verdicts"; a state that set-up and accepted packets lead to has a verdict
+-- (proofs/Output.antt, last-line)
+abbrev pub judgedLine : State → Judged → List ℕ
+judgedLine s (Given v) = summaryLine (s .past .packets) (s .frames .closed) (s .bucket .peak) (v .network) (v .buffer)
+judgedLine s (Not-Judged number) = refusalLine number 0
+
 abbrev pub sumLine : State → List ℕ
-sumLine s = summaryLine (s .past .packets) (s .frames .closed) (s .bucket .peak) (s .bucket .network) (s .frames .buffer)
+sumLine s = judgedLine s (verdictOf s)
 
 -- "or, after the rows closed before a refusal, `refused`, number, offset."
 abbrev pub lastLine : State → Ending → List ℕ

@@ -68,6 +68,17 @@ versionBy w last (Refused number offset) = unopenedOf (Refused number offset)
 unfoldable pub beginOf : List ℕ → Bool → Opened
 beginOf w last = versionBy w last (pieceOf 0 w last)
 
+-- the paper's number, 0 where nothing is refused, and its offset
+abbrev pub openedNumber : Opened → ℕ
+openedNumber Wanting = 0
+openedNumber (Unopened number offset) = number
+openedNumber (Opens walk) = 0
+
+abbrev pub openedOffset : Opened → ℕ
+openedOffset Wanting = 0
+openedOffset (Unopened number offset) = offset
+openedOffset (Opens walk) = 0
+
 -- a walk begins after the version byte and the parameters, of a window that has them
 abbrev pub Headed : Opened → ℕ → Type 0
 Headed Wanting bytes = Unit

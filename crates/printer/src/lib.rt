@@ -15,6 +15,7 @@ use record::Cursor;
 use record::Numbers;
 use record::Read;
 use text::LINE;
+use timing::Judged;
 use timing::Rules;
 use timing::SetUp;
 use timing::State;
@@ -120,24 +121,31 @@ fn ends(item: Read) -> bool
     }
 }
 
+// The counts, the peak and the verdict.
 fn put_sum(s: State, out: &mut [u8], at: usize) -> usize
     requires { ⌜ at + 256 ≤ length (now out) ⌝ }
     ensures { λ r. ⌜ Put (sumLine s) at (now (out .entry)) r (now (out .exit)) ⌝ }
 {
     let past = s.past;
-    let bucket = s.bucket;
-    let network = bucket.network;
     let frames = s.frames;
-    let buffer = frames.buffer;
-    text::put_summary(
-        past.packets,
-        frames.closed,
-        bucket.peak,
-        network,
-        buffer,
-        out,
-        at,
-    )
+    let bucket = s.bucket;
+    let judged = s.verdict();
+    match judged {
+        Judged::Given(v) => {
+            let network = v.network;
+            let buffer = v.buffer;
+            text::put_summary(
+                past.packets,
+                frames.closed,
+                bucket.peak,
+                network,
+                buffer,
+                out,
+                at,
+            )
+        }
+        Judged::Refused(number) => text::put_refusal(number, 0, out, at),
+    }
 }
 
 // The last line, where there is one.

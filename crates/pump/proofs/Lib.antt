@@ -5,3 +5,4 @@ pub mod Stepping
 pub mod Running
 pub mod Room
 pub mod Program
+pub mod OneAnswer

@@ -32,7 +32,7 @@ use Rattle.pump.specs.Run.{Fetched, Printed, Reached}
 use Rattle.pump.proofs.Reading.{back}
 use Rattle.pump.proofs.Stepping.{shown-size}
 use Rattle.pump.proofs.Room.{shown-bytes, wants-room}
-use Rattle.pump.proofs.Running.{reaches-holds, wants-more, ran-front, ran-whole}
+use Rattle.pump.proofs.Running.{reaches-holds, wants-more, ran-front, ran-whole, ran-ended}
 
 pub reached-begins : (room : ℕ) (p : Pump) (w : List ℕ) → p ≡ fresh → Reached room p w
 reached-begins room p w e =
@@ -50,7 +50,15 @@ isWhole Worn = false
 -- a run that ended otherwise
 short : {room : ℕ} {last : Bool} {file text : List ℕ} {end : End} → Ran room last file text end → isWhole end ≡ false → Printed room end
 short {last = last} {file = file} {text = text} x e =
-    record { last = last; file = file; text = text; ran = x; front = ran-front x; all = λ f. absurd (false-true (sym e ∙ ap isWhole f)) }
+    record {
+      last = last;
+      file = file;
+      text = text;
+      ran = x;
+      front = ran-front x;
+      all = λ f. absurd (false-true (sym e ∙ ap isWhole f));
+      ended = ran-ended x;
+    }
 
 pub reached-worn : {room : ℕ} {p : Pump} {w : List ℕ} → Reached room p w → Printed room Worn
 reached-worn h = short (worn (h .reaches)) refl
@@ -100,7 +108,7 @@ module _ {room : ℕ} {p : Pump} {w : List ℕ} {r : Stepped} {after : List ℕ}
   pub reached-ends : fine ≡ true → r .over ≡ true → Printed room Whole
   reached-ends g e =
       let x = whole (h .reaches) (said true g) (sym (here .over-is) ∙ e) in
-      record { last = p .last; file = h .file; text = _; ran = x; front = ran-front x; all = λ f. ran-whole x }
+      record { last = p .last; file = h .file; text = _; ran = x; front = ran-front x; all = λ f. ran-whole x; ended = ran-ended x }
 
   pub reached-unwritten : fine ≡ false → Printed room Unwritten
   reached-unwritten g = short (unwritten (h .reaches) (said false g)) refl
@@ -134,7 +142,8 @@ module _ {room : ℕ} {p : Pump} {w : List ℕ} {r : Stepped} {after : List ℕ}
   pub reached-roomy : 256 ≤ room → 65538 ≤ length w → r .over ≡ false → r .wants ≡ true → Roomy (r .pump) w
   reached-roomy q big e f b =
       subst (λ (x : Pump). settledOf x .held < length w) (sym (here .pump-is))
-      (let room-left = wants-room p w room q (reached-fits h) (shown-bytes p w b) big (sym (here .over-is) ∙ e) (sym (here .wants-is) ∙ f) in
+      (let room-left = wants-room p w room q (reached-fits h) (shown-bytes p w b) big (sym (here .over-is) ∙ e)
+      (sym (here .wants-is) ∙ f) in
       omega (arith, less-held, room-left))
 
   pub reached-wants : 256 ≤ room → r .over ≡ false → r .wants ≡ true → r .pump .last ≡ false

@@ -189,3 +189,16 @@ ran-front (worn r) = so-far r
 -- and all of it where the last line is out
 pub ran-whole : {room : ℕ} {last : Bool} {file text : List ℕ} → Ran room last file text Whole → Whole-output last file text
 ran-whole {room} (whole {p} {w} {file} {text} r d e) = step-ends p w file text room (reaches-holds r) e
+
+-- and where the file had ended no read has failed: the last line is out, or a write failed, or the turns were over
+abbrev isUnread : End → Bool
+isUnread Whole = false
+isUnread Unwritten = false
+isUnread Unread = true
+isUnread Worn = false
+
+pub ran-ended : {room : ℕ} {last : Bool} {file text : List ℕ} {end : End} → Ran room last file text end → last ≡ true → end ≡ Unread → ⊥
+ran-ended (whole r d e) l f = false-true (ap isUnread f)
+ran-ended (unwritten r d) l f = false-true (ap isUnread f)
+ran-ended (unread r g h) l f = false-true (sym g ∙ l)
+ran-ended (worn r) l f = false-true (ap isUnread f)

@@ -71,6 +71,8 @@ pub record Printed (room : ℕ) (end : End) : Type 0 where
   pub ran : Ran room last file text end
   pub front : Front last file text
   pub all : end ≡ Whole → Whole-output last file text
+  -- where the file had ended nothing but a write that fails, or the last turn, keeps the last line back
+  pub ended : last ≡ true → end ≡ Unread → ⊥
 
 -- where the program's loop is
 pub record Reached (room : ℕ) (p : Pump) (w : List ℕ) : Type 0 where

@@ -10,7 +10,9 @@ pub mod Writing
 pub mod Fields
 pub mod WriteRead
 pub mod ReadWrite
-pub mod RoundTrip
 pub mod Window
+pub mod Answered
+pub mod RoundTrip
 pub mod InPieces
 pub mod Waiting
+pub mod OneAnswer

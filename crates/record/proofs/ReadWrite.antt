@@ -31,7 +31,7 @@ use Rattle.record.proofs.Fields.{bytes-drop, packet-again, parameters-a
 stopped-done : (n o : ℕ) → stopped n o ≡ done → ⊥
 stopped-done n o e = let z : _≡_ {A = ℕ} 0 1 = cc in omega arith
 
-refused-file : (n o : ℕ) (s : Numbers) (ps : List Packet) → refused n o ≡ file s ps → ⊥
+pub refused-file : (n o : ℕ) (s : Numbers) (ps : List Packet) → refused n o ≡ file s ps → ⊥
 refused-file n o s ps e = let z : _≡_ {A = ℕ} 0 1 = cc in omega arith
 
 empty : (l : List ℕ) → length l ≡ 0 → l ≡ []

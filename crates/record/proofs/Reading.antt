@@ -10,11 +10,11 @@ use lib.Dec.{eqb}
 use lib.ListN.{length, drop, length-drop}
 use lib.Seq.{drop-drop}
 use borrow.Author.Tests.{eq-eqb, ne-eqb, eqb-true, eqb-false}
-use Rattle.laws.specs.Choose.{pick-either, false-true}
+use Rattle.laws.specs.Choose.{pick-either, false-true, orElse}
 use Rattle.packet.specs.declared.Past.{Past}
 use Rattle.packet.specs.Step.{nothing, nextOf}
 use Rattle.record.specs.Paper.{versionFits, bodyLength, kindOf, inPlace, numbersAt, packetAt}
-use Rattle.record.specs.Paper.{formatRefusal, orElse, parametersRefusal, packetRefusal, unread, read, readingOf}
+use Rattle.record.specs.Paper.{formatRefusal, parametersRefusal, packetRefusal, unread, read, readingOf}
 use Rattle.record.specs.Paper.{done, stopped, none, more, packetsBy, packetsIn}
 use Rattle.record.proofs.Format.{formed, kind-1, kind-2}
 

@@ -5,7 +5,6 @@ use mathlib.Core.List.{List, [], _∷_, _++_}
 use Prim.Native.Nat.{ℕ, suc, _+_, _*_, _≤_, _<_}
 use native.Mathlib.Omega.{arith}
 use native.Mathlib.Nat.{zero-add}
-use native.Mathlib.Decide.{decLe}
 use lib.ListN.{length, take, drop, getD, length-append}
 use lib.Seq.{sets, sets-eq, take-at}
 use lib.Dec.{leb, eqb}
@@ -17,10 +16,9 @@ use Rattle.packet.specs.declared.Scanned.{Scanned}
 use Rattle.packet.specs.declared.Scanned.the-variants as scan
 use Rattle.packet.specs.Paper.{Packet, packets, OneLength, at}
 use Rattle.packet.specs.Step.{nothing, scannedOf}
-use Rattle.packet.proofs.Refusals.{accepted}
 use Rattle.packet.proofs.Lent.{packets-length}
 use Rattle.packet.proofs.Turn.{scanned-fine}
-use Rattle.packet.proofs.Declared.{refusal-at, scan-declared, fine-everywhere}
+use Rattle.packet.proofs.Declared.{scan-declared, fine-few}
 use Rattle.bigendian.proofs.Width.{length-bytes, sets-join}
 use Rattle.record.specs.declared.Numbers.{Numbers}
 use Rattle.record.specs.declared.Written.{Written}
@@ -91,15 +89,10 @@ module _ (ts ss ms : List ℕ) {closed : ℕ} (e : scannedOf nothing false ts ss
   as-many = packets-length ts ss ms same-slices
 
   pub few-packets : length ts ≤ 1000000000
-  few-packets = go (decLe (length ts) 1000000000)
-    where
-      go : Dec (length ts ≤ 1000000000) → length ts ≤ 1000000000
-      go (yes h) = h
-      go (no n) =
-          let l = packets ts ss ms in
-          let all = sym (scan-declared l) ∙ scanned-fine nothing false ts ss ms closed e .1 in
-          let here = fine-everywhere l closed 1000000000 all (omega (arith, as-many)) in
-          absurd (omega (arith, accepted _ _ _ (refusal-at l 1000000000 ∙ here) .few))
+  few-packets =
+      let l = packets ts ss ms in
+      let all = sym (scan-declared l) ∙ scanned-fine nothing false ts ss ms closed e .1 in
+      omega (arith, as-many, fine-few l closed all)
 
 -- what an answer of done says
 

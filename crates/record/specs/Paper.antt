@@ -5,7 +5,7 @@ use mathlib.Core.List.{List, [], _∷_}
 use Prim.Native.Nat.{ℕ, zero, suc, _+_}
 use lib.Dec.{ltb, eqb}
 use lib.ListN.{length, drop, getD}
-use Rattle.laws.specs.Choose.{pick}
+use Rattle.laws.specs.Choose.{pick, orElse}
 use Rattle.limits.specs.Paper.{setUpRefusal}
 use Rattle.packet.specs.declared.Past.{Past}
 use Rattle.packet.specs.Paper.{Packet}
@@ -77,14 +77,11 @@ formatRefusal at l =
     (pick (inPlace at (kindOf l)) 0 23)
     22))))
 
--- "before set-up and packet refusals": the second number only where the first is 0
-abbrev pub orElse : ℕ → ℕ → ℕ
-orElse a b = pick (eqb a 0) b a
-
 -- the refusals of set-up, of these numbers
 abbrev pub setUpOf : Numbers → ℕ
 setUpOf s = setUpRefusal (s .rate) (s .schedule) (s .class) (s .height) (s .n) (s .maxudp) (s .tro)
 
+-- 21 to 23 come "before set-up and packet refusals"
 abbrev pub parametersRefusal : List ℕ → ℕ
 parametersRefusal l = orElse (formatRefusal 1 l) (setUpOf (numbersAt l))
 

@@ -25,6 +25,15 @@ asChecked (refused number offset) = Refused number offset
 unfoldable pub checkedOf : List ℕ → Checked
 checkedOf s = asChecked (fileOf s)
 
+-- the paper's number, 0 where nothing is refused, and its offset
+abbrev pub checkedNumber : Checked → ℕ
+checkedNumber (Fine numbers packets closed) = 0
+checkedNumber (Refused number offset) = number
+
+abbrev pub checkedOffset : Checked → ℕ
+checkedOffset (Fine numbers packets closed) = 0
+checkedOffset (Refused number offset) = offset
+
 -- before the first packet, and after one more
 abbrev pub fresh : Tally
 fresh = record { past = nothing; begun = false; closed = 0 }

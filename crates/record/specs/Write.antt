@@ -36,6 +36,15 @@ writtenOf s ts ss ms room =
     (scanning (scannedOf nothing false ts ss ms) (fileLength (length ts)) room)
     (Refused (setUpOf s) 0)
 
+-- the paper's number, 0 where it wrote, and the place
+abbrev pub writtenNumber : Written → ℕ
+writtenNumber (Done needed) = 0
+writtenNumber (Refused number place) = number
+
+abbrev pub writtenPlace : Written → ℕ
+writtenPlace (Done needed) = 0
+writtenPlace (Refused number place) = place
+
 -- ".. and then writes nothing"; else the file stands in front, and the bytes beyond stay
 abbrev pub leftBy : Written → List ℕ → List ℕ → List ℕ
 leftBy (Done needed) file out = file ++ drop needed out

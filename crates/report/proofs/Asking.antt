@@ -1,6 +1,6 @@
 -- A file is asked for and the room after it: the count of frames that the check gives tells how long the report is. So what is asked
 -- decides the number, the offset and the bytes, and a file that is fine can be measured.
-use mathlib.Core.Path.{_≡_, refl, sym, ap, _∙_}
+use mathlib.Core.Path.{_≡_, refl, sym, ap, subst, _∙_}
 use mathlib.Core.Bool.{Bool, true, false}
 use mathlib.Core.List.{List, _++_, map}
 use Prim.Native.Nat.{ℕ, _+_, _-_, _*_, _/_, _≤_, _<_}
@@ -11,11 +11,11 @@ use lib.ListN.{length, drop, length-append, length-map}
 use lib.Seq.{sets}
 use borrow.Author.Tests.{le-leb, lt-leb, leb-true, leb-false}
 use Rattle.laws.specs.Choose.{pick}
-use Rattle.laws.specs.Count.{count}
+use Rattle.laws.specs.Count.{count, count-le}
 use Rattle.packet.specs.declared.Scanned.the-variants as scan
 use Rattle.packet.specs.Paper.{Packet, closesAt}
 use Rattle.packet.specs.Step.{nothing, scanOf}
-use Rattle.packet.proofs.Declared.{scan-declared, fine-count}
+use Rattle.packet.proofs.Declared.{scan-declared, fine-few, fine-count}
 use Rattle.timing.specs.declared.StreamNumbers.{StreamNumbers}
 use Rattle.timing.specs.declared.State.{State}
 use Rattle.timing.specs.Step.{rulesOf, freshOf, numbers}
@@ -26,10 +26,11 @@ use Rattle.record.specs.declared.Checked.the-variants as checked
 use Rattle.record.specs.Paper.{Packets, File, file, refused, fileOf}
 use Rattle.record.specs.Walk.{asChecked, checkedOf}
 use Rattle.record.proofs.ReadWrite.{FileHolds, file-holds}
+use Rattle.report.specs.declared.Asked.{Asked}
 use Rattle.report.specs.declared.Asked.the-variants.{Fine, Refused}
-use Rattle.report.specs.Paper.{streamOf, stateOf, rowsOf, reportOf, inBytes, encoded, bytesFor, answer, answered, answerOf, filled}
-use Rattle.report.specs.Paper.{filledBy}
-use Rattle.report.specs.Step.{needed, asAsked, askedOf, packetsOf, Measurable, Measured}
+use Rattle.report.specs.Paper.{streamOf, stateOf, rowsOf, reportOf, inBytes, encoded, bytesFor, answer, answered, answerOf}
+use Rattle.report.specs.Paper.{roomFor, roomOf, filled, filledBy}
+use Rattle.report.specs.Step.{needed, asAsked, askedOf, askedNumber, askedOffset, packetsOf, Measurable, Measured}
 use Rattle.report.proofs.Bytes.{nine, length-stored, length-encoded, encoded-append, naturals, front-last}
 
 -- the room, divided: fewer than nine numbers; then the rows
@@ -68,7 +69,54 @@ length-needed s x ps h =
     length-report (streamOf x) ps
     ∙ rw (numbers-length (rowsOf (streamOf x) ps), rows-closed (streamOf x) ps (h .closed) (h .scan-fine))
 
--- ---- the check's answer, and what is asked
+-- ---- the check's answer
+
+-- a file that the check finds fine, and the frames that it counts
+pub record FineFile (s : List ℕ) (x : Numbers) (closed : ℕ) : Type 0 where
+  pub ps : List Packet
+  pub is-file : fileOf s ≡ file x ps
+  pub as-many : count (closesAt ps) (length ps) ≡ closed
+
+checked-file : (s : List ℕ) (x : Numbers) (packets closed : ℕ) → checkedOf s ≡ checked.Fine x packets closed → FineFile s x closed
+unfolding checkedOf
+checked-file s x packets closed e = go (fileOf s) refl e
+  where
+    go : (f : File) → fileOf s ≡ f → asChecked f ≡ checked.Fine x packets closed → FineFile s x closed
+    go (refused m p) g e = let z : _≡_ {A = ℕ} 0 1 = cc in absurd (omega arith)
+    go (file y ps) g e = let same : y ≡ x = cc in record { ps = ps; is-file = g ∙ rw same; as-many = cc }
+
+module _ (s : List ℕ) (x : Numbers) (closed : ℕ) (f : FineFile s x closed) where
+  fine-long : length (bytesFor x (f .ps)) ≡ needed closed
+  fine-long = length-needed s x (f .ps) (file-holds s x (f .ps) (f .is-file)) ∙ ap needed (f .as-many)
+
+  -- no more frames than packets, of which there are at most 1,000,000,000
+  fine-closed : closed ≤ 1000000000
+  fine-closed =
+      let holds = file-holds s x (f .ps) (f .is-file) in
+      let few = fine-few (f .ps) (holds .closed) (sym (scan-declared (f .ps)) ∙ holds .scan-fine) in
+      omega (arith, few, f .as-many, count-le (closesAt (f .ps)) (length (f .ps)))
+
+-- ---- the room, by the check's answer
+
+module _ (s : List ℕ) where
+  pub room-fine : (x : Numbers) (packets closed : ℕ) → checkedOf s ≡ checked.Fine x packets closed → needed closed ≡ roomOf s
+  unfolding roomOf
+  room-fine x packets closed e =
+      let f = checked-file s x packets closed e in
+      sym (ap roomFor (f .is-file) ∙ fine-long s x closed f)
+
+  pub few-closed : (x : Numbers) (packets closed : ℕ) → checkedOf s ≡ checked.Fine x packets closed → closed ≤ 1000000000
+  few-closed x packets closed e = fine-closed s x closed (checked-file s x packets closed e)
+
+  pub room-refused : (n o : ℕ) → checkedOf s ≡ checked.Refused n o → 0 ≡ roomOf s
+  unfolding checkedOf roomOf
+  room-refused n o e = go (fileOf s) e
+    where
+      go : (f : File) → asChecked f ≡ checked.Refused n o → 0 ≡ roomFor f
+      go (file x ps) e = let z : _≡_ {A = ℕ} 0 1 = cc in absurd (omega arith)
+      go (refused m p) e = refl
+
+-- ---- what is asked
 
 module _ (s : List ℕ) (room : ℕ) where
   pub asked-refused : (n o : ℕ) → checkedOf s ≡ checked.Refused n o → Refused n o ≡ askedOf s room
@@ -81,17 +129,10 @@ module _ (s : List ℕ) (room : ℕ) where
 
   asked-by : (x : Numbers) (packets closed : ℕ) → checkedOf s ≡ checked.Fine x packets closed
       → pick (leb (needed closed) room) (Fine (streamOf x)) (Refused 15 (length s)) ≡ askedOf s room
-  unfolding checkedOf askedOf
-  asked-by x packets closed e = go (fileOf s) refl e
-    where
-      go : (f : File) → fileOf s ≡ f → asChecked f ≡ checked.Fine x packets closed
-          → pick (leb (needed closed) room) (Fine (streamOf x)) (Refused 15 (length s)) ≡ asAsked (length s) room f
-      go (refused m p) g e = let z : _≡_ {A = ℕ} 0 1 = cc in absurd (omega arith)
-      go (file y ps) g e =
-          let same : y ≡ x = cc in
-          let as-many : count (closesAt ps) (length ps) ≡ closed = cc in
-          let long = length-needed s y ps (file-holds s y ps g) ∙ ap needed as-many in
-          sym (rw (long, same))
+  unfolding askedOf
+  asked-by x packets closed e =
+      let f = checked-file s x packets closed e in
+      sym (ap (asAsked (length s) room) (f .is-file) ∙ rw (fine-long s x closed f))
 
   pub asked-room : (x : Numbers) (packets closed : ℕ) → checkedOf s ≡ checked.Fine x packets closed → leb (needed closed) room ≡ true
       → Fine (streamOf x) ≡ askedOf s room
@@ -122,22 +163,24 @@ module _ (s : List ℕ) (room : ℕ) where
           by true q e = record { written = y; ps = ps; is-file = g; enough = leb-true _ _ q; stream = cc }
           by false q e = let z : _≡_ {A = ℕ} 0 1 = cc in absurd (omega arith)
 
-  pub asked-number : (n o : ℕ) → askedOf s room ≡ Refused n o → answerOf s room ≡ answer n o
+  -- the answer is what is asked, as a number and an offset
+  own-answer : answerOf s room ≡ answer (askedNumber (askedOf s room)) (askedOffset (askedOf s room))
   unfolding askedOf answerOf
-  asked-number n o e = go (fileOf s) e
+  own-answer = go (fileOf s)
     where
-      go : (f : File) → asAsked (length s) room f ≡ Refused n o → answered (length s) room f ≡ answer n o
-      go (refused m p) e = cc
-      go (file y ps) e = by (leb (length (bytesFor y ps)) room) e
+      go : (f : File) → answered (length s) room f
+          ≡ answer (askedNumber (asAsked (length s) room f)) (askedOffset (asAsked (length s) room f))
+      go (refused m p) = refl
+      go (file y ps) = by (leb (length (bytesFor y ps)) room)
         where
-          by : (t : Bool) → pick t (Fine (streamOf y)) (Refused 15 (length s)) ≡ Refused n o
-              → pick t (answer 0 0) (answer 15 (length s)) ≡ answer n o
-          by true e = let z : _≡_ {A = ℕ} 0 1 = cc in absurd (omega arith)
-          by false e = cc
+          by : (t : Bool) → pick t (answer 0 0) (answer 15 (length s))
+              ≡ answer (askedNumber (pick t (Fine (streamOf y)) (Refused 15 (length s))))
+              (askedOffset (pick t (Fine (streamOf y)) (Refused 15 (length s))))
+          by true = refl
+          by false = refl
 
-  pub fine-number : (x : StreamNumbers) → Fits x → answerOf s room ≡ answer 0 0
-  unfolding answerOf
-  fine-number x h = ap (answered (length s) room) (h .is-file) ∙ rw (le-leb _ room (h .enough))
+  pub asked-answer : (a : Asked) → askedOf s room ≡ a → answerOf s room ≡ answer (askedNumber a) (askedOffset a)
+  asked-answer a e = subst (λ (b : Asked). answerOf s room ≡ answer (askedNumber b) (askedOffset b)) e own-answer
 
   pub fits-packets : (x : StreamNumbers) (h : Fits x) → packetsOf s ≡ h .ps
   fits-packets x h = ap (λ (r : Packets). r .accepted) (file-holds s (h .written) (h .ps) (h .is-file) .all-read)

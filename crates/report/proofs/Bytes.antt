@@ -14,7 +14,7 @@ use mir.Facts.{toZ-ofZ}
 use Rattle.bigendian.specs.Number.{bytesOf}
 use Rattle.bigendian.proofs.Width.{length-bytes, sets-join}
 use Rattle.timing.specs.declared.State.{State}
-use Rattle.timing.specs.Answers.{summaryOf}
+use Rattle.timing.specs.Answers.{summaryWith, summaryOf}
 use Rattle.report.specs.Paper.{signed, inBytes, encoded}
 
 pub length-stored : (xs : List ℕ) → length (inBytes xs) ≡ 8 * length xs
@@ -44,7 +44,7 @@ pub length-encoded : (zs : List ℤ) → length (encoded zs) ≡ 8 * length zs
 length-encoded zs = length-stored (map signed zs) ∙ ap (λ (n : ℕ). 8 * n) (length-signs zs)
 
 pub nine : (s : State) → length (summaryOf s) ≡ 9
-unfolding summaryOf
+unfolding summaryWith
 nine s = refl
 
 -- a number that is not negative is its own 64 bits

@@ -1,56 +1,96 @@
 -- The other C functions, one law for each way out: the writer's answer as a number, the four limits, the three doubles.
 use mathlib.Core.Path.{_≡_, refl, sym, ap, _∙_}
+use mathlib.Core.Bool.{false}
 use mathlib.Core.List.{List, [], _∷_}
 use Prim.Native.Nat.{ℕ, _≤_, _<_}
 use native.Mathlib.Omega.{arith}
-use lib.Ieee.{Float}
+use lib.Dec.{leb, eqb}
+use lib.Ieee.{Float, binary64, inFloat}
 use lib.IntN.{ℤ}
 use lib.ListN.{length}
 use lib.Seq.{sets, sets-eq}
 use mir.Syntax.{w64}
 use mir.Val.{SFits, toZ, ofZ}
 use mir.Facts.{toZ-ofZ}
-use borrow.Author.Tests.{eq-eqb, ne-eqb, le-leb, lt-leb}
+use borrow.Author.Tests.{eq-eqb, ne-eqb, eqb-false, le-leb, lt-leb}
+use Rattle.laws.specs.Choose.{pick, pick-either, orElse}
+use Rattle.packet.specs.declared.Scanned.{Scanned}
+use Rattle.packet.specs.declared.Scanned.the-variants as scan
 use Rattle.packet.specs.Paper.{packets}
+use Rattle.packet.specs.Step.{nothing, scannedOf}
+use Rattle.packet.proofs.Turn.{scanned-some}
 use Rattle.timing.specs.declared.StreamNumbers.{StreamNumbers}
 use Rattle.timing.specs.declared.Graph.{Graph}
 use Rattle.timing.specs.declared.Drawn.{Drawn}
 use Rattle.timing.specs.declared.Drawn.the-variants.{Figures, Refused as Not-Drawn}
 use Rattle.timing.specs.Step.{setUpOf}
 use Rattle.timing.specs.Answers.{graphOf}
+use Rattle.timing.specs.Laws.Answering.{set-up-then}
 use Rattle.record.specs.declared.Numbers.{Numbers}
 use Rattle.record.specs.declared.Written.{Written}
+use Rattle.record.specs.declared.Written.the-variants.{Done}
+use Rattle.record.specs.Paper as record-paper
 use Rattle.record.specs.Layout.{bytesIn}
 use Rattle.record.specs.Write as record-write
-use Rattle.report.specs.Paper.{writtenNumber, limitsOf, limitsNumber, limitsLeft}
+use Rattle.report.specs.Paper.{limitsOf, limitsNumber, limitsLeft}
 use Rattle.report.specs.Step.{Writes, Limits, drawNumber, drawLeft, Draws}
 
 pub writes-as : (s : Numbers) (ts ss ms out : List ℕ) {w v : Written} {after : List ℕ} → record-write.Writes s ts ss ms out w after → w ≡ v
-    → Writes s ts ss ms out (writtenNumber v) after
+    → Writes s ts ss ms out (record-write.writtenNumber v) after
 writes-as s ts ss ms out h e = record {
-  number-is = ap writtenNumber (sym e ∙ h .answered);
+  number-is = ap record-write.writtenNumber (sym e ∙ h .answered);
   bytes-are = h .left ∙ ap (λ (w : Written). record-write.leftBy w (bytesIn s (packets ts ss ms)) out) (h .answered);
 }
+
+-- a number of 0 says that the file was written: every refusal of the writer's has another
+number-nought : (s : Numbers) (ts ss ms : List ℕ) (room : ℕ) → record-write.writtenNumber (record-write.writtenOf s ts ss ms room) ≡ 0
+    → record-write.writtenOf s ts ss ms room ≡ Done (record-write.fileLength (length ts))
+unfolding record-write.writtenOf
+number-nought s ts ss ms room =
+    let set-up = record-paper.setUpOf s in
+    pick-either P (eqb set-up 0) (λ t. by (scannedOf nothing false ts ss ms) refl) (λ t e. absurd (eqb-false set-up 0 t e))
+  where
+    size : ℕ
+    size = record-write.fileLength (length ts)
+
+    P : Written → Type 0
+    P w = record-write.writtenNumber w ≡ 0 → w ≡ Done size
+
+    by : (a : Scanned) → scannedOf nothing false ts ss ms ≡ a → P (record-write.scanning a size room)
+    by (scan.Fine n) f = pick-either P (leb size room) (λ t e. refl) (λ t e. absurd (omega arith))
+    by (scan.Refused r) f = λ e. absurd (scanned-some nothing false ts ss ms r f e)
+
+pub written-whole : (s : Numbers) (ts ss ms out : List ℕ) {after : List ℕ} → Writes s ts ss ms out 0 after
+    → record-write.Writes s ts ss ms out (Done (record-write.fileLength (length ts))) after
+written-whole s ts ss ms out h =
+    let done = number-nought s ts ss ms (length out) (sym (h .number-is)) in
+    record {
+      answered = sym done;
+      left = h .bytes-are ∙ ap (λ (w : Written). record-write.leftBy w (bytesIn s (packets ts ss ms)) out) done;
+    }
 
 -- ---- the limits
 
 module _ (x : StreamNumbers) (out : List ℕ) where
+  -- 1 to 7 of set-up, then the room
+  in-order : limitsNumber x (length out) ≡ orElse (setUpOf x) (pick (leb 4 (length out)) 0 15)
+  unfolding limitsNumber
+  in-order = set-up-then x (pick (leb 4 (length out)) 0 15)
+
   by-number : (n : ℕ) → limitsNumber x (length out) ≡ n → 0 < n → Limits x out n out
   unfolding limitsLeft
   by-number n e p = record { number-is = sym e; numbers-are = sym (rw (e, ne-eqb n 0 (λ z. omega arith))) }
 
   pub limits-refused : (n : ℕ) → setUpOf x ≡ n → 0 < n → Limits x out n out
-  unfolding limitsNumber
-  limits-refused n e p = by-number n (rw (e, ne-eqb n 0 (λ z. omega arith))) p
+  limits-refused n e p = by-number n (in-order ∙ rw (e, ne-eqb n 0 (λ z. omega arith))) p
 
   pub limits-short : setUpOf x ≡ 0 → length out < 4 → Limits x out 15 out
-  unfolding limitsNumber
-  limits-short e h = by-number 15 (rw (eq-eqb (setUpOf x) 0 e, lt-leb 4 (length out) h)) (omega arith)
+  limits-short e h = by-number 15 (in-order ∙ rw (eq-eqb (setUpOf x) 0 e, lt-leb 4 (length out) h)) (omega arith)
 
   pub limits-done : {after : List ℕ} → setUpOf x ≡ 0 → 4 ≤ length out → after ≡ sets out 0 (limitsOf x) → Limits x out 0 after
-  unfolding limitsNumber limitsLeft
+  unfolding limitsLeft
   limits-done e h f =
-      let fine : limitsNumber x (length out) ≡ 0 = rw (eq-eqb (setUpOf x) 0 e, le-leb 4 (length out) h) in
+      let fine : limitsNumber x (length out) ≡ 0 = in-order ∙ rw (eq-eqb (setUpOf x) 0 e, le-leb 4 (length out) h) in
       record {
         number-is = sym fine;
         numbers-are = f ∙ sets-eq (limitsOf x) out 0 (omega arith) ∙ sym (rw (fine));
@@ -69,15 +109,21 @@ drawn-of {fpt} {margin} {latency} f g h e =
     ∙ ap (graphOf fpt margin) (toZ-ofZ h))
 
 module _ (fpt margin latency : ℤ) (out : List Float) where
-  draws : {d : Drawn} {after : List Float} → graphOf fpt margin latency ≡ d → after ≡ drawLeft d out
-      → Draws fpt margin latency out (drawNumber d (length out)) after
-  draws e f = record {
-    number-is = sym (ap (λ (d : Drawn). drawNumber d (length out)) e);
-    doubles-are = f ∙ sym (ap (λ (d : Drawn). drawLeft d out) e);
-  }
+  -- a graph that is refused is so by 16
+  not-drawn : {n : ℕ} → graphOf fpt margin latency ≡ Not-Drawn n → n ≡ 16
+  unfolding graphOf
+  not-drawn {n} =
+      let P : Drawn → Type 0 = λ d. d ≡ Not-Drawn n → n ≡ 16 in
+      pick-either P (inFloat binary64 fpt) (λ f.
+      pick-either P (inFloat binary64 margin) (λ m.
+      pick-either P (inFloat binary64 latency) (λ l e. let z : _≡_ {A = ℕ} 0 1 = cc in absurd (omega arith)) (λ l e. cc))
+      (λ m e. cc)) (λ f e. cc)
 
   pub draws-refused : {n : ℕ} → graphOf fpt margin latency ≡ Not-Drawn n → Draws fpt margin latency out n out
-  draws-refused e = draws e refl
+  draws-refused e = record {
+    number-is = sym (ap (λ (d : Drawn). drawNumber d (length out)) e ∙ rw (not-drawn e));
+    doubles-are = sym (ap (λ (d : Drawn). drawLeft d out) e);
+  }
 
   module _ {g : Graph} (e : graphOf fpt margin latency ≡ Figures g) where
     pub draws-short : length out < 3 → Draws fpt margin latency out 15 out

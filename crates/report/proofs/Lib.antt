@@ -3,4 +3,6 @@ pub mod Bytes
 pub mod Asking
 pub mod Calls
 pub mod Measuring
+pub mod Signed
 pub mod Stated
+pub mod OneAnswer

@@ -23,7 +23,9 @@ use Rattle.timing.specs.declared.Rules.{Rules}
 use Rattle.timing.specs.declared.State.{State}
 use Rattle.timing.specs.Step.{rulesOf, freshOf, arriveOf, markOf, stepOf, rowsOf, stateAfter, rowsAfter, numbers}
 use Rattle.timing.specs.Feed.{Arrives, Lays, closing, Runs}
-use Rattle.timing.specs.Laws.InRange.{sound-fresh}
+use Rattle.timing.specs.Range.{inRange, Sound}
+use Rattle.timing.specs.Laws.InRange.{sound-fresh, of-sound}
+use Rattle.timing.specs.Laws.Dealing.{sound-after}
 use Rattle.timing.specs.Laws.Laying.{one-row}
 use Rattle.timing.specs.Laws.Scanning.{scan-runs}
 use Rattle.timing.specs.Laws.Running.{numbers-append, step-past, closes-rows, runs-arrives, runs-closed, runs-lays, next-runs, turn-marked}
@@ -218,6 +220,14 @@ module _ {x : StreamNumbers} {file out₀ : List ℕ} {rules : Rules} {s : State
         rows-are = subst (λ (r : Packets). sets out (8 * at) (encoded (numbers (rowsAfter rules s (r .accepted))))
             ≡ sets out₀ 72 (encoded (numbers (rowsAfter (rulesOf x) (freshOf x) (packetsOf file))))) none (k .all-stored);
       }
+
+-- the state of a file that can be measured is in range
+pub measured-in-range : {x : StreamNumbers} {file before after : List ℕ} {room : ℕ} {s : State} → Measurable x file room
+    → Measured x file before s after → inRange s ≡ true
+measured-in-range {x} {file} {s = s} m d =
+    let scans = packets-scan (length (drop 19 file)) nothing false 0 19 (drop 19 file) (omega arith) (omega arith) (m .whole) in
+    let passes = scan-runs (packetsOf file) (rulesOf x) (freshOf x) 0 (scans .0) (scans .1) .0 in
+    of-sound s (subst Sound (sym (d .state-is)) (sound-after (packetsOf file) (freshOf x) (sound-fresh x (m .set-up)) passes))
 
 -- of the stream that the fresh state is of
 pub measured-from : {x : StreamNumbers} {file out₀ out : List ℕ} {s₀ s : State} → s₀ ≡ freshOf x → Measured (s₀ .numbers) file out₀ s out

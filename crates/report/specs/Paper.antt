@@ -7,17 +7,15 @@ use lib.IntN.{ℤ, pos}
 use lib.ListN.{length, drop}
 use mir.Val.{ofZ}
 use mir.Syntax.{w64}
-use Rattle.laws.specs.Choose.{pick}
+use Rattle.laws.specs.Choose.{pick, orElse}
 use Rattle.bigendian.specs.Number.{bytesOf}
 use Rattle.packet.specs.Paper.{Packet}
 use Rattle.timing.specs.declared.StreamNumbers.{StreamNumbers}
 use Rattle.timing.specs.declared.State.{State}
-use Rattle.timing.specs.Step.{setUpOf, rulesOf, freshOf, stateAfter, rowsAfter, numbers}
-use Rattle.timing.specs.Answers.{summaryOf}
+use Rattle.timing.specs.Step.{rulesOf, freshOf, stateAfter, rowsAfter, numbers}
+use Rattle.timing.specs.Answers.{summaryOf, setUpAs, setUpNumber}
 use Rattle.frame.specs.declared.Row.{Row}
 use Rattle.record.specs.declared.Numbers.{Numbers}
-use Rattle.record.specs.declared.Written.{Written}
-use Rattle.record.specs.declared.Written.the-variants.{Done, Refused}
 use Rattle.record.specs.Paper.{File, file, refused, fileOf}
 
 -- a record's stream numbers, as the measurement takes them
@@ -75,6 +73,14 @@ answered size room (refused number offset) = answer number offset
 unfoldable pub answerOf : List ℕ → ℕ → Answer
 answerOf s room = answered (length s) room (fileOf s)
 
+-- how many lent bytes are enough: those of the report; none are needed to be told of a refusal
+abbrev pub roomFor : File → ℕ
+roomFor (file s ps) = length (bytesFor s ps)
+roomFor (refused number offset) = 0
+
+unfoldable pub roomOf : List ℕ → ℕ
+roomOf s = roomFor (fileOf s)
+
 -- "bytes beyond stay"; "refused, it writes nothing"
 abbrev pub filled : List ℕ → File → List ℕ
 filled out (file s ps) = pick (leb (length (bytesFor s ps)) (length out)) (bytesFor s ps ++ drop (length (bytesFor s ps)) out) out
@@ -84,22 +90,13 @@ filled out (refused number offset) = out
 unfoldable pub filledBy : List ℕ → List ℕ → List ℕ
 filledBy s out = filled out (fileOf s)
 
--- the writer's answer as a number, 0 where it wrote, and as a place
-abbrev pub writtenNumber : Written → ℕ
-writtenNumber (Done n) = 0
-writtenNumber (Refused number place) = number
-
-abbrev pub writtenPlace : Written → ℕ
-writtenPlace (Done n) = 0
-writtenPlace (Refused number place) = place
-
 -- a stream's frame length and TRO in grains, C_MAX and VRX_FULL in packets
 abbrev pub limitsOf : StreamNumbers → List ℕ
 limitsOf x = rulesOf x .plan .period ∷ rulesOf x .plan .tro ∷ rulesOf x .limit ∷ rulesOf x .plan .full ∷ []
 
 -- 1 to 7 of set-up; then 15 where fewer than the four numbers are lent
 unfoldable pub limitsNumber : StreamNumbers → ℕ → ℕ
-limitsNumber x room = pick (eqb (setUpOf x) 0) (pick (leb 4 room) 0 15) (setUpOf x)
+limitsNumber x room = orElse (setUpNumber (setUpAs x)) (pick (leb 4 room) 0 15)
 
 unfoldable pub limitsLeft : StreamNumbers → List ℕ → List ℕ
 limitsLeft x out = pick (eqb (limitsNumber x (length out)) 0) (limitsOf x ++ drop 4 out) out

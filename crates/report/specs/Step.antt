@@ -7,7 +7,7 @@ use lib.Ieee.{Float}
 use lib.IntN.{ℤ}
 use lib.ListN.{length, drop}
 use lib.Seq.{sets}
-use Rattle.laws.specs.Choose.{pick}
+use Rattle.laws.specs.Choose.{pick, orElse}
 use Rattle.packet.specs.Paper.{Packet, packets}
 use Rattle.packet.specs.Step.{nothing}
 use Rattle.timing.specs.declared.StreamNumbers.{StreamNumbers}
@@ -16,18 +16,17 @@ use Rattle.timing.specs.declared.State.{State}
 use Rattle.timing.specs.declared.Drawn.{Drawn}
 use Rattle.timing.specs.declared.Drawn.the-variants.{Figures, Refused as Not-Drawn}
 use Rattle.timing.specs.Step.{setUpOf, numbers}
-use Rattle.timing.specs.Answers.{graphOf}
+use Rattle.timing.specs.Answers.{graphOf, drawnNumber}
 use Rattle.timing.specs.Feed.{closing}
 use Rattle.record.specs.declared.Numbers.{Numbers}
 use Rattle.record.specs.declared.Checked.{Checked}
 use Rattle.record.specs.declared.Checked.the-variants as checked
 use Rattle.record.specs.Paper.{done, packetsIn, File, file, refused, fileOf}
 use Rattle.record.specs.Layout.{bytesIn}
-use Rattle.record.specs.Write.{writtenOf, leftBy}
+use Rattle.record.specs.Write.{writtenOf, writtenNumber, leftBy}
 use Rattle.report.specs.declared.Asked.{Asked}
 use Rattle.report.specs.declared.Asked.the-variants.{Fine, Refused}
-use Rattle.report.specs.Paper.{streamOf, stateOf, rowsOf, encoded, bytesFor, answerOf, filledBy, writtenNumber, limitsNumber}
-use Rattle.report.specs.Paper.{limitsLeft}
+use Rattle.report.specs.Paper.{streamOf, stateOf, rowsOf, encoded, bytesFor, answerOf, filledBy, limitsNumber, limitsLeft}
 
 -- the bytes of nine numbers, and of ten for each frame closed
 abbrev pub needed : ℕ → ℕ
@@ -40,6 +39,15 @@ asAsked size room (refused number offset) = Refused number offset
 
 unfoldable pub askedOf : List ℕ → ℕ → Asked
 askedOf s room = asAsked (length s) room (fileOf s)
+
+-- the paper's number, 0 where nothing is refused, and its offset
+abbrev pub askedNumber : Asked → ℕ
+askedNumber (Fine x) = 0
+askedNumber (Refused number offset) = number
+
+abbrev pub askedOffset : Asked → ℕ
+askedOffset (Fine x) = 0
+askedOffset (Refused number offset) = offset
 
 abbrev pub refusedBy : Checked → Asked
 refusedBy (checked.Fine s packets closed) = Refused 0 0
@@ -81,8 +89,7 @@ pub record Limits (x : StreamNumbers) (out : List ℕ) (number : ℕ) (after : L
 
 -- 16 of the graph; then 15 where fewer than the three doubles are lent
 abbrev pub drawNumber : Drawn → ℕ → ℕ
-drawNumber (Figures g) room = pick (leb 3 room) 0 15
-drawNumber (Not-Drawn number) room = number
+drawNumber d room = orElse (drawnNumber d) (pick (leb 3 room) 0 15)
 
 abbrev pub drawLeft : Drawn → List Float → List Float
 drawLeft (Figures g) out = pick (leb 3 (length out)) (g .fpt ∷ g .margin ∷ g .latency ∷ drop 3 out) out

@@ -9,11 +9,13 @@ use record::Checked;
 use record::Numbers;
 use record::Written;
 use timing::Drawn;
+use timing::Judged;
 use timing::Rules;
 use timing::SUMMARY;
 use timing::State;
 use timing::StreamNumbers;
 ghost use mathlib.Core.Path.{_≡_};
+ghost use mathlib.Core.Bool.{true};
 ghost use Prim.Native.Nat.{_+_, _*_, _/_, _≤_};
 ghost use lib.Dec.{leb};
 ghost use lib.ListN.{length};
@@ -21,10 +23,11 @@ ghost use lib.Seq.{sets};
 ghost use Rattle.frame.specs.Step.{numbersOf};
 ghost use Rattle.timing.specs.Answers.{summaryOf};
 ghost use Rattle.timing.specs.Feed.{Lays};
+ghost use Rattle.timing.specs.Range.{inRange};
 ghost use Rattle.timing.specs.Step.{streamWith};
 ghost use Rattle.record.specs.Paper.{numbersWith};
-ghost use Rattle.record.specs.Write.{writtenOf};
-ghost use Rattle.report.specs.Paper.{streamOf, inBytes, encoded, answerOf, writtenPlace};
+ghost use Rattle.record.specs.Write.{writtenOf, writtenPlace};
+ghost use Rattle.report.specs.Paper.{streamOf, inBytes, encoded, answerOf, roomOf};
 ghost use Rattle.report.specs.Step.{refusedBy, needed, askedOf, Closed, Measurable, Measured, Measures, Writes, Limits, Draws};
 
 // What is lent for a file: fine with its stream numbers, or the number and the offset of the refusal.
@@ -111,16 +114,30 @@ fn put_row(row: Row, out: &mut [u8], at: usize)
     }
 }
 
-// The nine numbers of a state, in front.
-fn put_summary(s: State, out: &mut [u8])
-    requires { ⌜ 72 ≤ length (now out) ⌝ }
-    ensures { λ _. ⌜ now (out .exit) ≡ sets (now (out .entry)) 0 (inBytes (summaryOf s)) ⌝ }
+// Nine numbers, in front.
+fn put_nine(numbers: [u64; SUMMARY], out: &mut [u8])
+    requires { ⌜ (72 ≤ length (now out)) × (length numbers ≡ 9) ⌝ }
+    ensures { λ _. ⌜ now (out .exit) ≡ sets (now (out .entry)) 0 (inBytes numbers) ⌝ }
 {
-    let numbers = s.summary();
     let mut k = 0;
     while k < SUMMARY {
         write64(out, 8 * k, numbers[k]);
         k += 1;
+    }
+}
+
+// The counts, the peak and the verdict of a state, in front. A state that was measured is in range, so that there is a verdict.
+fn put_summary(s: State, out: &mut [u8])
+    requires { ⌜ (72 ≤ length (now out)) × (inRange s ≡ true) ⌝ }
+    ensures { λ _. ⌜ now (out .exit) ≡ sets (now (out .entry)) 0 (inBytes (summaryOf s)) ⌝ }
+{
+    let past = s.past;
+    let frames = s.frames;
+    let bucket = s.bucket;
+    let judged = s.verdict();
+    match judged {
+        Judged::Given(v) => put_nine(v.summary(past.packets, frames.closed, bucket.peak), out),
+        Judged::Refused(_) => {}
     }
 }
 
@@ -187,6 +204,25 @@ pub extern "C" fn vtiming_measure_offset(file: &[u8], room: usize) -> u64
     }
 }
 
+// How many lent bytes are enough for a file's report; 0 for a file that is refused.
+#[no_mangle]
+pub extern "C" fn vtiming_measure_room(file: &[u8]) -> u64
+    ensures { λ r. ⌜ r ≡ roomOf (now (file .entry)) ⌝ }
+{
+    let checked = record::check(file);
+    match checked {
+        Checked::Fine {
+            numbers: _,
+            packets: _,
+            closed,
+        } => 8 * (SUMMARY as u64 + closed * frame::ROW as u64),
+        Checked::Refused {
+            number: _,
+            offset: _,
+        } => 0,
+    }
+}
+
 // A record file written: the refusal number and nothing written; or 0, and the file stands in front.
 #[no_mangle]
 pub extern "C" fn vtiming_write(
@@ -202,8 +238,8 @@ pub extern "C" fn vtiming_write(
     markers: &[u8],
     out: &mut [u8],
 ) -> u32
-    ensures { λ r. ⌜ Writes (numbersWith rate schedule class height n maxudp tro) (now (arrivals .entry)) (now (stamps .entry)) (now (markers .entry))
-        (now (out .entry)) r (now (out .exit)) ⌝ }
+    ensures { λ r. ⌜ Writes (numbersWith rate schedule class height n maxudp tro)
+        (now (arrivals .entry)) (now (stamps .entry)) (now (markers .entry)) (now (out .entry)) r (now (out .exit)) ⌝ }
 {
     let numbers = Numbers {
         rate,

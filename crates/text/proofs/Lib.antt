@@ -9,3 +9,4 @@ pub mod Apart
 pub mod RowsApart
 pub mod LastApart
 pub mod Examples
+pub mod OneAnswer

@@ -13,6 +13,7 @@ use Rattle.timing.specs.declared.SetUp.{SetUp}
 use Rattle.timing.specs.declared.SetUp.the-variants.{Fresh, Refused}
 use Rattle.timing.specs.declared.Fed.{Fed}
 use Rattle.timing.specs.declared.Fed.the-variants.{Accepted, Refused as Fed-Refused}
+use Rattle.timing.specs.declared.Verdict.{Verdict}
 use Rattle.timing.specs.declared.Judged.{Judged}
 use Rattle.timing.specs.declared.Judged.the-variants.{Given, Refused as Not-Judged}
 use Rattle.timing.specs.declared.Drawn.{Drawn}
@@ -25,23 +26,30 @@ unfoldable pub setUpAs : StreamNumbers → SetUp
 setUpAs x = pick (eqb (setUpOf x) 0) (Fresh (freshOf x)) (Refused (setUpOf x))
 
 -- "The verdict holds the network answer and the buffer answer."
+abbrev pub answersOf : State → Verdict
+answersOf s = record { network = s .bucket .network; buffer = s .frames .buffer }
+
 unfoldable pub verdictOf : State → Judged
-verdictOf s = pick (inRange s) (Given (record { network = s .bucket .network; buffer = s .frames .buffer })) (Not-Judged 9)
+verdictOf s = pick (inRange s) (Given (answersOf s)) (Not-Judged 9)
 
 -- "nine numbers (packets, frames, peak; network 0 pass or 1 burst, first, last; buffer 0 none, 1 pass, 2 under or 3 over, frame, packet
 -- or peak; 0 where there is none)"
-unfoldable pub summaryOf : State → List ℕ
-summaryOf s =
-    s .past .packets
-    ∷ s .frames .closed
-    ∷ s .bucket .peak
-    ∷ networkNumber (s .bucket .network)
-    ∷ networkFirst (s .bucket .network)
-    ∷ networkLast (s .bucket .network)
-    ∷ bufferNumber (s .frames .buffer)
-    ∷ bufferFrame (s .frames .buffer)
-    ∷ bufferPlace (s .frames .buffer)
+unfoldable pub summaryWith : ℕ → ℕ → ℕ → Verdict → List ℕ
+summaryWith packets frames peak v =
+    packets
+    ∷ frames
+    ∷ peak
+    ∷ networkNumber (v .network)
+    ∷ networkFirst (v .network)
+    ∷ networkLast (v .network)
+    ∷ bufferNumber (v .buffer)
+    ∷ bufferFrame (v .buffer)
+    ∷ bufferPlace (v .buffer)
     ∷ []
+
+-- of a state: its counts and its peak, and its verdict
+abbrev pub summaryOf : State → List ℕ
+summaryOf s = summaryWith (s .past .packets) (s .frames .closed) (s .bucket .peak) (answersOf s)
 
 -- "FPT, margin and VL as microseconds, each the grains as a double (nothing lost) divided once by 27000."
 unfoldable pub microsecondsOf : ℤ → Float

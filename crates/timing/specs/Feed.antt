@@ -8,6 +8,7 @@ use lib.IntN.{ℤ}
 use lib.ListN.{length}
 use Rattle.laws.specs.Choose.{pick}
 use Rattle.laws.specs.Lay.{laid}
+use Rattle.grain.specs.Paper.{grains}
 use Rattle.packet.specs.declared.Past.{Past}
 use Rattle.packet.specs.declared.Scanned.{Scanned}
 use Rattle.packet.specs.declared.Scanned.the-variants.{Fine, Refused as Scan-Refused}
@@ -31,7 +32,7 @@ pub record Arrives (rules : Rules) (s : State) (t : ℕ) : Type 0 where
   pub apart : 0 < rules .spacing
   pub guess : s .drained * rules .spacing < 18446744073709551616
   pub since : elapsedOf (s .past) t ≤ 600000000000
-  pub reach : 27 * elapsedOf (s .past) t * rules .share < 18446744073709551616
+  pub reach : grains (elapsedOf (s .past) t) * rules .share < 18446744073709551616
   pub level : s .bucket .level ≤ s .past .packets
   pub planned : Planned (rules .plan)
   pub push : s .frames .begun ≡ true → Pushable (rules .plan) (s .frames .current) t
@@ -126,12 +127,29 @@ unfoldable pub allOf : List Call → List Packet
 allOf [] = []
 allOf (c ∷ cs) = c .packets ++ allOf cs
 
--- each call is accepted, from the state that the one before it gave; `out` is what they write, one after the other
+-- what a call writes: the numbers of the rows of the frames that it closes, one row after the other
+abbrev pub writes : State → Call → List ℤ
+writes s c = numbers (rowsAfter (rulesOf (s .numbers)) s (c .packets))
+
+-- a call is accepted: the state after it, and what it writes laid from the front of its rows; "unused row numbers stay untouched"
+abbrev pub Accepts : State → Call → State → Type 0
+Accepts s c t = feedAll s (c .rows) (c .packets) ≡ record { answer = Accepted t; rows = laid 0 (writes s c) (c .rows) }
+
+-- a call is refused: it names the number and the place, and leaves state and rows
+abbrev pub Refuses : State → Call → ℕ → ℕ → Type 0
+Refuses s c number place = feedAll s (c .rows) (c .packets) ≡ refusedBy s (c .rows) number place
+
+-- each call is accepted, from the state that the one before it gave; what they write, one after the other
 pub data Deals : State → List Call → State → List ℤ → Type 0 where
   none : {s : State} → Deals s [] s []
-  call : {s t u : State} {c : Call} {cs : List Call} (out more : List ℤ) → feedAll s (c .rows) (c .packets)
-      ≡ record { answer = Accepted t; rows = laid 0 out (c .rows) }
-      → Deals t cs u more → Deals s (c ∷ cs) u (out ++ more)
+  call : {s t u : State} {c : Call} {cs : List Call} {more : List ℤ} → Accepts s c t → Deals t cs u more
+      → Deals s (c ∷ cs) u (writes s c ++ more)
+
+-- each call is accepted, up to the first that is refused, which names this number and place
+pub data Stops : State → List Call → ℕ → ℕ → Type 0 where
+  here : {s : State} {c : Call} {cs : List Call} {number place : ℕ} → Refuses s c number place → Stops s (c ∷ cs) number place
+  later : {s t : State} {c : Call} {cs : List Call} {number place : ℕ} → Accepts s c t → Stops t cs number place
+      → Stops s (c ∷ cs) number place
 
 -- each call has room for the rows of the frames that it closes
 unfoldable pub Rooms : State → List Call → Type 0

@@ -1,7 +1,8 @@
 -- The declared state: what the measurement is before packet i of a history, in the words of the crates below, over the whole list by place.
 use mathlib.Core.List.{List, [], _++_}
-use Prim.Native.Nat.{ℕ, zero, suc, _*_}
+use Prim.Native.Nat.{ℕ, zero, suc}
 use lib.ListN.{length}
+use Rattle.grain.specs.Paper.{grains}
 use Rattle.packet.specs.Paper.{Packet, marked, at, pastAt}
 use Rattle.bucket.specs.Paper as BP
 use Rattle.bucket.specs.Step as B
@@ -15,7 +16,7 @@ use Rattle.timing.specs.Step.{frameOf, rulesOf}
 module _ (x : StreamNumbers) (l : List Packet) where
   -- the history as the bucket sees it, in grains, and as the frames see it, in nanoseconds
   abbrev pub bucketHistory : BP.History
-  bucketHistory = record { frame = frameOf x; perFrame = x .n; packets = length l; arrival = λ i. 27 * at l i .time }
+  bucketHistory = record { frame = frameOf x; perFrame = x .n; packets = length l; arrival = λ i. grains (at l i .time) }
 
   abbrev pub frameHistory : FP.History
   frameHistory = record { packets = length l; time = λ i. at l i .time; stamp = λ i. at l i .stamp; marked = λ i. marked (at l i) }

@@ -9,3 +9,8 @@ pub mod Scanning
 pub mod Feeding
 pub mod Declared
 pub mod Dealing
+pub mod Stopping
+pub mod Numbered
+pub mod Answering
+pub mod Accepting
+pub mod Fitting

@@ -4,7 +4,7 @@ use Prim.Native.Nat.{ℕ, _+_, _-_, _*_}
 use lib.IntN.{ℤ}
 use Rattle.laws.specs.Choose.{pick}
 use Rattle.laws.specs.Fold.{fold}
-use Rattle.grain.specs.Paper.{instants}
+use Rattle.grain.specs.Paper.{grains, instants}
 use Rattle.limits.specs.Paper.{frameLength, classOf, cMax, vrxFull, troGrains, readNum, readDen, setUpRefusal}
 use Rattle.packet.specs.declared.Past.{Past}
 use Rattle.packet.specs.Paper.{Packet, marked}
@@ -59,7 +59,7 @@ freshOf x = record { numbers = x; past = nothing; drained = 0; bucket = B.emptyO
 
 -- the drain instants up to a packet's arrival
 abbrev pub drainedOf : Rules → Past → ℕ → ℕ
-drainedOf rules past t = instants (27 * elapsedOf past t) (rules .spacing) (rules .share)
+drainedOf rules past t = instants (grains (elapsedOf past t)) (rules .spacing) (rules .share)
 
 -- the packet arrives: it is in the bucket, and in the open frame if there is one
 unfoldable pub arriveOf : Rules → State → ℕ → ℕ → State

@@ -5,8 +5,8 @@
 ghost use mathlib.Core.Path.{_≡_};
 ghost use mathlib.Core.Bool.{_&&_};
 ghost use mathlib.Core.List.{[], _∷_};
-ghost use Prim.Native.Nat.{_-_, _*_};
-ghost use Rattle.grain.specs.Paper.{grains as grainsOf, tick};
+ghost use Prim.Native.Nat.{_-_};
+ghost use Rattle.grain.specs.Paper.{grains as grainsOf};
 ghost use Rattle.timing.specs.Step.{setUpOf, frameOf, rulesOf, freshOf, arriveOf, markOf};
 ghost use Rattle.timing.specs.Range.{every, implies as impliesOf, pastRanges, bucketRanges, countRanges, openRanges, keptRanges};
 ghost use Rattle.timing.specs.Range.{inRange};
@@ -15,7 +15,7 @@ ghost use lib.ListN.{length};
 ghost use Rattle.packet.specs.Paper.{OneLength, packets};
 ghost use lib.Dec.{T};
 ghost use lib.Ieee.{binary64, inFloat};
-ghost use Rattle.timing.specs.Answers.{setUpAs, verdictOf, summaryOf, microsecondsOf, graphOf};
+ghost use Rattle.timing.specs.Answers.{setUpAs, verdictOf, summaryWith, microsecondsOf, graphOf};
 ghost use Rattle.timing.specs.Feed.{Arrives, Lays, Laid, Runs, Ran, refusedAs, feedOf, Is};
 use bucket::Bucket;
 use bucket::Network;
@@ -25,7 +25,7 @@ use frame::Plan;
 use packet::Past;
 use packet::Scanned;
 
-// How many numbers sum up a state.
+// How many numbers sum up a measurement.
 pub const SUMMARY: usize = 9;
 
 // The seven numbers that a stream is set up with, as a record file holds them.
@@ -100,9 +100,10 @@ pub enum SetUp {
 }
 
 impl StreamNumbers {
-    pub const GRAINS_PER_NANOSECOND: u64 = 27;
+    // `grain` is the home of both numbers; a stream's numbers name them as document 01 does.
+    pub const GRAINS_PER_NANOSECOND: u64 = grain::GRAINS_PER_NANOSECOND;
 
-    pub const GRAINS_PER_TICK: u64 = 300000;
+    pub const GRAINS_PER_TICK: u64 = grain::GRAINS_PER_TICK;
 
     // The grains of a time in nanoseconds that is short enough, as 600 s are.
     fn grains(ns: u64) -> u64
@@ -110,13 +111,6 @@ impl StreamNumbers {
         ensures { λ r. ⌜ r ≡ grainsOf ns ⌝ }
     {
         StreamNumbers::GRAINS_PER_NANOSECOND * ns
-    }
-
-    // The grains of a timestamp's ticks.
-    pub fn ticks(stamp: u32) -> u64
-        ensures { λ r. ⌜ r ≡ tick * stamp ⌝ }
-    {
-        StreamNumbers::GRAINS_PER_TICK * (stamp as u64)
     }
 
     // 0, or the number 1 to 7 by which set-up refuses.
@@ -464,21 +458,18 @@ impl State {
     }
 }
 
-impl State {
-    // The nine numbers that sum up a state, in document 01's order: packets, frames and peak, the network answer and
+impl Verdict {
+    // The nine numbers that sum up a measurement, in document 01's order: packets, frames and peak, the network answer and
     // the buffer answer.
-    pub fn summary(self) -> [u64; SUMMARY]
-        ensures { λ r. ⌜ r ≡ summaryOf self ⌝ }
+    pub fn summary(self, packets: u64, frames: u64, peak: u64) -> [u64; SUMMARY]
+        ensures { λ r. ⌜ r ≡ summaryWith packets frames peak self ⌝ }
     {
-        let past = self.past;
-        let bucket = self.bucket;
-        let answer = bucket.network;
-        let frames = self.frames;
-        let buffer = frames.buffer;
+        let answer = self.network;
+        let buffer = self.buffer;
         [
-            past.packets,
-            frames.closed,
-            bucket.peak,
+            packets,
+            frames,
+            peak,
             answer.number(),
             answer.first(),
             answer.last(),

@@ -1,18 +1,14 @@
--- One line for each place, from none to all.
+-- One turn for each first place, from none of the packets to all.
 use Prim.Native.Nat.{_-_, _≤_}
 use borrow.Author.Needs.{needs}
 use Rattle.cuts.proofs.main.Statement.{statement}
 use Rattle.cuts.proofs.main.Tie as tie
-use Rattle.cuts.proofs.main.Reads as reads
-use Rattle.cuts.proofs.main.Lts as lts
-use Rattle.cuts.proofs.print_line.Reads as print-line-reads
-use Rattle.timing.proofs.StreamNumbers.set_up.Reads as set-up-reads
 
 abbrev Inv-loop : tie.InvT-loop
-Inv-loop start at₀ at = at ≤ 12
+Inv-loop start rows nine first₀ first = first ≤ 14
 
 abbrev μ-loop : tie.MeasureT-loop
-μ-loop start at₀ at = 12 - at
+μ-loop start rows nine first₀ first = 14 - first
 
 set-up-requires : tie.Need-set-up-requires Inv-loop μ-loop
 set-up-requires c κs = search needs
@@ -26,14 +22,29 @@ enum-told c = search needs
 returns : tie.Need-returns Inv-loop μ-loop
 returns c = search needs
 
+slice-aggregate-part : tie.Need-slice-aggregate-part Inv-loop μ-loop
+slice-aggregate-part c = search needs
+
+part-requires : tie.Need-part-requires Inv-loop μ-loop
+part-requires c κs = search needs
+
+numbers-requires : tie.Need-numbers-requires Inv-loop μ-loop
+numbers-requires c κs = search needs
+
+print-rows-requires : tie.Need-print-rows-requires Inv-loop μ-loop
+print-rows-requires c κs = search needs
+
+print-numbers-requires : tie.Need-print-numbers-requires Inv-loop μ-loop
+print-numbers-requires c κs = search needs
+
 loop-holds : tie.Need-loop-holds Inv-loop μ-loop
 loop-holds c = search needs
 
-print-line-requires : tie.Need-print-line-requires Inv-loop μ-loop
-print-line-requires c κs = search needs
+try-from-requires : tie.Need-try-from-requires Inv-loop μ-loop
+try-from-requires c κs = search needs
 
-add-at : tie.Need-add-at Inv-loop μ-loop
-add-at c = search needs
+add-first : tie.Need-add-first Inv-loop μ-loop
+add-first c = search needs
 
 loop-less : tie.Need-loop-less Inv-loop μ-loop
 loop-less c = search needs
@@ -54,9 +65,14 @@ main-spec =
     enum-known-answer
     enum-told
     returns
+    slice-aggregate-part
+    part-requires
+    numbers-requires
+    print-rows-requires
+    print-numbers-requires
     loop-holds
-    print-line-requires
-    add-at
+    try-from-requires
+    add-first
     loop-less
     loop-again
     returns-2)

@@ -1,82 +1,62 @@
--- What is left of the nine numbers, stored from the next place on, gives the end; each turn stores one.
-use mathlib.Core.Path.{_≡_, refl, ap, _∙_}
-use Prim.Native.Nat.{_-_, _*_, _≤_}
-use native.Mathlib.Omega.{arith}
-use lib.ListN.{length, drop}
+-- The verdict of a state in range is the state's two answers, and the nine numbers are stored; there is no other case (timing's Answering).
+use mathlib.Core.Path.{sym, ap, _∙_}
+use mathlib.Core.List.{List}
+use Prim.Native.Nat.{ℕ}
 use lib.Seq.{sets}
-use Rattle.report.proofs.Bytes.{nine, store-turn, store-done}
+use denote.Ref.{now}
 use borrow.Author.Needs.{needs}
+use Rattle.timing.specs.Answers.{summaryWith}
+use Rattle.timing.specs.declared.Verdict.{Verdict}
 use Rattle.report.specs.Paper.{inBytes}
+use Rattle.timing.specs.Laws.Answering.{verdict-is, verdict-there}
 use Rattle.report.proofs.put_summary.Statement.{statement}
 use Rattle.report.proofs.put_summary.Tie as tie
 
-abbrev Inv-loop : tie.InvT-loop
-Inv-loop out₀ numbers k₀ out k =
-    (sets out (8 * k) (inBytes (drop k numbers)) ≡ sets out₀ 0 (inBytes numbers)) × (k ≤ 9)
-    × (length out ≡ length out₀) × (length numbers ≡ 9)
+verdict-requires : tie.Need-verdict-requires
+verdict-requires c κs = search needs
 
-abbrev μ-loop : tie.MeasureT-loop
-μ-loop out₀ numbers k₀ out k = 9 - k
+enum-known-judged : tie.Need-enum-known-judged
+enum-known-judged c = search needs
 
-summary-requires : tie.Need-summary-requires Inv-loop μ-loop
+summary-requires : tie.Need-summary-requires
 summary-requires c κs = search needs
 
-loop-holds : tie.Need-loop-holds Inv-loop μ-loop
-loop-holds c = (refl, omega arith, refl, ap length (c .summary .ensures) ∙ nine _)
+put-nine-requires : tie.Need-put-nine-requires
+put-nine-requires c κs = search needs
 
-mul-write64 : tie.Need-mul-write64 Inv-loop μ-loop
-mul-write64 c = search needs
+enum-told : tie.Need-enum-told
+enum-told c = search needs
 
-mul-write64-2 : tie.Need-mul-write64-2 Inv-loop μ-loop
-mul-write64-2 c = search needs
-
-array-read-write64 : tie.Need-array-read-write64 Inv-loop μ-loop
-array-read-write64 c = search needs
-
-write64-requires : tie.Need-write64-requires Inv-loop μ-loop
-write64-requires c κs = search needs
-
-add-k : tie.Need-add-k Inv-loop μ-loop
-add-k c = search needs
-
-loop-less : tie.Need-loop-less Inv-loop μ-loop
-loop-less c = search needs
-
-loop-again : tie.Need-loop-again Inv-loop μ-loop
-loop-again c =
-    let turn = c .before .before .before .before .before in
-    let l = turn .loop in
-    let all = turn .before .summary .result in (
-      rw (c .before .before .write64 .ensures)
-          (store-turn _ _ (l .k) _ all (l .out) (omega arith) (omega (arith, l .inv .3)) refl ∙ l .inv .0),
-      omega arith,
-      search needs,
-      l .inv .3,
-    )
-
-same-length : tie.Need-same-length Inv-loop μ-loop
+same-length : tie.Need-same-length
 same-length c = search needs
 
-returns : tie.Need-returns Inv-loop μ-loop
+returns : tie.Need-returns
 returns c =
-    let l = c .before .loop in
-    let all = c .before .before .summary .result in
-    store-done _ (l .k) all (l .out) (omega (arith, l .inv .3)) (l .inv .0) ∙ rw (c .before .before .summary .ensures)
+    let put = c .before .before in
+    let summed = put .before .before in
+    let told = summed .before .before in
+    let start = told .before .before .before .before .before .before .before in
+    let given = sym (told .before .before .verdict .ensures) ∙ told .judged .given .1 in
+    let s = start .args .s in
+    let own = verdict-is s _ (start .pre .1) given in
+    put .put-nine .ensures
+    ∙ ap (λ (l : List ℕ). sets (now (start .args .out)) 0 (inBytes l))
+    (summed .summary .ensures ∙ ap (λ (v : Verdict). summaryWith (s .past .packets) (s .frames .closed) (s .bucket .peak) v) own)
+
+returns-2 : tie.Need-returns-2
+returns-2 c =
+    let start = c .before .before .before .before .before .before .before in
+    absurd (verdict-there (start .args .s) _ (start .pre .1) (sym (c .before .before .verdict .ensures) ∙ c .enum-told .given .1))
 
 pub put-summary-spec : {M : Type 1} → statement M
 put-summary-spec =
     tie.close
     (tie.spec
-    Inv-loop
-    μ-loop
+    verdict-requires
+    enum-known-judged
     summary-requires
-    loop-holds
-    mul-write64
-    mul-write64-2
-    array-read-write64
-    write64-requires
-    add-k
-    loop-less
-    loop-again
+    put-nine-requires
+    enum-told
     same-length
-    returns)
+    returns
+    returns-2)

@@ -2,7 +2,8 @@
 use mathlib.Core.Path.{sym, ap, _∙_}
 use native.Mathlib.Omega.{arith}
 use Rattle.report.specs.Paper.{Answer}
-use Rattle.report.proofs.Asking.{asked-fine, fine-number, asked-number, fits-measurable, refused-leaves, report-filled}
+use Rattle.report.proofs.Asking.{asked-fine, asked-answer, fits-measurable, refused-leaves, report-filled}
+use Rattle.report.proofs.Measuring.{measured-in-range}
 use borrow.Author.Needs.{needs}
 use Rattle.report.proofs.vtiming_measure.Statement.{statement}
 use Rattle.report.proofs.vtiming_measure.Tie as tie
@@ -22,8 +23,9 @@ put-summary-requires : tie.Need-put-summary-requires
 put-summary-requires c κs =
     let told = c .before .before .before .before .before .before in
     let fits = asked-fine _ _ _ (sym (told .before .before .ask .ensures) ∙ told .asked .given .1) in
-    let room = fits-measurable _ _ _ fits .fits in
-    omega (arith, room)
+    let can = fits-measurable _ _ _ fits in
+    let room = can .fits in
+    (omega (arith, room), measured-in-range can (c .before .before .before .measure .ensures))
 
 enum-known-asked-2 : tie.Need-enum-known-asked-2
 enum-known-asked-2 c = search needs
@@ -37,11 +39,11 @@ same-length c = search needs
 returns : tie.Need-returns
 returns c =
     let told = c .before .before .before .before .before .before .before .before .before in
-    let fits = asked-fine _ _ _ (sym (told .before .before .ask .ensures) ∙ told .asked .given .1) in
+    let fine = sym (told .before .before .ask .ensures) ∙ told .asked .given .1 in
     let measured = c .before .before .before .before .before .before .measure .ensures in
     record {
-      number-is = sym (ap (λ (a : Answer). a .number) (fine-number _ _ _ fits));
-      bytes-are = report-filled _ _ _ fits measured (c .before .before .put-summary .ensures);
+      number-is = sym (ap (λ (a : Answer). a .number) (asked-answer _ _ _ fine));
+      bytes-are = report-filled _ _ _ (asked-fine _ _ _ fine) measured (c .before .before .put-summary .ensures);
     }
 
 returns-2 : tie.Need-returns-2
@@ -49,7 +51,7 @@ returns-2 c =
     let told = c .before in
     let refused = sym (told .before .before .ask .ensures) ∙ told .asked2 .given .1 in
     record {
-      number-is = sym (ap (λ (a : Answer). a .number) (asked-number _ _ _ _ refused));
+      number-is = sym (ap (λ (a : Answer). a .number) (asked-answer _ _ _ refused));
       bytes-are = refused-leaves _ _ _ _ refused;
     }
 

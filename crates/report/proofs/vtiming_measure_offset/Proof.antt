@@ -1,7 +1,7 @@
 -- What is asked has the offset.
 use mathlib.Core.Path.{sym, ap, _∙_}
 use Rattle.report.specs.Paper.{Answer}
-use Rattle.report.proofs.Asking.{asked-fine, fine-number, asked-number}
+use Rattle.report.proofs.Asking.{asked-answer}
 use borrow.Author.Needs.{needs}
 use Rattle.report.proofs.vtiming_measure_offset.Statement.{statement}
 use Rattle.report.proofs.vtiming_measure_offset.Tie as tie
@@ -16,14 +16,12 @@ enum-known-asked : tie.Need-enum-known-asked
 enum-known-asked c = search needs
 
 returns : tie.Need-returns
-returns c =
-    let fits = asked-fine _ _ _ (sym (c .before .before .ask .ensures) ∙ c .enum-told .given .1) in
-    sym (ap (λ (a : Answer). a .offset) (fine-number _ _ _ fits))
+returns c = sym (ap (λ (a : Answer). a .offset) (asked-answer _ _ _ (sym (c .before .before .ask .ensures) ∙ c .enum-told .given .1)))
 
 returns-2 : tie.Need-returns-2
 returns-2 c =
     let told = c .before in
-    sym (ap (λ (a : Answer). a .offset) (asked-number _ _ _ _ (sym (told .before .before .ask .ensures) ∙ told .asked .given .1)))
+    sym (ap (λ (a : Answer). a .offset) (asked-answer _ _ _ (sym (told .before .before .ask .ensures) ∙ told .asked .given .1)))
 
 pub vtiming-measure-offset-spec : {M : Type 1} → statement M
 vtiming-measure-offset-spec =

@@ -1,6 +1,6 @@
 -- The place in the answer that the writer would give.
 use mathlib.Core.Path.{sym, ap, _∙_}
-use Rattle.report.specs.Paper.{writtenPlace}
+use Rattle.record.specs.Write.{writtenPlace}
 use borrow.Author.Needs.{needs}
 use Rattle.report.proofs.vtiming_write_place.Statement.{statement}
 use Rattle.report.proofs.vtiming_write_place.Tie as tie

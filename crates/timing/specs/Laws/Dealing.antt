@@ -1,31 +1,36 @@
 -- A list dealt out over any calls: each call is accepted, and states and rows are those of one call with the
 -- whole list. The idea: an accepted list is one whose packets all pass, and passing may be cut anywhere.
 use mathlib.Core.Path.{_≡_, refl, sym, ap, _∙_, subst}
-use mathlib.Core.Bool.{Bool}
+use mathlib.Core.Bool.{Bool, true, false}
 use mathlib.Core.List.{List, [], _∷_, _++_}
 use Prim.Native.Nat.{ℕ, _+_, _*_, _≤_}
 use native.Mathlib.Omega.{arith}
 use lib.IntN.{ℤ}
 use lib.ListN.{length, length-append}
 use borrow.Author.Tests.{le-leb, eq-eqb}
+use Rattle.laws.specs.Choose.{pick}
 use Rattle.laws.specs.Fold.{fold, fold-cut}
 use Rattle.packet.specs.declared.Past.{Past}
-use Rattle.packet.specs.declared.Scanned.the-variants.{Fine}
-use Rattle.packet.specs.Paper.{Packet}
-use Rattle.packet.specs.Step.{numberOf, nextOf, closes, scanOf}
+use Rattle.packet.specs.declared.Scanned.{Scanned}
+use Rattle.packet.specs.declared.Scanned.the-variants.{Fine, Refused as Scan-Refused}
+use Rattle.packet.specs.Paper.{Packet, packets}
+use Rattle.packet.specs.Step.{numberOf, nextOf, closes, scanOf, scannedOf}
+use Rattle.packet.proofs.Turn.{scanned-fine}
 use Rattle.timing.specs.declared.Rules.{Rules}
 use Rattle.timing.specs.declared.State.{State}
+use Rattle.timing.specs.declared.Fed.the-variants.{Accepted}
 use Rattle.timing.specs.Step.{rulesOf, stepOf, rowsOf, stateAfter, rowsAfter, numbers}
-use Rattle.timing.specs.Range.{Sound}
-use Rattle.timing.specs.Feed.{Passes, acceptedAs, feedAll, Call, allOf, Deals, none, call, Rooms}
-use Rattle.timing.specs.Laws.InRange.{of-sound}
+use Rattle.timing.specs.Range.{inRange, Sound}
+use Rattle.timing.specs.Feed.{Passes, Outcome, refusedBy, acceptedAs, byScan, feedAll, feedOf, Call, allOf, Deals, none, call, Rooms}
+use Rattle.timing.specs.Laws.InRange.{of-sound, sound-of}
+use Rattle.timing.specs.Laws.Feeding.{accepted-from, feed-slices}
 use Rattle.timing.specs.Laws.Staying.{sound-step}
 use Rattle.timing.specs.Laws.Running.{numbers-append, step-numbers, step-past}
 use Rattle.timing.specs.Laws.Scanning.{begun-step, rows-count}
 use Rattle.timing.specs.Laws.Declared.{rows-cut}
 
 -- the stream numbers stay
-numbers-after : (rules : Rules) (s : State) (l : List Packet) → (stateAfter rules s l) .numbers ≡ s .numbers
+pub numbers-after : (rules : Rules) (s : State) (l : List Packet) → (stateAfter rules s l) .numbers ≡ s .numbers
 unfolding fold
 numbers-after rules s [] = refl
 numbers-after rules s (p ∷ l) = numbers-after rules (stepOf rules s p) l ∙ step-numbers rules s p
@@ -58,7 +63,7 @@ passes-scan (q ∷ l) rules s k p =
     rw (eq-eqb (numberOf (s .past) q) 0 (p .0)) (there ∙ ap Fine count)
 
 -- one call of packets that pass, with room
-accepts : (s : State) (rows : List ℤ) (l : List Packet) → Sound s → Passes (s .past) l
+pub accepts : (s : State) (rows : List ℤ) (l : List Packet) → Sound s → Passes (s .past) l
     → length (rowsAfter (rulesOf (s .numbers)) s l) * 10 ≤ length rows
     → feedAll s rows l ≡ acceptedAs s rows l
 unfolding feedAll
@@ -67,7 +72,7 @@ accepts s rows l x p room =
     (rw (le-leb ((0 + length (rowsAfter (rulesOf (s .numbers)) s l)) * 10) (length rows) (omega arith)))
 
 -- passing may be cut
-passes-cut : (rules : Rules) (s : State) (l m : List Packet) → Passes (s .past) (l ++ m) → Passes (s .past) l
+pub passes-cut : (rules : Rules) (s : State) (l m : List Packet) → Passes (s .past) (l ++ m) → Passes (s .past) l
     × Passes ((stateAfter rules s l) .past) m
 unfolding Passes fold
 passes-cut rules s [] m p = (tt, p)
@@ -90,9 +95,29 @@ deals (c ∷ cs) s x p r =
     let same : rulesOf (t .numbers) ≡ rules = ap rulesOf (numbers-after rules s l) in
     let rest = subst (λ (q : Rules). Deals t cs (stateAfter q t m) (numbers (rowsAfter q t m))) same
     (deals cs t (sound-after l s x (cut .0)) (cut .1) (r .1)) in
-    let all = call (numbers (rowsAfter rules s l)) (numbers (rowsAfter rules t m)) (accepts s (c .rows) l x (cut .0) (r .0)) rest in
+    let all = call (accepts s (c .rows) l x (cut .0) (r .0)) rest in
     let states : stateAfter rules t m ≡ stateAfter rules s (l ++ m) = sym (fold-cut (stepOf rules) s l m) in
     let rows : numbers (rowsAfter rules s l) ++ numbers (rowsAfter rules t m) ≡ numbers (rowsAfter rules s (l ++ m)) =
     sym (numbers-append (rowsAfter rules s l) (rowsAfter rules t m)) ∙ ap numbers (sym (rows-cut rules s l m)) in
     subst (λ (u : State). Deals s (c ∷ cs) u (numbers (rowsAfter rules s (l ++ m)))) states
     (subst (λ (o : List ℤ). Deals s (c ∷ cs) (stateAfter rules t m) o) rows all)
+
+-- ---- the state of an accepted call is in range
+
+pub stays-in-range : (s t : State) (rows : List ℤ) (l : List Packet) → (feedAll s rows l) .answer ≡ Accepted t → inRange t ≡ true
+stays-in-range s t rows l e =
+    let a = accepted-from s t rows l e in
+    of-sound t (subst Sound (sym (a .state)) (sound-after l s (sound-of s (a .in-range)) (a .passes)))
+
+-- and so it is where slices are lent: none of unequal length are accepted
+pub fed-in-range : (s t : State) (rows : List ℤ) (ts ss ms : List ℕ) → (feedOf s rows ts ss ms) .answer ≡ Accepted t → inRange t ≡ true
+unfolding feedOf
+fed-in-range s t rows ts ss ms e = go (scannedOf (s .past) (s .frames .begun) ts ss ms) refl (inRange s) e
+  where
+    go : (x : Scanned) → scannedOf (s .past) (s .frames .begun) ts ss ms ≡ x → (b : Bool)
+        → pick b (byScan s rows x (packets ts ss ms)) (refusedBy s rows 9 0) .answer ≡ Accepted t → inRange t ≡ true
+    go (Fine n) f b g =
+        let same = scanned-fine (s .past) (s .frames .begun) ts ss ms n f .0 in
+        stays-in-range s t rows (packets ts ss ms) (ap (λ (o : Outcome). o .answer) (sym (feed-slices s rows ts ss ms same)) ∙ e)
+    go (Scan-Refused r) f true g = let z : _≡_ {A = ℕ} 0 1 = cc in absurd (omega arith)
+    go (Scan-Refused r) f false g = let z : _≡_ {A = ℕ} 0 1 = cc in absurd (omega arith)

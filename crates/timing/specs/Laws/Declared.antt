@@ -96,7 +96,7 @@ module _ (x : StreamNumbers) (l : List Packet) where
         (FF.frames-first (rulesOf x .plan) (frameHistory x l)) j;
   }
 
-  -- "A state reached from set-up is the declared state of its history."
+  -- so a state reached from set-up is the declared state of its history
   pub state-declared : stateAfter (rulesOf x) (freshOf x) l ≡ stateAt x l (length l)
   state-declared =
       ap (λ (s : State). stateAfter (rulesOf x) s l) fresh-declared

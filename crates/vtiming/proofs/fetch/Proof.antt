@@ -20,12 +20,7 @@ sub-hear c = let s = c .before .before in
     omega (arith, held, ap (λ (x : Pump). x .from) (s .settle .ensures .0))
 
 part-hear-start : tie.Need-part-hear-start
-part-hear-start c = let s = c .before .before in
-    let start = s .before .before .before in
-    let room = start .pre .1 (λ i. s .before .before .slice-known .given i .fits) in
-    let held = settled-within (start .args .pump) (s .settle .result) (now (start .args .window)) (s .settle .last .1 .0) (start .pre .0)
-    (s .settle .ensures) (c .before .window .given) room in
-    omega (arith, held, ap (λ (x : Pump). x .from) (s .settle .ensures .0))
+part-hear-start c = sub-hear c
 
 part-hear-end : tie.Need-part-hear-end
 part-hear-end c = search needs

@@ -1,0 +1,19 @@
+-- The contract of a call on a piece, a record of equations and a bound, admits one answer and one content of the lent bytes.
+use mathlib.Core.Path.{_≡_}
+use mathlib.Core.List.{List}
+use Prim.Native.Nat.{ℕ}
+use Rattle.laws.specs.Unique.{one-answer}
+use Rattle.printer.specs.declared.Taken.{Taken}
+use Rattle.printer.specs.Step.{Took, Takes}
+
+pub takes-unique : (k : Took) (used written : ℕ) (before : List ℕ) (a b : Taken) (p q : List ℕ) → Takes k used written before a p
+    → Takes k used written before b q → (a ≡ b) × (p ≡ q)
+takes-unique k used written before a b p q x y = (
+  λ j. record {
+    walk = one-answer (x .walk-is) (y .walk-is) j;
+    used = one-answer (x .used-is) (y .used-is) j;
+    written = one-answer (x .written-is) (y .written-is) j;
+    ended = one-answer (x .ended-is) (y .ended-is) j;
+  },
+  one-answer (x .bytes) (y .bytes),
+)

@@ -1,0 +1,61 @@
+-- The line is that of the verdict which the state was asked for, whichever case it is.
+use mathlib.Core.Path.{sym, ap, subst, _∙_}
+use mathlib.Core.List.{List}
+use Prim.Native.Nat.{ℕ}
+use denote.Ref.{now}
+use borrow.Author.Needs.{needs}
+use Rattle.text.specs.Lines.{Put}
+use Rattle.printer.specs.Paper.{judgedLine}
+use Rattle.printer.proofs.put_sum.Statement.{statement}
+use Rattle.printer.proofs.put_sum.Tie as tie
+
+verdict-requires : tie.Need-verdict-requires
+verdict-requires c κs = search needs
+
+enum-known-judged : tie.Need-enum-known-judged
+enum-known-judged c = search needs
+
+put-summary-requires : tie.Need-put-summary-requires
+put-summary-requires c κs = search needs
+
+enum-known-judged-2 : tie.Need-enum-known-judged-2
+enum-known-judged-2 c = search needs
+
+put-refusal-requires : tie.Need-put-refusal-requires
+put-refusal-requires c κs = search needs
+
+same-length : tie.Need-same-length
+same-length c = search needs
+
+returns : tie.Need-returns
+returns c =
+    let put = c .before .before in
+    let told = put .before .before .before in
+    let a = told .before .before .before .before .before .before .before .args in
+    subst (λ (l : List ℕ). Put l (a .at) (now (a .out)) (put .put-summary .result) (put .put-summary .last .1 .1 .1 .1 .1 .0))
+    (ap (judgedLine (a .s)) (sym (told .judged .given .1) ∙ told .before .before .verdict .ensures)) (put .put-summary .ensures)
+
+same-length-2 : tie.Need-same-length-2
+same-length-2 c = search needs
+
+returns-2 : tie.Need-returns-2
+returns-2 c =
+    let put = c .before .before in
+    let told = put .before .before .before in
+    let a = told .before .before .before .before .before .before .before .args in
+    subst (λ (l : List ℕ). Put l (a .at) (now (a .out)) (put .put-refusal .result) (put .put-refusal .last .1 .1 .0))
+    (ap (judgedLine (a .s)) (sym (told .judged2 .given .1) ∙ told .before .before .verdict .ensures)) (put .put-refusal .ensures)
+
+pub put-sum-spec : {M : Type 1} → statement M
+put-sum-spec =
+    tie.close
+    (tie.spec
+    verdict-requires
+    enum-known-judged
+    put-summary-requires
+    enum-known-judged-2
+    put-refusal-requires
+    same-length
+    returns
+    same-length-2
+    returns-2)

@@ -1,0 +1,39 @@
+-- Each contract here that is a record of equations admits one answer: what meets it is what it names. The other contracts are equations.
+use mathlib.Core.Path.{_≡_}
+use mathlib.Core.List.{List}
+use Prim.Native.Nat.{ℕ}
+use lib.Ieee.{Float}
+use lib.IntN.{ℤ}
+use Rattle.laws.specs.Unique.{one-answer}
+use Rattle.timing.specs.declared.StreamNumbers.{StreamNumbers}
+use Rattle.timing.specs.declared.Rules.{Rules}
+use Rattle.timing.specs.declared.State.{State}
+use Rattle.record.specs.declared.Numbers.{Numbers}
+use Rattle.report.specs.Step.{Measures, Writes, Limits, Draws, Measured, Closed}
+
+-- ---- the C functions: the number, and what the lent slice holds then
+
+pub measures-unique : (s out : List ℕ) (a b : ℕ) (p q : List ℕ) → Measures s out a p → Measures s out b q → (a ≡ b) × (p ≡ q)
+measures-unique s out a b p q x y = (one-answer (x .number-is) (y .number-is), one-answer (x .bytes-are) (y .bytes-are))
+
+pub writes-unique : (s : Numbers) (ts ss ms out : List ℕ) (a b : ℕ) (p q : List ℕ) → Writes s ts ss ms out a p
+    → Writes s ts ss ms out b q → (a ≡ b) × (p ≡ q)
+writes-unique s ts ss ms out a b p q x y = (one-answer (x .number-is) (y .number-is), one-answer (x .bytes-are) (y .bytes-are))
+
+pub limits-unique : (x : StreamNumbers) (out : List ℕ) (a b : ℕ) (p q : List ℕ) → Limits x out a p → Limits x out b q → (a ≡ b) × (p ≡ q)
+limits-unique x out a b p q y z = (one-answer (y .number-is) (z .number-is), one-answer (y .numbers-are) (z .numbers-are))
+
+pub draws-unique : (fpt margin latency : ℤ) (out : List Float) (a b : ℕ) (p q : List Float) → Draws fpt margin latency out a p
+    → Draws fpt margin latency out b q → (a ≡ b) × (p ≡ q)
+draws-unique fpt margin latency out a b p q x y =
+    (one-answer (x .number-is) (y .number-is), one-answer (x .doubles-are) (y .doubles-are))
+
+-- ---- their parts: the packets of a file, and the row that a marker closes
+
+pub measured-unique : (x : StreamNumbers) (s before : List ℕ) (a b : State) (p q : List ℕ) → Measured x s before a p
+    → Measured x s before b q → (a ≡ b) × (p ≡ q)
+measured-unique x s before a b p q y z = (one-answer (y .state-is) (z .state-is), one-answer (y .rows-are) (z .rows-are))
+
+pub closed-unique : (rules : Rules) (s : State) (at : ℕ) (before : List ℕ) (a b : ℕ) (p q : List ℕ) → Closed rules s at before a p
+    → Closed rules s at before b q → (a ≡ b) × (p ≡ q)
+closed-unique rules s at before a b p q x y = (one-answer (x .next) (y .next), one-answer (x .bytes) (y .bytes))

@@ -1,0 +1,23 @@
+-- Each contract here that is a record of equations admits one answer: what meets it is what it names.
+use mathlib.Core.Path.{_≡_}
+use mathlib.Core.List.{List}
+use Prim.Native.Nat.{ℕ}
+use lib.IntN.{ℤ}
+use Rattle.laws.specs.Unique.{one-answer}
+use Rattle.packet.specs.Paper.{Packet}
+use Rattle.timing.specs.declared.Rules.{Rules}
+use Rattle.timing.specs.declared.State.{State}
+use Rattle.timing.specs.declared.Fed.{Fed}
+use Rattle.timing.specs.Feed.{Laid, Ran, Outcome, Is}
+
+-- a call of `feed`: its answer and its rows
+pub is-unique : (o : Outcome) (a b : Fed) (p q : List ℤ) → Is o a p → Is o b q → (a ≡ b) × (p ≡ q)
+is-unique o a b p q x y = (one-answer (x .answer-is) (y .answer-is), one-answer (x .rows-are) (y .rows-are))
+
+pub laid-unique : (rules : Rules) (s : State) (at : ℕ) (before : List ℤ) (a b : ℕ) (p q : List ℤ) → Laid rules s at before a p
+    → Laid rules s at before b q → (a ≡ b) × (p ≡ q)
+laid-unique rules s at before a b p q x y = (one-answer (x .next) (y .next), one-answer (x .rows) (y .rows))
+
+pub ran-unique : (rules : Rules) (s : State) (l : List Packet) (before : List ℤ) (a b : State) (p q : List ℤ) → Ran rules s l before a p
+    → Ran rules s l before b q → (a ≡ b) × (p ≡ q)
+ran-unique rules s l before a b p q x y = (one-answer (x .state-is) (y .state-is), one-answer (x .rows-are) (y .rows-are))

@@ -1,0 +1,114 @@
+-- The numbers that the answers stand for: by the tests that each answer goes by.
+use mathlib.Core.Path.{_≡_, refl, sym, ap, _∙_}
+use mathlib.Core.Bool.{Bool, true, false, _&&_}
+use mathlib.Core.List.{List}
+use Prim.Native.Nat.{ℕ, _*_}
+use native.Mathlib.Omega.{arith}
+use lib.Dec.{eqb, leb}
+use lib.Ieee.{binary64, inFloat}
+use lib.IntN.{ℤ}
+use lib.ListN.{length}
+use borrow.Author.Tests.{eqb-true, ne-eqb}
+use Rattle.laws.specs.Choose.{pick, pick-either, orElse}
+use Rattle.packet.specs.declared.Scanned.{Scanned}
+use Rattle.packet.specs.declared.Scanned.the-variants.{Fine, Refused as Scan-Refused}
+use Rattle.packet.specs.declared.Refusal.{Refusal}
+use Rattle.packet.specs.Paper.{Packet, packets}
+use Rattle.packet.specs.Step.{scannedOf, scannedNumber, scannedPlace, scannedClosed}
+use Rattle.packet.proofs.Turn.{scanned-some}
+use Rattle.timing.specs.declared.StreamNumbers.{StreamNumbers}
+use Rattle.timing.specs.declared.State.{State}
+use Rattle.timing.specs.declared.SetUp.{SetUp}
+use Rattle.timing.specs.declared.Verdict.{Verdict}
+use Rattle.timing.specs.declared.Judged.the-variants.{Given, Refused as Not-Judged}
+use Rattle.timing.specs.declared.Graph.{Graph}
+use Rattle.timing.specs.declared.Drawn.the-variants.{Figures, Refused as Not-Drawn}
+use Rattle.timing.specs.Step.{setUpOf}
+use Rattle.timing.specs.Range.{inRange}
+use Rattle.timing.specs.Answers.{setUpAs, answersOf, verdictOf, graphOf, fedNumber, fedPlace, setUpNumber, judgedNumber, drawnNumber}
+use Rattle.timing.specs.Feed.{refusedBy, byScan, feedOf}
+
+pub set-up-numbered : (x : StreamNumbers) → setUpNumber (setUpAs x) ≡ setUpOf x
+unfolding setUpAs
+set-up-numbered x =
+    pick-either (λ (a : SetUp). setUpNumber a ≡ setUpOf x) (eqb (setUpOf x) 0) (λ e. sym (eqb-true (setUpOf x) 0 e)) (λ e. refl)
+
+-- set-up's number, and then another
+pub set-up-then : (x : StreamNumbers) (n : ℕ) → orElse (setUpNumber (setUpAs x)) n ≡ orElse (setUpOf x) n
+set-up-then x n = ap (λ (k : ℕ). orElse k n) (set-up-numbered x)
+
+-- a state in range has a verdict, and it is the state's own
+pub verdict-is : (s : State) (v : Verdict) → inRange s ≡ true → verdictOf s ≡ Given v → v ≡ answersOf s
+unfolding verdictOf
+verdict-is s v e f = let g : Given (answersOf s) ≡ Given v = sym (rw e) ∙ f in cc
+
+pub verdict-there : (s : State) (n : ℕ) → inRange s ≡ true → verdictOf s ≡ Not-Judged n → ⊥
+unfolding verdictOf
+verdict-there s n e f =
+    let g : Given (answersOf s) ≡ Not-Judged n = sym (rw e) ∙ f in
+    let z : _≡_ {A = ℕ} 0 1 = cc in
+    omega arith
+
+pub verdict-numbered : (s : State) → judgedNumber (verdictOf s) ≡ pick (inRange s) 0 9
+unfolding verdictOf
+verdict-numbered s = go _ (inRange s)
+  where
+    go : (v : Verdict) (t : Bool) → judgedNumber (pick t (Given v) (Not-Judged 9)) ≡ pick t 0 9
+    go v true = refl
+    go v false = refl
+
+pub graph-numbered : (fpt margin latency : ℤ)
+    → drawnNumber (graphOf fpt margin latency) ≡ pick (inFloat binary64 fpt && (inFloat binary64 margin && inFloat binary64 latency)) 0 16
+unfolding graphOf
+graph-numbered fpt margin latency = go _ (inFloat binary64 fpt) (inFloat binary64 margin) (inFloat binary64 latency)
+  where
+    go : (g : Graph) (a b c : Bool)
+        → drawnNumber (pick a (pick b (pick c (Figures g) (Not-Drawn 16)) (Not-Drawn 16)) (Not-Drawn 16)) ≡ pick (a && (b && c)) 0 16
+    go g true true true = refl
+    go g true true false = refl
+    go g true false c = refl
+    go g false b c = refl
+
+-- ---- a call: 9, then the scan's number, then 15
+
+module _ (s : State) (rows : List ℤ) (ts ss ms : List ℕ) where
+  abbrev scanned : Scanned
+  scanned = scannedOf (s .past) (s .frames .begun) ts ss ms
+
+  abbrev roomy : Scanned → Bool
+  roomy x = leb (scannedClosed x * 10) (length rows)
+
+  by-room : (n : ℕ) (t : Bool) → leb (n * 10) (length rows) ≡ t
+      → (fedNumber (byScan s rows (Fine n) (packets ts ss ms) .answer) ≡ pick t 0 15)
+      × (fedPlace (byScan s rows (Fine n) (packets ts ss ms) .answer) ≡ pick t 0 (s .past .packets))
+  by-room n true e = (rw e, rw e)
+  by-room n false e = (rw e, rw e)
+
+  by-scanned : (x : Scanned) → scanned ≡ x
+      → (fedNumber (byScan s rows x (packets ts ss ms) .answer) ≡ orElse (scannedNumber x) (pick (roomy x) 0 15))
+      × (fedPlace (byScan s rows x (packets ts ss ms) .answer)
+      ≡ pick (eqb (scannedNumber x) 0) (pick (roomy x) 0 (s .past .packets)) (scannedPlace x))
+  by-scanned (Fine n) e = by-room n (leb (n * 10) (length rows)) refl
+  by-scanned (Scan-Refused r) e =
+      let some = ne-eqb (r .number) 0 (scanned-some (s .past) (s .frames .begun) ts ss ms r e) in
+      (sym (rw some), sym (rw some))
+
+  pub fed-numbered : fedNumber (feedOf s rows ts ss ms .answer)
+      ≡ orElse (pick (inRange s) 0 9) (orElse (scannedNumber scanned) (pick (roomy scanned) 0 15))
+  unfolding feedOf
+  fed-numbered = go (inRange s)
+    where
+      go : (t : Bool) → fedNumber (pick t (byScan s rows scanned (packets ts ss ms)) (refusedBy s rows 9 0) .answer)
+          ≡ orElse (pick t 0 9) (orElse (scannedNumber scanned) (pick (roomy scanned) 0 15))
+      go true = by-scanned scanned refl .0
+      go false = refl
+
+  pub fed-placed : fedPlace (feedOf s rows ts ss ms .answer)
+      ≡ pick (inRange s) (pick (eqb (scannedNumber scanned) 0) (pick (roomy scanned) 0 (s .past .packets)) (scannedPlace scanned)) 0
+  unfolding feedOf
+  fed-placed = go (inRange s)
+    where
+      go : (t : Bool) → fedPlace (pick t (byScan s rows scanned (packets ts ss ms)) (refusedBy s rows 9 0) .answer)
+          ≡ pick t (pick (eqb (scannedNumber scanned) 0) (pick (roomy scanned) 0 (s .past .packets)) (scannedPlace scanned)) 0
+      go true = by-scanned scanned refl .1
+      go false = refl

@@ -1,0 +1,80 @@
+-- Where each frame's numbers stand among all that are written: the rows before it are as many as frames closed before. By place.
+use mathlib.Core.Path.{_≡_, refl, sym, ap, _∙_}
+use mathlib.Core.Bool.{Bool, true, false}
+use mathlib.Core.Logic.{_⊎_, inl, inr}
+use mathlib.Core.List.{List, [], _∷_, _++_, append-assoc, append-nil}
+use Prim.Native.Nat.{ℕ, zero, suc, _+_, _*_, _≤_, _<_}
+use native.Mathlib.Omega.{arith}
+use native.Mathlib.Nat.{le-suc-iff}
+use lib.IntN.{ℤ}
+use lib.ListN.{length, take, drop, length-append}
+use lib.Seq.{take-at, drop-at}
+use Rattle.laws.specs.Choose.{pick}
+use Rattle.laws.specs.Count.{count}
+use Rattle.laws.specs.Lay.{laid, laid-is}
+use Rattle.packet.specs.Paper.{Packet}
+use Rattle.frame.specs.declared.Row.{Row}
+use Rattle.frame.specs.Paper.{closesAt, numberAt}
+use Rattle.frame.specs.Step.{numbersOf}
+use Rattle.frame.specs.ByPlace.{rowsAt}
+use Rattle.timing.specs.declared.StreamNumbers.{StreamNumbers}
+use Rattle.timing.specs.Step.{rulesOf, numbers}
+use Rattle.timing.specs.History.{frameHistory, rowsTo}
+use Rattle.timing.specs.Laws.Running.{numbers-append}
+use Rattle.timing.specs.Laws.Scanning.{numbers-length}
+
+module _ (x : StreamNumbers) (l : List Packet) where
+  rows-counted : (i : ℕ) → length (rowsTo x l i) ≡ numberAt (frameHistory x l) i
+  unfolding rowsTo count
+  rows-counted zero = refl
+  rows-counted (suc i) =
+      length-append (rowsTo x l i) (rowsAt (rulesOf x .plan) (frameHistory x l) i)
+      ∙ ap (λ (n : ℕ). n + length (rowsAt (rulesOf x .plan) (frameHistory x l) i)) (rows-counted i)
+      ∙ ap (λ (n : ℕ). numberAt (frameHistory x l) i + n) (one _ (closesAt (frameHistory x l) i))
+    where
+      one : (r : Row) (t : Bool) → length (pick t (r ∷ []) []) ≡ pick t 1 0
+      one r true = refl
+      one r false = refl
+
+  -- the rows up to m are those up to i, that of place i, and more
+  rows-from : (i m : ℕ) → i < m → (rest : List Row)
+      × (rowsTo x l m ≡ rowsTo x l i ++ (rowsAt (rulesOf x .plan) (frameHistory x l) i ++ rest))
+  unfolding rowsTo
+  rows-from i zero h = absurd (omega arith)
+  rows-from i (suc m) h = go (rows-from i m) (le-suc-iff .0 h)
+    where
+      here : ℕ → List Row
+      here k = rowsAt (rulesOf x .plan) (frameHistory x l) k
+
+      go : (i < m → (rest : List Row) × (rowsTo x l m ≡ rowsTo x l i ++ (here i ++ rest))) → (suc i ≤ m) ⊎ (suc i ≡ suc m)
+          → (rest : List Row) × (rowsTo x l m ++ here m ≡ rowsTo x l i ++ (here i ++ rest))
+      go ih (inl less) =
+          let w = ih less in (
+            w .0 ++ here m,
+            ap (λ (r : List Row). r ++ here m) (w .1) ∙ append-assoc (rowsTo x l i) (here i ++ w .0) (here m)
+                ∙ ap (λ (r : List Row). rowsTo x l i ++ r) (append-assoc (here i) (w .0) (here m)),
+          )
+      go ih (inr e) =
+          let same : m ≡ i = omega arith in
+          ([], ap (λ (k : ℕ). rowsTo x l k ++ here k) same ∙ ap (λ (r : List Row). rowsTo x l i ++ r) (sym (append-nil (here i))))
+
+  -- of all the numbers laid from the front of lent ones, ten for each frame closed before, and then ten of this
+  pub numbers-of-frame : (i m : ℕ) (r : Row) (lent : List ℤ) → i < m → rowsAt (rulesOf x .plan) (frameHistory x l) i ≡ r ∷ []
+      → length (numbers (rowsTo x l m)) ≤ length lent
+      → take 10 (drop (10 * numberAt (frameHistory x l) i) (laid 0 (numbers (rowsTo x l m)) lent)) ≡ numbersOf r
+  unfolding numbers
+  numbers-of-frame i m r lent h e room =
+      let w = rows-from i m h in
+      let before = numbers (rowsTo x l i) in
+      let out = numbers (rowsTo x l m) in
+      let behind = numbers (w .0) ++ drop (length out) lent in
+      let cut : out ≡ before ++ (numbersOf r ++ numbers (w .0)) =
+      ap numbers (w .1 ∙ ap (λ (q : List Row). rowsTo x l i ++ (q ++ w .0)) e) ∙ numbers-append (rowsTo x l i) (r ∷ w .0) in
+      let all : laid 0 out lent ≡ before ++ (numbersOf r ++ behind) =
+      laid-is [] out lent room ∙ ap (λ (o : List ℤ). o ++ drop (length out) lent) cut
+      ∙ append-assoc before (numbersOf r ++ numbers (w .0)) (drop (length out) lent)
+      ∙ ap (λ (o : List ℤ). before ++ o) (append-assoc (numbersOf r) (numbers (w .0)) (drop (length out) lent)) in
+      let size : length before ≡ 10 * numberAt (frameHistory x l) i = omega (arith, numbers-length (rowsTo x l i), rows-counted i) in
+      ap (λ (o : List ℤ). take 10 (drop (10 * numberAt (frameHistory x l) i) o)) all
+      ∙ ap (take 10) (drop-at before (numbersOf r ++ behind) (10 * numberAt (frameHistory x l) i) size)
+      ∙ take-at (numbersOf r) behind 10 refl
