@@ -86,7 +86,20 @@ static struct list jittered(size_t count, uint32_t n)
     return l;
 }
 
-static uint8_t fed(feed_function *feed, struct stream s, struct list l, int64_t *rows, size_t row_count, uint64_t *out)
+/* Set up and fed in one, as the twin does it. */
+static uint32_t proved_feed(uint8_t rate, uint8_t schedule, uint8_t class, uint16_t height, uint32_t n, uint16_t maxudp, uint32_t tro,
+                            const uint64_t *arrivals, size_t arrival_count, const uint32_t *stamps, size_t stamp_count,
+                            const uint8_t *markers, size_t marker_count, int64_t *rows, size_t row_count, uint64_t *out,
+                            size_t out_count)
+{
+    uint64_t state[STATE_WORDS];
+    uint32_t refused = vtiming_set_up(rate, schedule, class, height, n, maxudp, tro, state, STATE_WORDS);
+    if (refused) return refused;
+    return vtiming_feed(state, STATE_WORDS, arrivals, arrival_count, stamps, stamp_count, markers, marker_count, rows, row_count, out,
+                        out_count);
+}
+
+static uint32_t fed(feed_function *feed, struct stream s, struct list l, int64_t *rows, size_t row_count, uint64_t *out)
 {
     return feed(s.rate, s.schedule, s.class, s.height, s.n, s.maxudp, s.tro, l.arrivals, l.count, l.stamps, l.count, l.markers,
                 l.count, rows, row_count, out, SUMMARY);
@@ -100,13 +113,13 @@ static void differ(const char *what, struct stream s, size_t count, size_t place
 }
 
 /* Both fill buffers that held one known value; all of each is compared, so that a number too many shows too. */
-static uint8_t agree_with(feed_function *twin_function, struct stream s, struct list l, size_t row_count)
+static uint32_t agree_with(feed_function *twin_function, struct stream s, struct list l, size_t row_count)
 {
     int64_t *a = room(row_count * sizeof *a), *b = room(row_count * sizeof *b);
     uint64_t x[SUMMARY], y[SUMMARY];
     for (size_t i = 0; i < row_count; i++) a[i] = b[i] = UNTOUCHED;
     for (int i = 0; i < SUMMARY; i++) x[i] = y[i] = UNTOUCHED;
-    uint8_t proved = fed(vtiming_feed, s, l, a, row_count, x), twin = fed(twin_function, s, l, b, row_count, y);
+    uint32_t proved = fed(proved_feed, s, l, a, row_count, x), twin = fed(twin_function, s, l, b, row_count, y);
     if (proved != twin) differ("answer", s, l.count, 0, proved, twin);
     for (size_t i = 0; i < row_count; i++)
         if (a[i] != b[i]) differ("row number", s, l.count, i, a[i], b[i]);
@@ -117,7 +130,7 @@ static uint8_t agree_with(feed_function *twin_function, struct stream s, struct 
     return proved;
 }
 
-static uint8_t agree(struct stream s, struct list l, size_t row_count)
+static uint32_t agree(struct stream s, struct list l, size_t row_count)
 {
     agree_with(kit_twin_feed, s, l, row_count);
     return agree_with(twin_feed, s, l, row_count);
@@ -219,9 +232,9 @@ static struct ratios measure(uint32_t n, size_t wanted)
     size_t calls = (wanted + count - 1) / count;
     struct list l = jittered(count, n);
     size_t row_count = (count / n + 1) * ROW;
-    uint8_t answer = agree(s, l, row_count);
+    uint32_t answer = agree(s, l, row_count);
     if (answer != 0) {
-        printf("DIFFERENT: the list is refused, by %u\n", answer);
+        printf("DIFFERENT: the list is refused, by %" PRIu32 "\n", answer);
         exit(1);
     }
 
@@ -229,7 +242,7 @@ static struct ratios measure(uint32_t n, size_t wanted)
     memset(rows, 0, row_count * sizeof *rows);
     double proved = 0, kit = 0, system = 0, floor = 0;
     for (int round = 0; round < ROUNDS; round++) {
-        keep_least(&proved, timed(vtiming_feed, calls, s, l, rows, row_count));
+        keep_least(&proved, timed(proved_feed, calls, s, l, rows, row_count));
         keep_least(&kit, timed(kit_twin_feed, calls, s, l, rows, row_count));
         keep_least(&system, timed(twin_feed, calls, s, l, rows, row_count));
         double start = now();
@@ -239,7 +252,7 @@ static struct ratios measure(uint32_t n, size_t wanted)
     /* A list that is refused at its last packet is scanned and not measured: what the scan costs. */
     double scan = 0;
     l.markers[count - 1] = 2;
-    for (int round = 0; round < ROUNDS; round++) keep_least(&scan, timed(vtiming_feed, calls, s, l, rows, row_count));
+    for (int round = 0; round < ROUNDS; round++) keep_least(&scan, timed(proved_feed, calls, s, l, rows, row_count));
 
     double packets = (double)count * (double)calls;
     struct ratios r = {proved / kit, proved / system};

@@ -1,20 +1,38 @@
 /* The measurement as C calls it, over arrays and over a whole record file, and the twins that bench.c compares with it. A
-   Rattle slice is a pointer and a length. */
+   Rattle slice is a pointer and a length. compare/host/host.c takes the first three functions from here. */
 #ifndef FEED_H
 #define FEED_H
 
 #include <stddef.h>
 #include <stdint.h>
 
-/* One stream set up and one list fed. Returns 0, or the number by which it is refused. Accepted, it writes ten
-   numbers for each frame closed to rows, and packets, frames, peak, network (number, first, last) and buffer
-   (number, frame, place) to out where it has nine; refused, nothing. */
-typedef uint8_t feed_function(uint8_t rate, uint8_t schedule, uint8_t class, uint16_t height, uint32_t n, uint16_t maxudp,
-                              uint32_t tro, const uint64_t *arrivals, size_t arrival_count, const uint32_t *stamps,
-                              size_t stamp_count, const uint8_t *markers, size_t marker_count, int64_t *rows,
-                              size_t row_count, uint64_t *out, size_t out_count);
+/* The proved code, from libfeeder.a. A state is 32 words, one for each number of docs/STATE.md in its order, a flag as 0 or 1
+   and an answer as document 01's three numbers for it. Whoever calls keeps them between the calls. */
+#define STATE_WORDS 32
 
-extern feed_function vtiming_feed;  /* the proved code, from libfeeder.a */
+/* A stream set up: 1 to 7, then 15 for fewer words than a state is, and nothing written; or 0, and the fresh state's words. */
+uint32_t vtiming_set_up(uint8_t rate, uint8_t schedule, uint8_t class, uint16_t height, uint32_t n, uint16_t maxudp, uint32_t tro,
+                        uint64_t *state, size_t state_count);
+
+/* A call's packets: 9 (too few words too), 10, 11 to 14, then 15 for fewer than ten row numbers a frame closed or fewer than nine
+   of `out`, and nothing written; or 0, the state's words after the call, the rows, and packets, frames, peak, network (number,
+   first, last) and buffer (number, frame, place) in `out`. */
+uint32_t vtiming_feed(uint64_t *state, size_t state_count, const uint64_t *arrivals, size_t arrival_count, const uint32_t *stamps,
+                      size_t stamp_count, const uint8_t *markers, size_t marker_count, int64_t *rows, size_t row_count, uint64_t *out,
+                      size_t out_count);
+
+/* The twin that writes nothing: the place of that refusal, where so many row numbers and so many of `out` are lent; else 0. */
+uint64_t vtiming_feed_place(const uint64_t *state, size_t state_count, const uint64_t *arrivals, size_t arrival_count,
+                            const uint32_t *stamps, size_t stamp_count, const uint8_t *markers, size_t marker_count,
+                            size_t row_count, size_t out_count);
+
+/* One stream set up and one list fed: the answer, the rows and the numbers of vtiming_set_up and then vtiming_feed. The twins ask
+   for no room in `out`; bench.c always lends nine numbers. */
+typedef uint32_t feed_function(uint8_t rate, uint8_t schedule, uint8_t class, uint16_t height, uint32_t n, uint16_t maxudp,
+                               uint32_t tro, const uint64_t *arrivals, size_t arrival_count, const uint32_t *stamps,
+                               size_t stamp_count, const uint8_t *markers, size_t marker_count, int64_t *rows,
+                               size_t row_count, uint64_t *out, size_t out_count);
+
 extern feed_function twin_feed;     /* twin.c, by the system's compiler */
 extern feed_function kit_twin_feed; /* twin.c, by the compiler that made libfeeder.a */
 

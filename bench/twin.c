@@ -17,10 +17,10 @@ static uint8_t first_refusal(const uint64_t *arrivals, const uint8_t *markers, s
     return 0;
 }
 
-uint8_t twin_feed(uint8_t rate, uint8_t schedule, uint8_t class, uint16_t height, uint32_t n, uint16_t maxudp, uint32_t tro,
-                  const uint64_t *restrict arrivals, size_t count, const uint32_t *restrict stamps, size_t stamp_count,
-                  const uint8_t *restrict markers, size_t marker_count, int64_t *restrict rows, size_t row_count,
-                  uint64_t *restrict out, size_t out_count)
+uint32_t twin_feed(uint8_t rate, uint8_t schedule, uint8_t class, uint16_t height, uint32_t n, uint16_t maxudp, uint32_t tro,
+                   const uint64_t *restrict arrivals, size_t count, const uint32_t *restrict stamps, size_t stamp_count,
+                   const uint8_t *restrict markers, size_t marker_count, int64_t *restrict rows, size_t row_count,
+                   uint64_t *restrict out, size_t out_count)
 {
     uint8_t refused = set_up_refusal(rate, schedule, class, height, n, maxudp, tro);
     if (refused) return refused;

@@ -1,12 +1,14 @@
 /* Reads cases from standard input (compare/reference/src/cases.rs says how they look), makes each call, and its twin,
    with each room of the case, and holds the answer against the one the case brings: host DIRECTORY <cases
 
-   It knows how to lend and to compare, and nothing of measuring. Whatever is lent ends at a page that cannot be touched or
-   begins after one, by turns, and has guard bytes on its other side. A call may write what the case says at the front of
-   its room and nothing else: no byte behind it, none at all where it refuses, none of its input.
+   It knows how to lend and to compare, and nothing of measuring; of a state, which it carries from call to call, it knows
+   where docs/STATE.md puts the summary's numbers. Whatever is lent ends at a page that cannot be touched or begins after one,
+   by turns, and has guard bytes on its other side. A call may write what the case says at the front of its room and nothing
+   else: no byte behind it, none at all where it refuses, none of its input.
 
    The first case that differs is kept in DIRECTORY, and the host stops there with status 1. */
 #define _DEFAULT_SOURCE /* mmap without a file */
+#include "../../bench/feed.h"
 #include "../../include/vtiming.h"
 
 #include <inttypes.h>
@@ -18,11 +20,12 @@
 #include <sys/mman.h>
 #include <unistd.h>
 
-enum { MEASURE = 1, WRITE, LIMITS, GRAPH, CALLS };
-enum { ARRIVALS, STAMPS, MARKERS, FILE_BYTES, OUT, AREAS };
+enum { MEASURE = 1, WRITE, LIMITS, GRAPH, SET_UP, FEED, CALLS };
+enum { ARRIVALS, STAMPS, MARKERS, FILE_BYTES, OUT, STATE, ROWS, AREAS };
 enum { LARGEST_PAGE = 1 << 16, GUARD = 256, MOST_LENT = 1 << 22, SECONDS = 100 };
 
-static const char *const call_names[CALLS] = {"", "vtiming_measure", "vtiming_write", "vtiming_limits", "vtiming_graph"};
+static const char *const call_names[CALLS] = {"",              "vtiming_measure", "vtiming_write", "vtiming_limits",
+                                              "vtiming_graph", "vtiming_set_up",  "vtiming_feed"};
 
 /* --- what a case says --- */
 
@@ -42,6 +45,16 @@ struct numbers {
     uint32_t packets_per_frame, tro;
 };
 
+/* One call of a row of them. */
+struct feed {
+    int anew;
+    size_t words, row_count, out_count;
+    unsigned change_count;
+    struct bytes changes; /* 9 bytes each */
+    struct room answer;   /* its number and its place */
+    struct bytes nine, rows;
+};
+
 static struct {
     uint8_t *raw; /* with its length in front, as it came */
     size_t raw_size, room_size;
@@ -57,10 +70,13 @@ static struct {
     unsigned room_count;
     struct room rooms[255];
     struct bytes filled, measured;
+    size_t feed_count;
+    struct feed feed;
 } now;
 
 static const char *directory;
 static unsigned at_room;
+static size_t at_feed;
 static const char *at_step = "reading";
 
 /* --- the first difference --- */
@@ -79,6 +95,19 @@ static void show_numbers(void) {
            n->stream_class, n->height, n->packets_per_frame, n->maxudp, n->tro);
 }
 
+static uint64_t big_endian(const uint8_t *bytes, int count) {
+    uint64_t number = 0;
+    for (int i = 0; i < count; i++) number = number << 8 | bytes[i];
+    return number;
+}
+
+static void show_feed(void) {
+    const struct feed *f = &now.feed;
+    printf("  %zu words, %zu row numbers and %zu of the summary lent\n", f->words, f->row_count, f->out_count);
+    for (unsigned i = 0; i < f->change_count; i++)
+        printf("  word %u changed to %" PRIu64 "\n", f->changes.at[9 * i], big_endian(f->changes.at + 9 * i + 1, 8));
+}
+
 static _Noreturn void differs(const char *format, ...) {
     va_list rest;
     va_start(rest, format);
@@ -87,13 +116,16 @@ static _Noreturn void differs(const char *format, ...) {
         const struct room *room = &now.rooms[at_room];
         printf(" with room for %" PRIu64 " (%" PRIu32 " at %" PRIu64 " wanted)", room->lent, room->number, room->place);
     }
+    if (now.call == FEED)
+        printf(", call %zu (%" PRIu32 " at %" PRIu64 " wanted)", at_feed, now.feed.answer.number, now.feed.answer.place);
     printf(", %s: ", at_step);
     vprintf(format, rest);
     printf("\n");
     va_end(rest);
-    if (now.call == WRITE || now.call == LIMITS) show_numbers();
-    if (now.call == WRITE)
+    if (now.call == WRITE || now.call == LIMITS || now.call >= SET_UP) show_numbers();
+    if (now.call == WRITE || now.call == FEED)
         printf("  %zu arrivals, %zu stamps, %zu markers\n", now.arrival_count, now.stamp_count, now.markers.count);
+    if (now.call == FEED) show_feed();
     if (now.call == GRAPH)
         printf("  FPT %" PRId64 ", margin %" PRId64 ", VL %" PRId64 "\n", now.figures[0], now.figures[1], now.figures[2]);
     keep("first.case", now.raw, now.raw_size);
@@ -169,13 +201,7 @@ static void *pointer(const struct lent *lent) { return lent->size == 0 && (turn 
 /* --- what was seen --- */
 
 static uint64_t cases[CALLS], calls_made, seen[CALLS][25], kinds[4], networks[2], buffers[4], accepted_room[2], refused_room[3];
-static uint64_t round_trips;
-
-static uint64_t big_endian(const uint8_t *bytes, int count) {
-    uint64_t number = 0;
-    for (int i = 0; i < count; i++) number = number << 8 | bytes[i];
-    return number;
-}
+static uint64_t round_trips, cuttings, large_rooms;
 
 static void count_answer(struct bytes answer) {
     uint64_t frames = big_endian(answer.at + 8, 8);
@@ -190,6 +216,10 @@ static void count_room(const struct room *room, uint64_t needed) {
 }
 
 /* --- the calls --- */
+
+/* Rooms that no machine can lend. */
+static const size_t large[] = {SIZE_MAX, SIZE_MAX - 1, SIZE_MAX / 8, (size_t)1 << 63};
+#define LARGE_ROOMS (sizeof large / sizeof *large)
 
 static void answers(uint64_t got, uint64_t wanted, const char *what) {
     calls_made++;
@@ -261,12 +291,182 @@ static void graph(const struct room *room, int fill) {
     room_holds(&out, room->number ? (struct bytes){NULL, 0} : turned_round(now.filled, wanted));
 }
 
+/* --- a state that goes from call to call --- */
+
+static uint64_t held[STATE_WORDS]; /* the words that set-up, or the last accepted call, left */
+
+/* Every state that the calls of a case came to: as all of them deal out one list, as many packets are always one state. */
+static uint64_t (*reached)[STATE_WORDS];
+static size_t reached_count, reached_room;
+
+static void remember(const void *words) {
+    if (reached_count == reached_room) reached = realloc(reached, (reached_room = 2 * reached_room + 64) * sizeof *reached);
+    if (!reached) exit(2);
+    memcpy(reached[reached_count++], words, sizeof *reached);
+}
+
+/* docs/STATE.md: where the packets so far stand, and the nine numbers of the summary. */
+enum { PACKETS = 7 };
+static const int summary_words[9] = {PACKETS, 17, 12, 13, 14, 15, 29, 30, 31};
+
+static uint32_t call_set_up(const struct lent *state) {
+    const struct numbers *n = &now.numbers;
+    at_step = "vtiming_set_up";
+    return vtiming_set_up(n->rate, n->schedule, n->stream_class, n->height, n->packets_per_frame, n->maxudp, n->tro,
+                          pointer(state), state->size / 8);
+}
+
+/* What stands in the words is the library's own, but for the seven numbers; it may not hang on what stood there. */
+static void set_up(const struct room *room, int fill) {
+    const struct numbers *n = &now.numbers;
+    const uint64_t seven[7] = {n->rate, n->schedule, n->stream_class, n->height, n->packets_per_frame, n->maxudp, n->tro};
+    struct lent state = lend(STATE, 8 * room->lent, NULL, fill);
+    answers(call_set_up(&state), room->number, "number");
+    if (room->number) {
+        room_holds(&state, (struct bytes){NULL, 0});
+        return;
+    }
+    if (memcmp(state.at, seven, sizeof seven)) differs("the first words are not the seven numbers");
+    if (!reached_count) remember(state.at);
+    if (memcmp(state.at, reached[0], sizeof held)) differs("it set up two states");
+    room_holds(&state, (struct bytes){state.at, sizeof held});
+}
+
+/* A stream set up for the calls after it. */
+static void begin_stream(int fill) {
+    struct lent state = lend(STATE, sizeof held, NULL, fill);
+    answers(call_set_up(&state), 0, "number");
+    memcpy(held, state.at, sizeof held);
+}
+
+static uint64_t place_of_feed(const struct lent *state, const struct lent *arrivals, const struct lent *stamps,
+                              const struct lent *markers, size_t rows, size_t out) {
+    at_step = "vtiming_feed_place";
+    return vtiming_feed_place(pointer(state), state->size / 8, pointer(arrivals), now.arrival_count, pointer(stamps),
+                              now.stamp_count, pointer(markers), now.markers.count, rows, out);
+}
+
+/* The state after an accepted call: 32 words, of which nine are the summary's, and what stood behind them. */
+static void state_holds(const struct lent *state, const uint64_t *given, const struct lent *out) {
+    uint64_t after[STATE_WORDS], numbers[9];
+    memcpy(after, state->at, sizeof after);
+    memcpy(numbers, out->at, sizeof numbers);
+    for (int i = 0; i < 9; i++)
+        if (after[summary_words[i]] != numbers[i]) differs("word %d is not number %d of the summary", summary_words[i], i);
+    if (now.arrival_count == 0 && memcmp(after, given, sizeof after)) differs("no packets, and it changed the state");
+    if (memcmp(state->at + sizeof held, given + STATE_WORDS, state->size - sizeof held))
+        differs("it changed words behind the state");
+    all_are(state->guard, GUARD, state->fill, "beside the state");
+}
+
+/* One call of a row, and its twin, on the words that are held; `after` are the words then. */
+static void feed_once(int fill, uint64_t *after) {
+    static uint8_t wanted[MOST_LENT];
+    const struct feed *f = &now.feed;
+    const struct bytes nothing = {NULL, 0};
+    uint64_t given[256];
+    memset(given, fill, sizeof given);
+    memcpy(given, held, sizeof held);
+    for (unsigned i = 0; i < f->change_count; i++) given[f->changes.at[9 * i]] = big_endian(f->changes.at + 9 * i + 1, 8);
+    struct lent state = lend(STATE, 8 * f->words, given, fill);
+    struct lent arrivals = lend(ARRIVALS, 8 * now.arrival_count, now.arrivals, fill);
+    struct lent stamps = lend(STAMPS, 4 * now.stamp_count, now.stamps, fill);
+    struct lent markers = lend(MARKERS, now.markers.count, now.markers.at, fill);
+    struct lent rows = lend(ROWS, 8 * f->row_count, NULL, fill), out = lend(OUT, 8 * f->out_count, NULL, fill);
+    answers(place_of_feed(&state, &arrivals, &stamps, &markers, f->row_count, f->out_count), f->answer.place, "place");
+    for (size_t i = 0; i < LARGE_ROOMS; i++, large_rooms++)
+        answers(place_of_feed(&state, &arrivals, &stamps, &markers, large[i], large[LARGE_ROOMS - 1 - i]),
+                f->answer.number == 15 ? 0 : f->answer.place, "place with ample room");
+    unchanged(&state, given, "the state");
+    at_step = "vtiming_feed";
+    answers(vtiming_feed(pointer(&state), f->words, pointer(&arrivals), now.arrival_count, pointer(&stamps), now.stamp_count,
+                         pointer(&markers), now.markers.count, pointer(&rows), f->row_count, pointer(&out), f->out_count),
+            f->answer.number, "number");
+    if (f->answer.number) unchanged(&state, given, "the state, though it refused");
+    else state_holds(&state, given, &out);
+    room_holds(&rows, f->answer.number ? nothing : turned_round(f->rows, wanted));
+    room_holds(&out, f->answer.number ? nothing : turned_round(f->nine, wanted));
+    unchanged(&arrivals, now.arrivals, "the arrivals");
+    unchanged(&stamps, now.stamps, "the timestamps");
+    unchanged(&markers, now.markers.at, "the markers");
+    if (!f->answer.number) memcpy(after, state.at, sizeof held);
+}
+
+/* The words after an accepted call: wherever the list was cut, so many packets are one state. */
+static void go_on(const uint64_t *after) {
+    memcpy(held, after, sizeof held);
+    for (size_t i = 0; i < reached_count; i++)
+        if (reached[i][PACKETS] == held[PACKETS]) {
+            if (memcmp(reached[i], held, sizeof held))
+                differs("%" PRIu64 " packets, cut otherwise, had other words", held[PACKETS]);
+            cuttings++;
+            return;
+        }
+    remember(held);
+}
+
+/* --- rooms near the greatest size: the twins take only the number, and answer as for any ample room --- */
+
+static void ample_rooms(int fill) {
+    uint64_t wanted = now.filled.count ? 0 : now.rooms[0].place;
+    const struct numbers *n = &now.numbers;
+    if (now.call == MEASURE) {
+        struct lent in = lend(FILE_BYTES, now.file.count, now.file.at, fill);
+        at_step = "vtiming_measure_offset";
+        for (size_t i = 0; i < LARGE_ROOMS; i++, large_rooms++)
+            answers(vtiming_measure_offset(pointer(&in), in.size, large[i]), wanted, "offset with ample room");
+        at_step = "vtiming_measure_room";
+        answers(vtiming_measure_room(pointer(&in), in.size), now.filled.count, "room for the answer");
+        unchanged(&in, now.file.at, "the file");
+    } else if (now.call == WRITE) {
+        struct lent arrivals = lend(ARRIVALS, 8 * now.arrival_count, now.arrivals, fill);
+        struct lent stamps = lend(STAMPS, 4 * now.stamp_count, now.stamps, fill);
+        struct lent markers = lend(MARKERS, now.markers.count, now.markers.at, fill);
+        at_step = "vtiming_write_place";
+        for (size_t i = 0; i < LARGE_ROOMS; i++, large_rooms++)
+            answers(vtiming_write_place(n->rate, n->schedule, n->stream_class, n->height, n->packets_per_frame, n->maxudp, n->tro,
+                                        pointer(&arrivals), now.arrival_count, pointer(&stamps), now.stamp_count,
+                                        pointer(&markers), now.markers.count, large[i]),
+                    wanted, "place with ample room");
+    }
+}
+
 static void try_room(const struct room *room, int fill) {
     switch (now.call) {
     case MEASURE: measure(now.file, room, now.filled, fill); break;
     case WRITE: write_file(room, fill); break;
     case LIMITS: limits(room, fill); break;
     case GRAPH: graph(room, fill); break;
+    case SET_UP: set_up(room, fill); break;
+    }
+}
+
+static uint64_t room_needed(void) {
+    switch (now.call) {
+    case SET_UP: return STATE_WORDS;
+    case LIMITS:
+    case GRAPH: return now.filled.count / 8;
+    default: return now.filled.count;
+    }
+}
+
+static void take_feed(void);
+
+/* The calls of a case in a row. */
+static void try_feeds(const int *fills, int times) {
+    uint64_t after[STATE_WORDS] = {0}, once[STATE_WORDS];
+    for (at_feed = 0; at_feed < now.feed_count; at_feed++) {
+        take_feed();
+        const struct feed *f = &now.feed;
+        if (f->anew) begin_stream(fills[turn & 1]);
+        for (int i = 0; i < times; i++, turn++) {
+            feed_once(fills[turn & 1], after);
+            if (i > 0 && !f->answer.number && memcmp(after, once, sizeof once)) differs("the same call again had other words");
+            memcpy(once, after, sizeof once);
+        }
+        turn += turn >> 2 & 1;
+        seen[FEED][f->answer.number < 25 ? f->answer.number : 0]++;
+        if (!f->answer.number && !f->change_count) go_on(after);
     }
 }
 
@@ -274,16 +474,19 @@ static void try_room(const struct room *room, int fill) {
 static void try_case(void) {
     static const int fills[2] = {0xA5, 0x5A};
     size_t heavy = 1 << 14;
+    int times = now.raw_size < heavy ? 2 : 1;
     cases[now.call]++;
+    reached_count = 0;
     alarm(SECONDS);
     for (at_room = 0; at_room < now.room_count; at_room++) {
         const struct room *room = &now.rooms[at_room];
-        int times = now.raw_size < heavy ? 2 : 1;
         for (int i = 0; i < times; i++, turn++) try_room(room, fills[turn & 1]);
         turn += turn >> 2 & 1; /* so that neither rooms nor cases keep to one edge, or to one pointer */
         seen[now.call][room->number < 25 ? room->number : 0]++;
-        count_room(room, now.call > WRITE ? now.filled.count / 8 : now.filled.count);
+        count_room(room, room_needed());
     }
+    ample_rooms(fills[turn & 1]);
+    if (now.call == FEED) try_feeds(fills, times);
     if (now.call == MEASURE && now.filled.count) count_answer(now.filled);
     at_step = "reading";
 }
@@ -339,6 +542,22 @@ static void take_rooms(void) {
     if (now.call == WRITE) now.measured = take_bytes(take_number(4));
 }
 
+static void take_feed(void) {
+    struct feed *f = &now.feed;
+    f->anew = (int)take_number(1);
+    f->words = take_number(1);
+    f->change_count = (unsigned)take_number(1);
+    f->changes = take_bytes(9 * f->change_count);
+    take_lists();
+    f->row_count = take_number(4);
+    f->out_count = take_number(1);
+    f->answer.number = (uint32_t)take_number(1);
+    f->answer.place = take_number(8);
+    if (f->answer.number) return;
+    f->nine = take_bytes(72);
+    f->rows = take_bytes(8 * take_number(4));
+}
+
 static int next_case(void) {
     uint8_t head[4];
     size_t got = fread(head, 1, sizeof head, stdin);
@@ -359,10 +578,12 @@ static int next_case(void) {
     switch (now.call) {
     case MEASURE: now.file = take_bytes(take_number(4)); break;
     case WRITE: take_numbers(), take_lists(); break;
-    case LIMITS: take_numbers(); break;
+    case LIMITS:
+    case SET_UP: take_numbers(); break;
     case GRAPH:
         for (int i = 0; i < 3; i++) now.figures[i] = (int64_t)take_number(8);
         break;
+    case FEED: take_numbers(), now.feed_count = take_number(4); return 1; /* each call is taken in its turn */
     default: fprintf(stderr, "host: a case of no known call\n"), exit(2);
     }
     take_rooms();
@@ -392,17 +613,21 @@ static void tell_numbers(int call, const char *needed) {
 static int tell(void) {
     uint64_t inputs = 0;
     for (int i = MEASURE; i < CALLS; i++) inputs += cases[i];
-    printf("outcomes seen (number: times; 9 needs a state, which cannot cross this border, and 14 a billion packets):\n");
+    printf("outcomes seen (number: times):\n");
     tell_numbers(MEASURE, "0 1 2 3 4 5 6 7 11 12 13 15 20 21 22 23");
     tell_numbers(WRITE, "0 1 2 3 4 5 6 7 10 11 12 13 24");
     tell_numbers(LIMITS, "0 1 2 3 4 5 6 7 15");
     tell_numbers(GRAPH, "0 15 16");
+    tell_numbers(SET_UP, "0 1 2 3 4 5 6 7 15");
+    tell_numbers(FEED, "0 9 10 11 12 13 14 15");
     printf("  rows:"), told("whole", kinds[0]), told("short", kinds[1]), told("long", kinds[2]), told("stamp", kinds[3]);
     printf("\n  network:"), told("pass", networks[0]), told("burst", networks[1]);
     printf("; buffer:"), told("none", buffers[0]), told("pass", buffers[1]), told("under", buffers[2]), told("over", buffers[3]);
     printf("\n  rooms:"), told("exact", accepted_room[0]), told("larger", accepted_room[1]), told("one short", refused_room[1]);
     told("shorter", refused_room[2]), told("none", refused_room[0]);
-    printf("; files"), told("written and then measured", round_trips);
+    told("near the greatest size", large_rooms);
+    printf("\n  files"), told("written and then measured", round_trips);
+    printf("; states"), told("reached again by another cutting", cuttings);
     printf("\nhost: %" PRIu64 " inputs, %" PRIu64 " calls, 0 different%s\n", inputs, calls_made,
            unseen ? "; but an outcome was NEVER SEEN" : "");
     return unseen;

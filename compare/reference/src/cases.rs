@@ -13,17 +13,31 @@
 //!              timestamps (4 each), markers (1 each)
 //!   3 limits:  seven numbers (15)
 //!   4 graph:   three figures (8 each)
+//!   5 set-up:  seven numbers (15)
 //!
 //! and the rooms: count (1), for each elements lent (8), number (1) and place
 //! (8); then length (4) and bytes of what an accepted call writes, and for
-//! `write` length and bytes of what `measure` then makes of the file.
+//! `write` length and bytes of what `measure` then makes of the file. What
+//! set-up writes is the library's own: the length is 0.
+//!
+//! A case of `feed` is a row of calls and has no rooms:
+//!
+//!   6 feed:    seven numbers (15), count (4), and for each call whether the
+//!              stream is set up before it (1), words lent (1), words changed
+//!              (1) with place (1) and value (8) of each, three counts (4
+//!              each), arrivals, timestamps and markers, row numbers lent (4),
+//!              summary numbers lent (1), number (1), place (8); and where the
+//!              number is 0, the summary (9 of 8) and the row numbers written,
+//!              counted (4), 8 each
 
+use crate::feed::{cut_everywhere, dealt, ranges_after, Feed, Lists};
 use crate::generate::{damaged, file, front, random_bytes};
 use crate::graph::graph;
 use crate::numbers::{set_up, Numbers};
 use crate::output::expected_c_call;
 use crate::packet::{Packet, LONGEST_HISTORY};
 use crate::random::Random;
+use crate::ranges::STATE_WORDS;
 use crate::record::{parameters_body, write, writer};
 use crate::stream::{accepted_numbers, limit_numbers, refused_numbers, stream};
 
@@ -43,10 +57,15 @@ pub enum Call {
         margin: i64,
         latency: i64,
     },
+    SetUp(Numbers),
+    Feed {
+        numbers: Numbers,
+        calls: Vec<Feed>,
+    },
 }
 
 /// The answer where so many elements are lent: bytes for `measure` and
-/// `write`, numbers for `limits`, doubles for `graph`.
+/// `write`, numbers for `limits`, doubles for `graph`, words for set-up.
 #[derive(Clone, Copy, Debug, PartialEq, Eq)]
 pub struct Room {
     pub lent: u64,
@@ -72,7 +91,9 @@ pub fn case(seed: u64, index: u64) -> Case {
     let call = match index % 20 {
         0..=11 => Call::Measure(file(seed, index)),
         12..=15 => lists(&mut random),
-        16..=18 => Call::Limits(any_numbers(&mut random)),
+        16 if index % 40 < 20 => Call::Limits(any_numbers(&mut random)),
+        16 => Call::SetUp(any_numbers(&mut random)),
+        17..=18 => fed(&mut random),
         _ => figures(&mut random),
     };
     answered(&mut random, call)
@@ -81,10 +102,11 @@ pub fn case(seed: u64, index: u64) -> Case {
 /// The call with each room that is worth lending, and the answers.
 fn answered(random: &mut Random, call: Call) -> Case {
     let (needed, filled, measured) = outcome(&call);
-    let rooms = rooms(random, needed)
-        .into_iter()
-        .map(|lent| room(&call, lent))
-        .collect();
+    let rooms = match call {
+        Call::Feed { .. } => vec![],
+        _ => rooms(random, needed),
+    };
+    let rooms = rooms.into_iter().map(|lent| room(&call, lent)).collect();
     Case {
         call,
         rooms,
@@ -139,6 +161,11 @@ fn outcome(call: &Call) -> (Option<u64>, Vec<u8>, Vec<u8>) {
             }
             Err(_) => nothing,
         },
+        Call::SetUp(numbers) => match set_up(numbers) {
+            Ok(_) => (Some(STATE_WORDS), vec![], vec![]),
+            Err(_) => nothing,
+        },
+        Call::Feed { .. } => nothing,
     }
 }
 
@@ -184,6 +211,11 @@ fn room(call: &Call, lent: u64) -> Room {
             Err(number) => (number, 0),
             Ok(_) => (if lent < 3 { 15 } else { 0 }, 0),
         },
+        Call::SetUp(numbers) => match set_up(numbers) {
+            Err(number) => (number, 0),
+            Ok(_) => (if lent < STATE_WORDS { 15 } else { 0 }, 0),
+        },
+        Call::Feed { .. } => unreachable!("a row of calls has no rooms"),
     };
     Room {
         lent,
@@ -226,11 +258,20 @@ fn lists(random: &mut Random) -> Call {
 }
 
 fn three(packets: &[Packet]) -> (Vec<u64>, Vec<u32>, Vec<u8>) {
-    (
-        packets.iter().map(|packet| packet.arrival).collect(),
-        packets.iter().map(|packet| packet.timestamp).collect(),
-        packets.iter().map(|packet| packet.marker).collect(),
-    )
+    let lists = Lists::of(packets);
+    (lists.arrivals, lists.timestamps, lists.markers)
+}
+
+/// A stream dealt out over calls; a short one cut everywhere, now and then.
+fn fed(random: &mut Random) -> Call {
+    let (numbers, mut packets) = stream(random);
+    packets.truncate(random.pick(&[2, 12, 12, 60, 60, 200, 200, 400, 2000]));
+    let calls = if packets.len() <= 12 && random.chance(30) {
+        cut_everywhere(&numbers, &packets, 4)
+    } else {
+        dealt(random, &numbers, &packets)
+    };
+    Call::Feed { numbers, calls }
 }
 
 fn any_numbers(random: &mut Random) -> Numbers {
@@ -317,6 +358,7 @@ pub fn fixed() -> Vec<Case> {
     calls.extend(fixed_lists());
     calls.extend(fixed_files(&mut random));
     calls.extend(fixed_figures());
+    calls.extend(fixed_feeds());
     calls
         .into_iter()
         .map(|call| answered(&mut random, call))
@@ -519,6 +561,43 @@ fn fixed_figures() -> Vec<Call> {
     calls
 }
 
+/// Every list of document 01 cut everywhere, and both sides of every range of
+/// a state, in the lead-in, at a frame's end and within a frame.
+fn fixed_feeds() -> Vec<Call> {
+    let mut calls = vec![];
+    for call in fixed_limits() {
+        if let Call::Limits(numbers) = call {
+            calls.push(Call::SetUp(numbers));
+        }
+    }
+    for (numbers, packets) in streams() {
+        calls.push(Call::Feed {
+            numbers,
+            calls: cut_everywhere(&numbers, &packets, usize::MAX),
+        });
+    }
+    let late = packets(&[
+        (700_000_000_000, 0, 0),
+        (700_000_000_000, 0, 0),
+        (700_000_000_001, 0, 1),
+        (700_019_000_000, 7, 0),
+        (700_019_000_003, 7, 0),
+        (700_019_000_003, 8, 0),
+        (700_019_000_004, 7, 1),
+        (700_038_000_000, 9, 0),
+    ]);
+    for (numbers, packets, ends) in [
+        (NARROW, example(), vec![0, 1, 2, 5]),
+        (NARROW, late, vec![0, 1, 3, 5, 7, 8]),
+    ] {
+        calls.push(Call::Feed {
+            numbers,
+            calls: ranges_after(&numbers, &packets, &ends),
+        });
+    }
+    calls
+}
+
 // --- as bytes ---
 
 impl Case {
@@ -538,12 +617,7 @@ impl Case {
             } => {
                 body.push(2);
                 body.extend(seven(numbers));
-                for count in [arrivals.len(), timestamps.len(), markers.len()] {
-                    body.extend((count as u32).to_be_bytes());
-                }
-                body.extend(arrivals.iter().flat_map(|number| number.to_be_bytes()));
-                body.extend(timestamps.iter().flat_map(|number| number.to_be_bytes()));
-                body.extend(markers);
+                push_lists(&mut body, (arrivals, timestamps, markers));
             }
             Call::Limits(numbers) => {
                 body.push(3);
@@ -559,6 +633,19 @@ impl Case {
                     body.extend(figure.to_be_bytes());
                 }
             }
+            Call::SetUp(numbers) => {
+                body.push(5);
+                body.extend(seven(numbers));
+            }
+            Call::Feed { numbers, calls } => {
+                body.push(6);
+                body.extend(seven(numbers));
+                body.extend((calls.len() as u32).to_be_bytes());
+                for feed in calls {
+                    push_feed(&mut body, feed);
+                }
+                return with_size(body);
+            }
         }
         body.push(self.rooms.len() as u8);
         for room in &self.rooms {
@@ -570,9 +657,47 @@ impl Case {
         if let Call::Write { .. } = self.call {
             push_counted(&mut body, &self.measured);
         }
-        let mut bytes = (body.len() as u32).to_be_bytes().to_vec();
-        bytes.extend(body);
-        bytes
+        with_size(body)
+    }
+}
+
+fn with_size(body: Vec<u8>) -> Vec<u8> {
+    [(body.len() as u32).to_be_bytes().to_vec(), body].concat()
+}
+
+fn push_lists(body: &mut Vec<u8>, (arrivals, timestamps, markers): (&[u64], &[u32], &[u8])) {
+    for count in [arrivals.len(), timestamps.len(), markers.len()] {
+        body.extend((count as u32).to_be_bytes());
+    }
+    body.extend(arrivals.iter().flat_map(|number| number.to_be_bytes()));
+    body.extend(timestamps.iter().flat_map(|number| number.to_be_bytes()));
+    body.extend(markers);
+}
+
+fn push_feed(body: &mut Vec<u8>, feed: &Feed) {
+    let Lists {
+        arrivals,
+        timestamps,
+        markers,
+    } = &feed.lists;
+    body.extend([
+        u8::from(feed.anew),
+        feed.words as u8,
+        feed.changes.len() as u8,
+    ]);
+    for (word, value) in &feed.changes {
+        body.push(*word);
+        body.extend(value.to_be_bytes());
+    }
+    push_lists(body, (arrivals, timestamps, markers));
+    body.extend((feed.rows as u32).to_be_bytes());
+    body.extend([feed.out as u8, feed.number]);
+    body.extend(feed.place.to_be_bytes());
+    if feed.number == 0 {
+        let numbers: Vec<i64> = feed.written.iter().flatten().copied().collect();
+        body.extend(feed.nine.iter().flat_map(|number| number.to_be_bytes()));
+        body.extend((numbers.len() as u32).to_be_bytes());
+        body.extend(numbers.iter().flat_map(|number| number.to_be_bytes()));
     }
 }
 

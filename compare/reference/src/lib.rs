@@ -9,6 +9,7 @@
 pub mod bucket;
 pub mod call;
 pub mod cases;
+pub mod feed;
 pub mod fraction;
 pub mod frame;
 pub mod generate;
@@ -19,6 +20,7 @@ pub mod output;
 pub mod packet;
 pub mod program;
 pub mod random;
+pub mod ranges;
 pub mod reads;
 pub mod record;
 pub mod stream;

@@ -98,7 +98,7 @@ fn c_bytes(measurement: &Measurement) -> Vec<u8> {
 /// "packets, frames, peak; network 0 pass or 1 burst, first, last; buffer 0
 /// none, 1 pass, 2 under or 3 over, frame, packet or peak; 0 where there is
 /// none".
-fn nine_numbers(measurement: &Measurement) -> [i64; 9] {
+pub(crate) fn nine_numbers(measurement: &Measurement) -> [i64; 9] {
     let (network, first, last) = match measurement.network {
         Network::Pass => (0, 0, 0),
         Network::Burst(run) => (1, run.first as i64, run.last as i64),

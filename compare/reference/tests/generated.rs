@@ -239,6 +239,8 @@ fn name_of(call: &Call) -> &'static str {
         Call::Write { .. } => "write",
         Call::Limits(_) => "limits",
         Call::Graph { .. } => "graph",
+        Call::SetUp(_) => "set-up",
+        Call::Feed { .. } => "feed",
     }
 }
 
@@ -248,13 +250,18 @@ fn answers_of(cases: &[Case]) -> BTreeMap<String, u64> {
         for room in &case.rooms {
             seen.add(&format!("{} {}", name_of(&case.call), room.number));
         }
+        if let Call::Feed { calls, .. } = &case.call {
+            for feed in calls {
+                seen.add(&format!("feed {}", feed.number));
+            }
+        }
     }
     seen.0
 }
 
 fn reach_every_answer(cases: &[Case]) {
     let answers = answers_of(cases);
-    let wanted: [(&str, &[u8]); 4] = [
+    let wanted: [(&str, &[u8]); 6] = [
         (
             "measure",
             &[0, 1, 2, 3, 4, 5, 6, 7, 11, 12, 13, 15, 20, 21, 22, 23],
@@ -262,6 +269,8 @@ fn reach_every_answer(cases: &[Case]) {
         ("write", &[0, 1, 2, 3, 4, 5, 6, 7, 10, 11, 12, 13, 24]),
         ("limits", &[0, 1, 2, 3, 4, 5, 6, 7, 15]),
         ("graph", &[0, 15, 16]),
+        ("set-up", &[0, 1, 2, 3, 4, 5, 6, 7, 15]),
+        ("feed", &[0, 9, 10, 11, 12, 13, 14, 15]),
     ];
     for (call, numbers) in wanted {
         for number in numbers {
@@ -321,7 +330,11 @@ fn a_case_is_accepted_where_there_is_room() {
             Call::Measure(_) | Call::Write { .. } => 1,
             _ => 8,
         };
-        let needed = case.filled.len() as u64 / size;
+        // What set-up writes is not known here, but how much it is.
+        let needed = match case.call {
+            Call::SetUp(numbers) if set_up(&numbers).is_ok() => 32,
+            _ => case.filled.len() as u64 / size,
+        };
         for room in &case.rooms {
             let short = match case.call {
                 Call::Write { .. } => 24,
@@ -334,6 +347,40 @@ fn a_case_is_accepted_where_there_is_room() {
                 assert!(room.number != 0 && room.number != short);
             }
             assert!(room.number != 0 || room.place == 0);
+        }
+    }
+}
+
+/// However a list is dealt out, the accepted calls lend all of it, in order,
+/// write the rows of the whole list, once, and end in its nine numbers.
+#[test]
+fn calls_in_a_row_give_what_one_call_gives() {
+    let generated = (0..400).map(|index| case(7, 20 * index + 17));
+    for case in fixed().into_iter().chain(generated) {
+        let calls = match case.call {
+            Call::Feed { calls, .. } => calls,
+            _ => continue,
+        };
+        let mut runs: Vec<(Vec<u64>, Vec<[i64; 10]>, [i64; 9])> = vec![];
+        for feed in calls {
+            if feed.anew {
+                runs.push((vec![], vec![], [0; 9]));
+            }
+            let (arrivals, rows, nine) = runs.last_mut().expect("set up first");
+            if feed.number == 0 && feed.changes.is_empty() {
+                assert!(feed.rows >= 10 * feed.written.len() as u64 && feed.out >= 9);
+                arrivals.extend(feed.lists.arrivals);
+                rows.extend(feed.written);
+                *nine = feed.nine;
+            }
+        }
+        let (list, rows, nine) = runs[0].clone();
+        for (arrivals, written, end) in &runs {
+            assert_eq!(arrivals[..], list[..arrivals.len()]);
+            assert_eq!(written[..], rows[..written.len()]);
+            if arrivals.len() == list.len() {
+                assert_eq!((written, end), (&rows, &nine));
+            }
         }
     }
 }

@@ -1,0 +1,335 @@
+//! docs/STATE.md: which number of a state stands in which word, and its range,
+//! on both sides. What a range hangs on is taken from the list of packets
+//! alone; of the library's state nothing else is known here.
+
+use crate::measure::Measurement;
+use crate::numbers::{frame_length, Numbers, GRAINS_PER_MICROSECOND};
+use crate::output::nine_numbers;
+use crate::packet::{Packet, Past, LONGEST_HISTORY, MOST_PACKETS};
+
+/// "a state is 32 words of 64 bits, one for each row of the tables".
+pub const STATE_WORDS: u64 = 32;
+
+const RATE: u8 = 0;
+const SCHEDULE: u8 = 1;
+const CLASS: u8 = 2;
+const HEIGHT: u8 = 3;
+const N: u8 = 4;
+const MAXUDP: u8 = 5;
+const TRO: u8 = 6;
+pub const PACKETS: u8 = 7;
+const FIRST: u8 = 8;
+const LAST: u8 = 9;
+const LEVEL: u8 = 10;
+const START: u8 = 11;
+const PEAK: u8 = 12;
+const NETWORK: u8 = 13;
+const RUN_FIRST: u8 = 14;
+const RUN_LAST: u8 = 15;
+const DRAINED: u8 = 16;
+const CLOSED: u8 = 17;
+const BEGUN: u8 = 18;
+const MARKED: u8 = 19;
+const HELD: u8 = 20;
+const OPEN_FIRST: u8 = 21;
+const STAMP: u8 = 22;
+const PHASE: u8 = 23;
+const READS: u8 = 24;
+const DIFFERS: u8 = 25;
+const TOP: u8 = 26;
+const LATE: u8 = 27;
+const DEFICIT: u8 = 28;
+const BUFFER: u8 = 29;
+const BUFFER_FRAME: u8 = 30;
+const BUFFER_PLACE: u8 = 31;
+
+/// The words that the nine numbers of a state stand in, in their order.
+const NINE: [u8; 9] = [
+    PACKETS,
+    CLOSED,
+    PEAK,
+    NETWORK,
+    RUN_FIRST,
+    RUN_LAST,
+    BUFFER,
+    BUFFER_FRAME,
+    BUFFER_PLACE,
+];
+
+/// Words changed to other values, and whether what they hold then is a state
+/// in range.
+#[derive(Clone, Debug, PartialEq, Eq)]
+pub struct Change {
+    pub words: Vec<(u8, u64)>,
+    pub in_range: bool,
+}
+
+/// The nine numbers of a state that was changed so.
+pub fn changed_nine(so_far: &Measurement, change: &[(u8, u64)]) -> [i64; 9] {
+    let mut nine = nine_numbers(so_far);
+    for (number, word) in nine.iter_mut().zip(NINE) {
+        if let Some((_, value)) = change.iter().find(|(changed, _)| *changed == word) {
+            *number = *value as i64;
+        }
+    }
+    nine
+}
+
+/// What the ranges of a state hang on.
+struct Known {
+    numbers: Numbers,
+    frame: u64,
+    past: Past,
+    /// The arrival of the last marker packet; none in the lead-in.
+    marked: Option<u64>,
+    /// The packets of the open frame.
+    held: u64,
+    open_first: u64,
+}
+
+impl Known {
+    fn of(numbers: &Numbers, history: &[Packet]) -> Known {
+        let marker = history.iter().rposition(|packet| packet.marker == 1);
+        let open = marker.map_or(&history[..0], |place| &history[place + 1..]);
+        Known {
+            numbers: *numbers,
+            frame: frame_length(numbers.rate).expect("set-up has accepted it") as u64,
+            past: Past::of(history),
+            marked: marker.map(|place| history[place].arrival),
+            held: open.len() as u64,
+            open_first: open.first().map_or(0, |packet| packet.arrival),
+        }
+    }
+}
+
+/// Collects both sides of the ranges.
+#[derive(Default)]
+struct Sides(Vec<Change>);
+
+impl Sides {
+    fn within(&mut self, words: &[(u8, u64)]) {
+        self.0.push(Change {
+            words: words.to_vec(),
+            in_range: true,
+        });
+    }
+
+    fn outside(&mut self, words: &[(u8, u64)]) {
+        self.0.push(Change {
+            words: words.to_vec(),
+            in_range: false,
+        });
+    }
+
+    /// "at most": the greatest value, one more, and the greatest of 64 bits.
+    fn at_most(&mut self, word: u8, most: u64) {
+        self.within(&[(word, most)]);
+        self.outside(&[(word, most + 1)]);
+        self.outside(&[(word, u64::MAX)]);
+    }
+}
+
+/// Changes on both sides of every range of the state that a history has.
+pub fn changes(numbers: &Numbers, history: &[Packet]) -> Vec<Change> {
+    let known = Known::of(numbers, history);
+    let mut sides = Sides::default();
+    stream_numbers(&known, &mut sides);
+    past(&known, &mut sides);
+    bucket(&known, &mut sides);
+    counts(&known, &mut sides);
+    open_frame(&known, &mut sides);
+    kept(&known, &mut sides);
+    sides.0
+}
+
+/// "They are in range exactly where set-up accepts them", and each fits its type.
+fn stream_numbers(known: &Known, sides: &mut Sides) {
+    let numbers = &known.numbers;
+    for rate in [0, 9, 256 + numbers.rate, u64::MAX] {
+        sides.outside(&[(RATE, rate)]);
+    }
+    for schedule in [2, 256 + numbers.schedule] {
+        sides.outside(&[(SCHEDULE, schedule)]);
+    }
+    for class in [4, 256 + numbers.class] {
+        sides.outside(&[(CLASS, class)]);
+    }
+    // "0 or 3; 1 with schedule 0; 2 with schedule 1".
+    for class in 0..4 {
+        for schedule in 0..2 {
+            let words = [(SCHEDULE, schedule), (CLASS, class)];
+            if class == 0 || class == 3 || class == schedule + 1 {
+                sides.within(&words);
+            } else {
+                sides.outside(&words);
+            }
+        }
+    }
+    sides.within(&[(HEIGHT, 1)]);
+    sides.within(&[(HEIGHT, 65_535)]);
+    sides.outside(&[(HEIGHT, 0)]);
+    sides.outside(&[(HEIGHT, 65_536)]);
+    sides.within(&[(N, 20_000)]);
+    sides.outside(&[(N, 0)]);
+    sides.outside(&[(N, 20_001)]);
+    sides.outside(&[(N, (1 << 32) + numbers.packets_per_frame)]);
+    sides.within(&[(MAXUDP, 1460)]);
+    sides.within(&[(MAXUDP, 8960)]);
+    for maxudp in [0, 1459, 1461, 8961, 65_536 + 1460] {
+        sides.outside(&[(MAXUDP, maxudp)]);
+    }
+    // "4,294,967,295, or 27000·tro < F".
+    let most = (known.frame - 1) / GRAINS_PER_MICROSECOND as u64;
+    sides.within(&[(TRO, most)]);
+    sides.within(&[(TRO, 0xffff_ffff)]);
+    sides.outside(&[(TRO, most + 1)]);
+    sides.outside(&[(TRO, 0xffff_fffe)]);
+    sides.outside(&[(TRO, 1 << 32)]);
+}
+
+/// "packets ≤ 1,000,000,000; packets = 0 implies first = 0; packets = 0 implies
+/// last = 0; first ≤ last; last − first ≤ 600,000,000,000."
+fn past(known: &Known, sides: &mut Sides) {
+    let Past { count, first, last } = known.past;
+    sides.at_most(PACKETS, MOST_PACKETS);
+    if count == 0 {
+        sides.outside(&[(FIRST, 1), (LAST, 1)]);
+        sides.outside(&[(LAST, 1)]);
+        return;
+    }
+    // The level of a history that has a packet is above 0.
+    sides.outside(&[(PACKETS, 0)]);
+    if let Some(after) = last.checked_add(1) {
+        sides.outside(&[(FIRST, after)]);
+    }
+    if let Some(earliest) = last.checked_sub(LONGEST_HISTORY) {
+        sides.within(&[(FIRST, earliest)]);
+        if earliest > 0 {
+            sides.outside(&[(FIRST, earliest - 1)]);
+        }
+    }
+    if let Some(latest) = first.checked_add(LONGEST_HISTORY) {
+        sides.within(&[(LAST, latest)]);
+        if latest < u64::MAX {
+            sides.outside(&[(LAST, latest + 1)]);
+        }
+    }
+    if first > 0 {
+        sides.outside(&[(LAST, first - 1)]);
+    }
+}
+
+/// Each "at most `past.packets`"; an answer's other numbers are 0 for a pass.
+fn bucket(known: &Known, sides: &mut Sides) {
+    let packets = known.past.count;
+    for word in [LEVEL, START, PEAK] {
+        sides.at_most(word, packets);
+    }
+    let answer = |number, first, last| [(NETWORK, number), (RUN_FIRST, first), (RUN_LAST, last)];
+    sides.within(&answer(0, 0, 0));
+    sides.within(&answer(1, 0, 0));
+    sides.within(&answer(1, packets, packets));
+    sides.outside(&answer(1, packets + 1, packets));
+    sides.outside(&answer(1, packets, packets + 1));
+    sides.outside(&answer(0, 1, 0));
+    sides.outside(&answer(0, 0, 1));
+    sides.outside(&answer(2, 0, 0));
+    sides.outside(&answer(u64::MAX, 0, 0));
+}
+
+/// "true only where `past.packets` is above 0"; "where `begun`: from
+/// `past.first` to `past.last`; else any".
+fn counts(known: &Known, sides: &mut Sides) {
+    let Past { count, first, last } = known.past;
+    sides.at_most(DRAINED, 1_000_000_000);
+    sides.at_most(CLOSED, count);
+    sides.outside(&[(BEGUN, 2)]);
+    sides.outside(&[(BEGUN, u64::MAX)]);
+    match known.marked {
+        None if count == 0 => {
+            sides.outside(&[(BEGUN, 1)]);
+            sides.within(&[(MARKED, u64::MAX)]);
+        }
+        None => {
+            sides.within(&[(BEGUN, 1), (MARKED, first)]);
+            sides.within(&[(BEGUN, 1), (MARKED, last)]);
+            if first > 0 {
+                sides.outside(&[(BEGUN, 1), (MARKED, first - 1)]);
+            }
+            sides.within(&[(MARKED, u64::MAX)]);
+        }
+        Some(marked) => {
+            sides.within(&[(BEGUN, 0)]);
+            sides.within(&[(MARKED, first)]);
+            if first > 0 {
+                sides.outside(&[(MARKED, first - 1)]);
+            }
+            // An open frame's first packet is not before the marker.
+            let latest = if known.held > 0 {
+                known.open_first
+            } else {
+                last
+            };
+            sides.within(&[(MARKED, latest)]);
+            if latest < u64::MAX {
+                sides.outside(&[(MARKED, latest + 1)]);
+            }
+            assert!(marked <= latest);
+        }
+    }
+}
+
+/// "where `held` is above 0: from `frames.marked` to `past.last`; else any".
+fn open_frame(known: &Known, sides: &mut Sides) {
+    let Past { count, last, .. } = known.past;
+    sides.outside(&[(HELD, count + 1), (OPEN_FIRST, last)]);
+    if count > 0 {
+        sides.within(&[(HELD, count), (OPEN_FIRST, last)]);
+    }
+    if known.held > 0 {
+        let marked = known.marked.expect("a frame is open after a marker");
+        sides.within(&[(OPEN_FIRST, marked)]);
+        sides.within(&[(OPEN_FIRST, last)]);
+        if marked > 0 {
+            sides.outside(&[(OPEN_FIRST, marked - 1)]);
+        }
+        if last < u64::MAX {
+            sides.outside(&[(OPEN_FIRST, last + 1)]);
+        }
+    } else {
+        sides.within(&[(OPEN_FIRST, u64::MAX)]);
+    }
+    sides.at_most(STAMP, 0xffff_ffff);
+    sides.at_most(PHASE, 2 * known.frame);
+    sides.at_most(READS, known.numbers.packets_per_frame);
+}
+
+/// "at most `held`", "at most n"; the buffer answer's numbers "at most
+/// `past.packets`", and 0 for none and pass.
+fn kept(known: &Known, sides: &mut Sides) {
+    for word in [DIFFERS, TOP, LATE] {
+        sides.at_most(word, known.held);
+    }
+    sides.at_most(DEFICIT, known.numbers.packets_per_frame);
+    let packets = known.past.count;
+    let answer = |number, frame, place| {
+        [
+            (BUFFER, number),
+            (BUFFER_FRAME, frame),
+            (BUFFER_PLACE, place),
+        ]
+    };
+    for none in [0, 1] {
+        sides.within(&answer(none, 0, 0));
+        sides.outside(&answer(none, 1, 0));
+        sides.outside(&answer(none, 0, 1));
+    }
+    for failed in [2, 3] {
+        sides.within(&answer(failed, 0, 0));
+        sides.within(&answer(failed, packets, packets));
+        sides.outside(&answer(failed, packets + 1, packets));
+        sides.outside(&answer(failed, packets, packets + 1));
+    }
+    sides.outside(&answer(4, 0, 0));
+    sides.outside(&answer(u64::MAX, 0, 0));
+}
