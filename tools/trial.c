@@ -64,13 +64,16 @@ static void put_verdict(const uint8_t *answer)
     }
 }
 
-static void put_file(const uint8_t *file, size_t size)
+static int put_file(const uint8_t *file, size_t size)
 {
     uint8_t answer[VTIMING_SUMMARY_BYTES + VTIMING_ROW_BYTES];
-    uint32_t refused = vtiming_measure(file, size, answer, sizeof answer);
+    size_t room = (size_t)vtiming_measure_room(file, size);
+    TRY(room <= sizeof answer);
+    uint32_t refused = vtiming_measure(file, size, answer, room);
+    TRY((room == 0) == (refused != VTIMING_ACCEPTED));
     if (refused != VTIMING_ACCEPTED) {
-        printf("refused %s %" PRIu64 "\n", refusal(refused), vtiming_measure_offset(file, size, sizeof answer));
-        return;
+        printf("refused %s %" PRIu64 "\n", refusal(refused), vtiming_measure_offset(file, size, room));
+        return 0;
     }
     for (size_t row = 9; row < 9 + 10 * (size_t)vtiming_number(answer, 1); row += 10) {
         printf("frame %" PRId64 " %s", vtiming_number(answer, row), kind(vtiming_number(answer, row + 1)));
@@ -80,6 +83,7 @@ static void put_file(const uint8_t *file, size_t size)
     printf("packets %" PRId64 " frames %" PRId64 " peak %" PRId64 " ", vtiming_number(answer, 0), vtiming_number(answer, 1),
            vtiming_number(answer, 2));
     put_verdict(answer);
+    return 0;
 }
 
 /* The numbers at both ends of 64 bits, and about 0. */
@@ -114,6 +118,7 @@ static int measured(uint32_t n, size_t count, uint64_t first, uint64_t step, siz
                       size - 1) == VTIMING_REFUSED_WRITE_ROOM);
     TRY(vtiming_write(6, 0, 1, 1080, n, 1460, VTIMING_DEFAULT_TRO, arrivals, packets, stamps, packets, markers, packets, file, size) ==
         VTIMING_ACCEPTED);
+    TRY(vtiming_measure_room(file, size) == VTIMING_SUMMARY_BYTES + VTIMING_ROW_BYTES);
     TRY(vtiming_measure(file, size, answer, VTIMING_SUMMARY_BYTES + VTIMING_ROW_BYTES - 1) == VTIMING_REFUSED_ROOM);
     TRY(vtiming_measure(file, size, answer, VTIMING_SUMMARY_BYTES + VTIMING_ROW_BYTES) == VTIMING_ACCEPTED);
     return 0;
@@ -167,7 +172,7 @@ int main(int count, char **names)
         size_t size = fread(file, 1, sizeof file, from);
         TRY(!ferror(from) && size < sizeof file);
         fclose(from);
-        put_file(file, size);
+        if (put_file(file, size)) return 1;
     }
     return fflush(stdout) ? 1 : 0;
 }
