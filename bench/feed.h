@@ -6,7 +6,7 @@
 #include <stddef.h>
 #include <stdint.h>
 
-/* The proved code, from libfeeder.a. A state is 32 words, one for each number of docs/STATE.md in its order, a flag as 0 or 1
+/* The proved code, from libprobe.a. A state is 32 words, one for each number of docs/STATE.md in its order, a flag as 0 or 1
    and an answer as document 01's three numbers for it. Whoever calls keeps them between the calls. */
 #define STATE_WORDS 32
 
@@ -34,7 +34,7 @@ typedef uint32_t feed_function(uint8_t rate, uint8_t schedule, uint8_t class, ui
                                size_t row_count, uint64_t *out, size_t out_count);
 
 extern feed_function twin_feed;     /* twin.c, by the system's compiler */
-extern feed_function kit_twin_feed; /* twin.c, by the compiler that made libfeeder.a */
+extern feed_function kit_twin_feed; /* twin.c, by the compiler that made libprobe.a */
 
 /* A whole record file into bytes: include/vtiming.h. */
 typedef uint32_t measure_function(const uint8_t *file, size_t size, uint8_t *out, size_t room);

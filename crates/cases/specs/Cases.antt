@@ -16,7 +16,7 @@ use Rattle.bucket.specs.Paper.{networkNumber, networkFirst, networkLast}
 use Rattle.bucket.specs.Step as B
 use Rattle.frame.specs.Paper.{since, late, levelOf}
 use Rattle.frame.specs.Step as F
-use Rattle.bigendian.specs.Number.{numberOf}
+use Rattle.endian.specs.Number.{numberOf}
 use Rattle.record.specs.Paper.{kindLength, formatRefusal, packetsBy, readingOf, File, file, refused, fileOf}
 use Rattle.report.specs.Paper.{streamOf, reportOf}
 use Rattle.timing.specs.declared.StreamNumbers.{StreamNumbers}

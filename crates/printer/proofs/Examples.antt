@@ -10,7 +10,7 @@ use Rattle.limits.specs.Paper.{frameLength, activeRatio, classOf, cMax, vrxFull
 use Rattle.packet.specs.Step.{refusalOf}
 use Rattle.bucket.specs.Step as B
 use Rattle.frame.specs.Step as F
-use Rattle.bigendian.specs.Number.{numberOf}
+use Rattle.endian.specs.Number.{numberOf}
 use Rattle.text.specs.Decimal.{codes, digitsOf}
 use Rattle.text.specs.Lines.{fields, rowLine, summaryLine, refusalLine}
 use Rattle.record.specs.Paper.{kindLength, formatRefusal, packetsBy, readingOf}

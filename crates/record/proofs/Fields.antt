@@ -5,8 +5,8 @@ use Prim.Native.Nat.{ℕ, zero, suc, _+_, _≤_, _<_}
 use native.Mathlib.Omega.{arith}
 use lib.ListN.{length, take, drop, getD, length-drop, take-append-drop}
 use lib.Seq.{take-at, drop-at, drop-drop, length-take-le}
-use Rattle.bigendian.specs.Number.{numberAt, bytesOf, Bytes}
-use Rattle.bigendian.proofs.Width.{length-bytes, number-bytes, bytes-number, number-byte}
+use Rattle.endian.specs.Number.{numberAt, bytesOf, Bytes}
+use Rattle.endian.proofs.Width.{length-bytes, number-bytes, bytes-number, number-byte}
 use Rattle.packet.specs.Paper.{Packet}
 use Rattle.record.specs.declared.Numbers.{Numbers}
 use Rattle.record.specs.Paper.{bodyLength, kindOf, numbersAt, packetAt}

@@ -9,7 +9,7 @@ use lib.Dec.{ltb, eqb}
 use lib.ListN.{length}
 use borrow.Author.Tests.{lt-ltb, le-ltb, eq-eqb, ne-eqb, ltb-false, eqb-true, eqb-false}
 use Rattle.laws.specs.Choose.{pick, pick-either}
-use Rattle.bigendian.specs.Number.{Room}
+use Rattle.endian.specs.Number.{Room}
 use Rattle.record.specs.Paper.{bodyLength, kindOf, kindLength, lone, inPlace, formatRefusal}
 use Rattle.record.specs.Step.{Whole}
 

@@ -6,8 +6,8 @@ use native.Mathlib.Nat.{div-one, div-eq-of-lt, mod-eq-of-lt, add-assoc}
 use lib.Dec.{lit<}
 use lib.ListN.{length, set, length-append}
 use lib.Seq.{sets}
-use Rattle.bigendian.specs.Number.{bytesOf}
-use Rattle.bigendian.proofs.Width.{length-bytes, two-stored, sets-join}
+use Rattle.endian.specs.Number.{bytesOf}
+use Rattle.endian.proofs.Width.{length-bytes, two-stored, sets-join}
 use Rattle.packet.specs.Paper.{Packet, OneLength, lent, packetsFrom}
 use Rattle.packet.proofs.Lent.{packets-cons, packets-none}
 use Rattle.record.specs.declared.Numbers.{Numbers}

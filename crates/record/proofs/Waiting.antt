@@ -9,7 +9,7 @@ use native.Mathlib.Decide.{ℕ-discrete}
 use lib.Dec.{eqb}
 use lib.ListN.{replicate, length-append, length-replicate}
 use Rattle.laws.specs.Choose.{pick-either, false-true}
-use Rattle.bigendian.specs.Number.{numberOf}
+use Rattle.endian.specs.Number.{numberOf}
 use Rattle.record.specs.declared.Read.the-variants.{Refused}
 use Rattle.record.specs.Paper.{bodyLength, kindOf, kindLength, inPlace, formatRefusal}
 use Rattle.record.specs.Step.{itemOf, enough, pieceOf, Whole}

@@ -12,8 +12,8 @@ use lib.ListN.{length, take, drop, getD, length-append, length-drop, List·getD-
 use lib.Seq.{take-append-le, drop-append-le, length-take-le}
 use borrow.Author.Tests.{le-ltb, le-leb, lt-leb, eq-eqb, ne-eqb, eqb-true}
 use Rattle.laws.specs.Choose.{pick-either, false-true}
-use Rattle.bigendian.specs.Number.{numberAt, Bytes}
-use Rattle.bigendian.proofs.Width.{number-small}
+use Rattle.endian.specs.Number.{numberAt, Bytes}
+use Rattle.endian.proofs.Width.{number-small}
 use Rattle.record.specs.declared.Read.{Read}
 use Rattle.record.specs.declared.Read.the-variants.{Parameters, Packet}
 use Rattle.record.specs.Paper.{bodyLength, kindOf, kindLength, numbersAt, packetAt, formatRefusal}

@@ -19,7 +19,7 @@ use Rattle.packet.specs.Step.{nothing, scannedOf}
 use Rattle.packet.proofs.Lent.{packets-length}
 use Rattle.packet.proofs.Turn.{scanned-fine}
 use Rattle.packet.proofs.Declared.{scan-declared, fine-few}
-use Rattle.bigendian.proofs.Width.{length-bytes, sets-join}
+use Rattle.endian.proofs.Width.{length-bytes, sets-join}
 use Rattle.record.specs.declared.Numbers.{Numbers}
 use Rattle.record.specs.declared.Written.{Written}
 use Rattle.record.specs.declared.Written.the-variants.{Done, Refused}

@@ -2,7 +2,7 @@
 use mathlib.Core.List.{List, [], _∷_, _++_}
 use Prim.Native.Nat.{ℕ, _+_, _^_, _<_}
 use lib.ListN.{take, drop}
-use Rattle.bigendian.specs.Number.{numberOf, bytesOf}
+use Rattle.endian.specs.Number.{numberOf, bytesOf}
 use Rattle.packet.specs.Paper.{Packet}
 use Rattle.record.specs.declared.Numbers.{Numbers}
 

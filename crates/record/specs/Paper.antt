@@ -10,7 +10,7 @@ use Rattle.limits.specs.Paper.{setUpRefusal}
 use Rattle.packet.specs.declared.Past.{Past}
 use Rattle.packet.specs.Paper.{Packet}
 use Rattle.packet.specs.Step.{nothing, numberOf, nextOf}
-use Rattle.bigendian.specs.Number.{numberAt}
+use Rattle.endian.specs.Number.{numberAt}
 use Rattle.record.specs.declared.Numbers.{Numbers}
 
 -- "Version byte 1": the empty file has no byte 1 either

@@ -1,19 +1,19 @@
 // The record file: a cursor that reads one record after the other, of a whole file or of pieces as they come, the check of a
 // whole file, and the writer. It knows the file's layout, and asks `limits` and `packet` what they refuse.
 // It must never know what is measured: no bucket, no frame, no verdict. No body is read before its length is checked.
-use bigendian::read16;
-use bigendian::read32;
-use bigendian::read64;
-use bigendian::write16;
-use bigendian::write32;
-use bigendian::write64;
+use endian::read16;
+use endian::read32;
+use endian::read64;
+use endian::write16;
+use endian::write32;
+use endian::write64;
 use packet::Past;
 use packet::Scanned;
 ghost use mathlib.Core.Path.{_≡_};
 ghost use Prim.Native.Nat.{_<_};
 ghost use lib.ListN.{drop};
 ghost use lib.Seq.{sets};
-ghost use Rattle.bigendian.specs.Number.{Room};
+ghost use Rattle.endian.specs.Number.{Room};
 ghost use Rattle.packet.specs.Paper.{packets};
 ghost use Rattle.packet.specs.Step.{nothing};
 ghost use Rattle.record.specs.Paper.{numbersAt, kindLength, setUpOf, packetsIn};

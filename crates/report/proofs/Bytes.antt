@@ -11,8 +11,8 @@ use lib.Seq.{sets, sets-eq, drop-cons, drop-length, drop-at, length-take-le, len
 use mir.Syntax.{w64}
 use mir.Val.{SFits, toZ, ofZ}
 use mir.Facts.{toZ-ofZ}
-use Rattle.bigendian.specs.Number.{bytesOf}
-use Rattle.bigendian.proofs.Width.{length-bytes, sets-join}
+use Rattle.endian.specs.Number.{bytesOf}
+use Rattle.endian.proofs.Width.{length-bytes, sets-join}
 use Rattle.timing.specs.declared.State.{State}
 use Rattle.timing.specs.Answers.{summaryWith, summaryOf}
 use Rattle.report.specs.Paper.{signed, inBytes, encoded}

@@ -11,8 +11,8 @@ use lib.ListN.{length, take, drop, getD, length-drop}
 use lib.Seq.{sets, drop-drop, getD-drop, length-sets}
 use borrow.Author.Tests.{eq-eqb, ne-eqb}
 use Rattle.laws.specs.Fold.{fold}
-use Rattle.bigendian.specs.Number.{numberOf, numberAt}
-use Rattle.bigendian.proofs.Width.{sets-join}
+use Rattle.endian.specs.Number.{numberOf, numberAt}
+use Rattle.endian.proofs.Width.{sets-join}
 use Rattle.packet.specs.Paper.{Packet}
 use Rattle.packet.specs.Step.{nothing, nextOf}
 use Rattle.frame.specs.declared.Row.{Row}

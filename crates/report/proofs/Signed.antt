@@ -13,8 +13,8 @@ use mir.Syntax.{w64}
 use mir.Val.{toZ}
 use mir.Facts.{fits-ofZ, toZ-ofZ}
 use Rattle.laws.specs.Choose.{pick-either}
-use Rattle.bigendian.specs.Number.{numberOf, numberAt, bytesOf, Bytes}
-use Rattle.bigendian.proofs.Width.{length-bytes, number-small, number-bytes}
+use Rattle.endian.specs.Number.{numberOf, numberAt, bytesOf, Bytes}
+use Rattle.endian.proofs.Width.{length-bytes, number-small, number-bytes}
 use Rattle.packet.specs.declared.Past.{Past}
 use Rattle.packet.specs.Paper.{Packet, at}
 use Rattle.packet.specs.Step.{nothing, nextOf}

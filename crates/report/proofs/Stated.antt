@@ -13,7 +13,7 @@ use mir.Val.{toZ}
 use borrow.Author.Tests.{le-leb, lt-leb}
 use Rattle.laws.specs.Choose.{pick}
 use Rattle.laws.specs.Lay.{laid, laid-is}
-use Rattle.bigendian.specs.Number.{numberOf}
+use Rattle.endian.specs.Number.{numberOf}
 use Rattle.packet.specs.Paper.{Packet, packets}
 use Rattle.timing.specs.declared.State.{State}
 use Rattle.timing.specs.declared.Fed.the-variants.{Accepted}

@@ -8,7 +8,7 @@ use lib.ListN.{length, drop}
 use mir.Val.{ofZ}
 use mir.Syntax.{w64}
 use Rattle.laws.specs.Choose.{pick, orElse}
-use Rattle.bigendian.specs.Number.{bytesOf}
+use Rattle.endian.specs.Number.{bytesOf}
 use Rattle.packet.specs.Paper.{Packet}
 use Rattle.timing.specs.declared.StreamNumbers.{StreamNumbers}
 use Rattle.timing.specs.declared.State.{State}

@@ -1,9 +1,9 @@
 // What a program in C calls: a whole record file measured into lent bytes, a record file written, the limits of a stream,
 // and the figures of a graph. include/vtiming.h documents each function; their names are fixed.
 // It knows the record file and the measurement, and puts them together. It must never print, and keeps nothing between calls.
-use bigendian::read32;
-use bigendian::read64;
-use bigendian::write64;
+use endian::read32;
+use endian::read64;
+use endian::write64;
 use frame::Row;
 use record::Checked;
 use record::Numbers;

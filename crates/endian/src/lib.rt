@@ -1,0 +1,80 @@
+// Numbers of two, four and eight bytes, the highest byte first, read from and written to lent bytes.
+// It knows bytes and numbers. It must never know what a number means: a file's layout lies above.
+ghost use mathlib.Core.Path.{_≡_};
+ghost use Prim.Native.Nat.{_<_};
+ghost use lib.Seq.{sets};
+ghost use Rattle.endian.specs.Number.{numberAt, bytesOf, Room};
+
+fn wide16(x: u8) -> u16
+    ensures { λ r. ⌜ (r ≡ x) × (r < 256) ⌝ }
+{
+    x as u16
+}
+
+fn wide32(x: u16) -> u32
+    ensures { λ r. ⌜ (r ≡ x) × (r < 65536) ⌝ }
+{
+    x as u32
+}
+
+fn byte(x: u8) -> u64
+    ensures { λ r. ⌜ (r ≡ x) × (r < 256) ⌝ }
+{
+    x as u64
+}
+
+// Each width is read as two halves of the width below it.
+pub fn read16(s: &[u8], at: usize) -> u16
+    requires { ⌜ Room 2 (now s) at ⌝ }
+    ensures { λ r. ⌜ r ≡ numberAt 2 (now (s .entry)) at ⌝ }
+{
+    wide16(s[at]) * 256 + wide16(s[at + 1])
+}
+
+pub fn read32(s: &[u8], at: usize) -> u32
+    requires { ⌜ Room 4 (now s) at ⌝ }
+    ensures { λ r. ⌜ r ≡ numberAt 4 (now (s .entry)) at ⌝ }
+{
+    wide32(read16(s, at)) * 65536 + wide32(read16(s, at + 2))
+}
+
+// Four bytes as a number of 64 bits, byte by byte: in this form the compiler sees that read64 is one load of eight bytes,
+// their order turned.
+fn four(s: &[u8], at: usize) -> u64
+    requires { ⌜ Room 4 (now s) at ⌝ }
+    ensures { λ r. ⌜ (r ≡ numberAt 4 (now (s .entry)) at) × (r < 4294967296) ⌝ }
+{
+    ((byte(s[at]) * 256 + byte(s[at + 1])) * 256 + byte(s[at + 2])) * 256 + byte(s[at + 3])
+}
+
+pub fn read64(s: &[u8], at: usize) -> u64
+    requires { ⌜ Room 8 (now s) at ⌝ }
+    ensures { λ r. ⌜ r ≡ numberAt 8 (now (s .entry)) at ⌝ }
+{
+    four(s, at) * 4294967296 + four(s, at + 4)
+}
+
+// And written so; the bytes around it stay.
+pub fn write16(d: &mut [u8], at: usize, x: u16)
+    requires { ⌜ Room 2 (now d) at ⌝ }
+    ensures { λ _. ⌜ now (d .exit) ≡ sets (now (d .entry)) at (bytesOf 2 x) ⌝ }
+{
+    d[at] = (x / 256) as u8;
+    d[at + 1] = (x % 256) as u8;
+}
+
+pub fn write32(d: &mut [u8], at: usize, x: u32)
+    requires { ⌜ Room 4 (now d) at ⌝ }
+    ensures { λ _. ⌜ now (d .exit) ≡ sets (now (d .entry)) at (bytesOf 4 x) ⌝ }
+{
+    write16(d, at, (x / 65536) as u16);
+    write16(d, at + 2, (x % 65536) as u16);
+}
+
+pub fn write64(d: &mut [u8], at: usize, x: u64)
+    requires { ⌜ Room 8 (now d) at ⌝ }
+    ensures { λ _. ⌜ now (d .exit) ≡ sets (now (d .entry)) at (bytesOf 8 x) ⌝ }
+{
+    write32(d, at, (x / 4294967296) as u32);
+    write32(d, at + 4, (x % 4294967296) as u32);
+}

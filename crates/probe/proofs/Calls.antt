@@ -1,0 +1,129 @@
+-- The ways out of set-up and of a call, one law each, from what the code has found.
+use mathlib.Core.Path.{_≡_, refl, sym, ap, _∙_}
+use mathlib.Core.List.{List}
+use Prim.Native.Nat.{ℕ, _≤_, _<_}
+use native.Mathlib.Omega.{arith}
+use lib.IntN.{ℤ}
+use lib.ListN.{length, take, length-take}
+use lib.Dec.{leb}
+use borrow.Author.Tests.{eq-eqb, ne-eqb, le-leb, lt-leb}
+use Rattle.laws.specs.Choose.{pick, orElse}
+use Rattle.laws.specs.Lay.{laid}
+use Rattle.timing.specs.declared.StreamNumbers.{StreamNumbers}
+use Rattle.timing.specs.declared.State.{State}
+use Rattle.timing.specs.declared.Fed.{Fed}
+use Rattle.timing.specs.declared.Fed.the-variants.{Accepted, Refused}
+use Rattle.timing.specs.Step.{setUpOf, freshOf}
+use Rattle.timing.specs.Answers.{summaryOf}
+use Rattle.timing.specs.Feed.{feedOf, Is}
+use Rattle.timing.specs.Laws.Answering.{set-up-then}
+use Rattle.timing.specs.Demands.{refusal-changes-nothing}
+use Rattle.probe.specs.declared.Answer.{Answer}
+use Rattle.probe.specs.declared.Held.{Held}
+use Rattle.probe.specs.declared.Held.the-variants.{Known, Nothing}
+use Rattle.probe.specs.Words.{wordsOf, heldBy}
+use Rattle.probe.specs.Calls.{wordsNumber, setUpLeft, SetsUp, Told, refused, accepted, byFed, byHeld, callOf, Feeds, askedOf}
+use Rattle.probe.proofs.RoundTrip.{length-words, only-words-hold}
+use Rattle.probe.proofs.Asking.{by-lengths}
+
+-- ---- set-up
+
+module _ (x : StreamNumbers) (words : List ℕ) where
+  -- 1 to 7 of set-up, then the room
+  in-order : wordsNumber x (length words) ≡ orElse (setUpOf x) (pick (leb 32 (length words)) 0 15)
+  unfolding wordsNumber
+  in-order = set-up-then x (pick (leb 32 (length words)) 0 15)
+
+  by-number : (n : ℕ) → wordsNumber x (length words) ≡ n → 0 < n → SetsUp x words n words
+  unfolding setUpLeft
+  by-number n e p = record { number-is = sym e; words-are = sym (rw (e, ne-eqb n 0 (λ z. omega arith))) }
+
+  pub not-set-up : (n : ℕ) → setUpOf x ≡ n → 0 < n → SetsUp x words n words
+  not-set-up n e p = by-number n (in-order ∙ rw (e, ne-eqb n 0 (λ z. omega arith))) p
+
+  pub no-room : setUpOf x ≡ 0 → length words < 32 → SetsUp x words 15 words
+  no-room e h = by-number 15 (in-order ∙ rw (eq-eqb (setUpOf x) 0 e, lt-leb 32 (length words) h)) (omega arith)
+
+  pub set-up : {s : State} {after : List ℕ} → setUpOf x ≡ 0 → 32 ≤ length words → s ≡ freshOf x → after ≡ laid 0 (wordsOf s) words
+      → SetsUp x words 0 after
+  unfolding setUpLeft
+  set-up e h f g =
+      let fine : wordsNumber x (length words) ≡ 0 = in-order ∙ rw (eq-eqb (setUpOf x) 0 e, le-leb 32 (length words) h) in
+      record { number-is = sym fine; words-are = g ∙ ap (λ (t : State). laid 0 (wordsOf t) words) f ∙ sym (rw fine) }
+
+-- ---- a call
+
+is : {told : Told} (t : Told) → t ≡ told → Feeds told (t .number) (t .words) (t .rows) (t .out)
+is t e = record {
+  number-is = ap (λ (x : Told). x .number) e;
+  words-are = ap (λ (x : Told). x .words) e;
+  rows-are = ap (λ (x : Told). x .rows) e;
+  out-is = ap (λ (x : Told). x .out) e;
+}
+
+pub enough-words : (words : List ℕ) {h : Held} {s : State} → h ≡ heldBy (take 32 words) → h ≡ Known s → 32 ≤ length words
+enough-words words {s = s} e f =
+    let w = ap length (only-words-hold (take 32 words) s (sym e ∙ f)) in
+    omega (arith, w, length-words s, length-take 32 words)
+
+module _ (words : List ℕ) (rows : List ℤ) (out ts ss ms : List ℕ) where
+  by-held : {h : Held} → h ≡ heldBy (take 32 words) → byHeld words rows out ts ss ms h ≡ callOf words rows out ts ss ms
+  unfolding callOf
+  by-held e = ap (byHeld words rows out ts ss ms) e
+
+  pub no-state : {h : Held} → h ≡ heldBy (take 32 words) → h ≡ Nothing → Feeds (callOf words rows out ts ss ms) 9 words rows out
+  no-state e f = is (refused words rows out 9 0) (by-held (sym f ∙ e))
+
+  -- where there is no room for the summary the call is refused, whatever the words hold
+  short : length out < 9 → callOf words rows out ts ss ms
+      ≡ refused words rows out (callOf words rows out ts ss ms .number) (callOf words rows out ts ss ms .place)
+  unfolding callOf
+  short h = go (heldBy (take 32 words))
+    where
+      fed : (s : State) (b : Fed) (after : List ℤ) → byFed words rows out s b after
+          ≡ refused words rows out (byFed words rows out s b after .number) (byFed words rows out s b after .place)
+      fed s (Accepted t) after = rw (lt-leb 9 (length out) h)
+      fed s (Refused number place t) after = refl
+
+      go : (x : Held) → byHeld words rows out ts ss ms x
+          ≡ refused words rows out (byHeld words rows out ts ss ms x .number) (byHeld words rows out ts ss ms x .place)
+      go (Known s) = fed s (feedOf s rows ts ss ms .answer) (feedOf s rows ts ss ms .rows)
+      go Nothing = refl
+
+  pub no-summary : {a : Answer} → length out < 9 → a ≡ askedOf words ts ss ms (length rows) (length out)
+      → Feeds (callOf words rows out ts ss ms) (a .number) words rows out
+  no-summary h e =
+      let told = callOf words rows out ts ss ms in
+      let r = is (refused words rows out (told .number) (told .place)) (sym (short h)) in
+      record {
+        number-is = ap (λ (x : Answer). x .number) (e ∙ by-lengths ts ss ms words rows out);
+        words-are = r .words-are;
+        rows-are = r .rows-are;
+        out-is = r .out-is;
+      }
+
+  module _ {h : Held} {s : State} {b : Fed} {after : List ℤ} (e : h ≡ heldBy (take 32 words)) (f : h ≡ Known s)
+      (g : Is (feedOf s rows ts ss ms) b after) where
+    by-fed : byFed words rows out s b (feedOf s rows ts ss ms .rows) ≡ callOf words rows out ts ss ms
+    by-fed = ap (λ (z : Fed). byFed words rows out s z (feedOf s rows ts ss ms .rows)) (g .answer-is) ∙ by-held (sym f ∙ e)
+
+    pub call-refused : {k place : ℕ} {t : State} → b ≡ Refused k place t → Feeds (callOf words rows out ts ss ms) k words after out
+    call-refused {k} {place} {t} q =
+        let stays = refusal-changes-nothing s t rows ts ss ms k place (sym (g .answer-is) ∙ q) in
+        let told = ap (λ (z : Fed). byFed words rows out s z (feedOf s rows ts ss ms .rows)) (sym q) ∙ by-fed in
+        let r = is (refused words rows out k place) told in
+        record { number-is = r .number-is; words-are = r .words-are; rows-are = g .rows-are ∙ stays .1 ∙ r .rows-are; out-is = r .out-is }
+
+    pub call-accepted : {t : State} {words′ out′ : List ℕ} → b ≡ Accepted t → 9 ≤ length out → words′ ≡ laid 0 (wordsOf t) words
+        → out′ ≡ laid 0 (summaryOf t) out → Feeds (callOf words rows out ts ss ms) 0 words′ after out′
+    call-accepted {t} q room w o =
+        let now = accepted words rows out t (feedOf s rows ts ss ms .rows) in
+        let enough : byFed words rows out s (Accepted t) (feedOf s rows ts ss ms .rows) ≡ now = rw (le-leb 9 (length out) room) in
+        let told = sym enough ∙ ap (λ (z : Fed). byFed words rows out s z (feedOf s rows ts ss ms .rows)) (sym q) ∙ by-fed in
+        let r = is now told in
+        record {
+          number-is = r .number-is;
+          words-are = w ∙ r .words-are;
+          rows-are = g .rows-are ∙ r .rows-are;
+          out-is = o ∙ r .out-is;
+        }

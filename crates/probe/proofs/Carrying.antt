@@ -1,0 +1,67 @@
+-- From call to call: what an accepted call leaves are the words of the state that `feed` gives, and the next call reads that state. The
+-- numbers that have fewer than 64 bits still fit: a packet changes the timestamp alone, and to its own.
+use mathlib.Core.Path.{_≡_, sym, ap, _∙_, subst}
+use mathlib.Core.Bool.{Bool, true, false}
+use mathlib.Core.List.{List, [], _∷_}
+use Prim.Native.Nat.{ℕ, _≤_, _<_}
+use native.Mathlib.Omega.{arith}
+use lib.Dec.{eqb}
+use lib.ListN.{length, take, drop}
+use lib.Seq.{take-at}
+use Rattle.laws.specs.Choose.{pick}
+use Rattle.laws.specs.Fold.{fold}
+use Rattle.laws.specs.Lay.{laid, laid-is}
+use Rattle.packet.specs.Paper.{Packet, marked}
+use Rattle.frame.specs.Step as F
+use Rattle.timing.specs.declared.Rules.{Rules}
+use Rattle.timing.specs.declared.State.{State}
+use Rattle.timing.specs.Step.{arriveOf, markOf, stepOf, stateAfter}
+use Rattle.timing.specs.Laws.Running.{step-numbers}
+use Rattle.probe.specs.declared.Held.the-variants.{Known}
+use Rattle.probe.specs.Words.{wordsOf, heldBy}
+use Rattle.probe.proofs.RoundTrip.{Fits, Narrow, length-words, words-hold}
+
+-- ---- what is narrow stays narrow
+
+-- each timestamp has 32 bits
+unfoldable pub Stamped : List Packet → Type 0
+Stamped [] = Unit
+Stamped (p ∷ l) = (p .stamp < 4294967296) × Stamped l
+
+stamp-step : (rules : Rules) (s : State) (p : Packet) → p .stamp < 4294967296 → s .frames .current .stamp < 4294967296
+    → stepOf rules s p .frames .current .stamp < 4294967296
+unfolding stepOf arriveOf markOf F.arriveOf F.closeOf F.openedOf F.countedOf
+stamp-step rules s p h k = go (marked p)
+  where
+    opened : (b : Bool) → pick b (p .stamp) (s .frames .current .stamp) < 4294967296
+    opened true = h
+    opened false = k
+
+    pushed : (b : Bool) → pick b (F.pushOf (rules .plan) (s .frames .current) (p .time) (p .stamp)) (s .frames .current) .stamp < 4294967296
+    pushed true = opened (eqb (s .frames .current .held) 0)
+    pushed false = k
+
+    go : (b : Bool) → pick b (markOf rules (arriveOf rules s (p .time) (p .stamp)) (p .time)) (arriveOf rules s (p .time) (p .stamp))
+        .frames .current .stamp < 4294967296
+    go true = omega arith
+    go false = pushed (s .frames .begun)
+
+pub narrow-step : (rules : Rules) (s : State) (p : Packet) → p .stamp < 4294967296 → Narrow s → Narrow (stepOf rules s p)
+narrow-step rules s p h f = record {
+  numbers = subst Fits (sym (step-numbers rules s p)) (f .numbers);
+  stamp = stamp-step rules s p h (f .stamp);
+}
+
+pub narrow-after : (l : List Packet) (rules : Rules) (s : State) → Stamped l → Narrow s → Narrow (stateAfter rules s l)
+unfolding Stamped fold
+narrow-after [] rules s h f = f
+narrow-after (p ∷ l) rules s h f = narrow-after l rules (stepOf rules s p) (h .1) (narrow-step rules s p (h .0) f)
+
+-- ---- words that were laid in front are read again
+
+pub laid-hold : (words : List ℕ) (s : State) → 32 ≤ length words → Narrow s → heldBy (take 32 (laid 0 (wordsOf s) words)) ≡ Known s
+laid-hold words s h f =
+    let long = length-words s in
+    ap (λ (l : List ℕ). heldBy (take 32 l)) (laid-is [] (wordsOf s) words (omega arith))
+    ∙ ap heldBy (take-at (wordsOf s) (drop (length (wordsOf s)) words) 32 long)
+    ∙ words-hold s f

@@ -1,0 +1,21 @@
+-- Each contract here that is a record of equations admits one answer: what meets it is what it names.
+use mathlib.Core.Path.{_≡_}
+use mathlib.Core.List.{List}
+use Prim.Native.Nat.{ℕ}
+use lib.IntN.{ℤ}
+use Rattle.laws.specs.Unique.{one-answer}
+use Rattle.timing.specs.declared.StreamNumbers.{StreamNumbers}
+use Rattle.probe.specs.Calls.{SetsUp, Told, Feeds}
+
+pub sets-up-unique : (x : StreamNumbers) (words : List ℕ) (a b : ℕ) (p q : List ℕ) → SetsUp x words a p → SetsUp x words b q
+    → (a ≡ b) × (p ≡ q)
+sets-up-unique x words a b p q u v = (one-answer (u .number-is) (v .number-is), one-answer (u .words-are) (v .words-are))
+
+pub feeds-unique : (told : Told) (a b : ℕ) (p q : List ℕ) (r s : List ℤ) (o m : List ℕ) → Feeds told a p r o → Feeds told b q s m
+    → (a ≡ b) × (p ≡ q) × (r ≡ s) × (o ≡ m)
+feeds-unique told a b p q r s o m x y = (
+  one-answer (x .number-is) (y .number-is),
+  one-answer (x .words-are) (y .words-are),
+  one-answer (x .rows-are) (y .rows-are),
+  one-answer (x .out-is) (y .out-is),
+)

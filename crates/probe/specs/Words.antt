@@ -1,0 +1,143 @@
+-- A state as 32 words, one for each of its numbers in the order of docs/STATE.md, and the state that lent words hold.
+use mathlib.Core.Bool.{Bool, true, false, _&&_}
+use mathlib.Core.List.{List, [], _∷_}
+use Prim.Native.Nat.{ℕ, _%_}
+use lib.Dec.{eqb}
+use lib.ListN.{getD}
+use Rattle.laws.specs.Choose.{pick}
+use Rattle.bucket.specs.declared.Bucket.{Bucket}
+use Rattle.bucket.specs.declared.Network.{Network}
+use Rattle.bucket.specs.declared.Network.the-variants.{Pass, Burst}
+use Rattle.bucket.specs.Paper.{networkNumber, networkFirst, networkLast}
+use Rattle.frame.specs.declared.Frame.{Frame}
+use Rattle.frame.specs.declared.Frames.{Frames}
+use Rattle.frame.specs.declared.Buffer.{Buffer}
+use Rattle.frame.specs.declared.Buffer.the-variants.{None, Under, Over, Pass as Buffer-Pass}
+use Rattle.frame.specs.Paper.{bufferNumber, bufferFrame, bufferPlace}
+use Rattle.timing.specs.declared.StreamNumbers.{StreamNumbers}
+use Rattle.timing.specs.declared.State.{State}
+use Rattle.timing.specs.Step.{streamWith}
+use Rattle.probe.specs.declared.Held.{Held}
+use Rattle.probe.specs.declared.Held.the-variants.{Known, Nothing}
+
+-- ---- the words of a state
+
+abbrev pub flagOf : Bool → ℕ
+flagOf true = 1
+flagOf false = 0
+
+-- document 01's three numbers for each of the two answers
+abbrev pub verdictWords : State → List ℕ
+verdictWords s =
+    networkNumber (s .bucket .network)
+    ∷ networkFirst (s .bucket .network)
+    ∷ networkLast (s .bucket .network)
+    ∷ bufferNumber (s .frames .buffer)
+    ∷ bufferFrame (s .frames .buffer)
+    ∷ bufferPlace (s .frames .buffer)
+    ∷ []
+
+-- a number as itself, a bool as 0 or 1, an answer as its three numbers
+unfoldable pub wordsOf : State → List ℕ
+wordsOf s =
+    s .numbers .rate
+    ∷ s .numbers .schedule
+    ∷ s .numbers .class
+    ∷ s .numbers .height
+    ∷ s .numbers .n
+    ∷ s .numbers .maxudp
+    ∷ s .numbers .tro
+    ∷ s .past .packets
+    ∷ s .past .first
+    ∷ s .past .last
+    ∷ s .bucket .level
+    ∷ s .bucket .start
+    ∷ s .bucket .peak
+    ∷ networkNumber (s .bucket .network)
+    ∷ networkFirst (s .bucket .network)
+    ∷ networkLast (s .bucket .network)
+    ∷ s .drained
+    ∷ s .frames .closed
+    ∷ flagOf (s .frames .begun)
+    ∷ s .frames .marked
+    ∷ s .frames .current .held
+    ∷ s .frames .current .first
+    ∷ s .frames .current .stamp
+    ∷ s .frames .current .phase
+    ∷ s .frames .current .reads
+    ∷ s .frames .current .differs
+    ∷ s .frames .current .top
+    ∷ s .frames .current .late
+    ∷ s .frames .current .deficit
+    ∷ bufferNumber (s .frames .buffer)
+    ∷ bufferFrame (s .frames .buffer)
+    ∷ bufferPlace (s .frames .buffer)
+    ∷ []
+
+-- ---- words read as a state, whatever they are: what a field has no room for is left out, and a number that no answer has counts
+-- as the last one's
+
+abbrev pub networkIn : (number first last : ℕ) → Network
+networkIn number first last = pick (eqb number 0) Pass (Burst (record { first = first; last = last }))
+
+abbrev pub bufferIn : (number frame place : ℕ) → Buffer
+bufferIn number frame place =
+    pick (eqb number 0) None
+    (pick (eqb number 1) Buffer-Pass
+    (pick (eqb number 2) (Under (record { frame = frame; place = place })) (Over (record { frame = frame; place = place }))))
+
+module _ (w : List ℕ) where
+  abbrev word : ℕ → ℕ
+  word k = getD w k 0
+
+  abbrev pub numbersIn : StreamNumbers
+  numbersIn =
+      streamWith (word 0 % 256) (word 1 % 256) (word 2 % 256) (word 3 % 65536) (word 4 % 4294967296) (word 5 % 65536)
+      (word 6 % 4294967296)
+
+  abbrev pub bucketIn : Bucket
+  bucketIn = record { level = word 10; start = word 11; peak = word 12; network = networkIn (word 13) (word 14) (word 15) }
+
+  abbrev pub openIn : Frame
+  openIn = record {
+    held = word 20;
+    first = word 21;
+    stamp = word 22 % 4294967296;
+    phase = word 23;
+    differs = word 25;
+    reads = word 24;
+    top = word 26;
+    deficit = word 28;
+    late = word 27;
+  }
+
+  abbrev pub framesIn : Frames
+  framesIn = record {
+    begun = eqb (word 18) 1;
+    closed = word 17;
+    marked = word 19;
+    current = openIn;
+    buffer = bufferIn (word 29) (word 30) (word 31);
+  }
+
+  unfoldable pub stateIn : State
+  stateIn = record {
+    numbers = numbersIn;
+    past = record { packets = word 7; first = word 8; last = word 9 };
+    drained = word 16;
+    bucket = bucketIn;
+    frames = framesIn;
+  }
+
+-- ---- the state that words hold
+
+unfoldable pub same : List ℕ → List ℕ → Bool
+same [] [] = true
+same [] (y ∷ ys) = false
+same (x ∷ xs) [] = false
+same (x ∷ xs) (y ∷ ys) = eqb x y && same xs ys
+
+-- words hold a state exactly where they are the words of the state that they are read as, no more and no fewer
+unfoldable pub heldBy : List ℕ → Held
+unfolding wordsOf stateIn same
+heldBy w = pick (same (wordsOf (stateIn w)) w) (Known (stateIn w)) Nothing
