@@ -1,5 +1,5 @@
 -- "Both sides of each limit": the twelve cases of document 01 as one list under one claim, that what the definitions give
--- is what the paper gives. Each case stands under its words. Numbers of any kind are written as integers, one list a side.
+-- is what the paper gives. Each case stands under its words. Parameters of any kind are written as integers, one list a side.
 use mathlib.Core.Path.{_≡_, refl}
 use mathlib.Core.List.{List, [], _∷_, map}
 use Prim.Native.Nat.{ℕ}
@@ -9,7 +9,7 @@ use Rattle.laws.specs.Count.{count}
 use Rattle.laws.specs.Fold.{fold}
 use Rattle.grain.specs.Paper.{grains, nearest, phase, firstPacketTime, encoded, latency}
 use Rattle.limits.specs.Fraction.{int}
-use Rattle.limits.specs.Paper.{frameLength, activeRatio, classOf, cMax, vrxFull, defaultTro, troGrains, troFits, firstNo, setUpRefusal}
+use Rattle.limits.specs.Paper.{frameLength, activeRatio, classOf, cMax, vrxFull, defaultTro, troGrains, troFits, firstNo, setUpRefusal, given}
 use Rattle.packet.specs.Paper.{Packet}
 use Rattle.packet.specs.Step.{refusalOf}
 use Rattle.bucket.specs.Paper.{networkNumber, networkFirst, networkLast}
@@ -18,10 +18,10 @@ use Rattle.frame.specs.Paper.{since, late, levelOf}
 use Rattle.frame.specs.Step as F
 use Rattle.endian.specs.Number.{numberOf}
 use Rattle.record.specs.Paper.{kindLength, formatRefusal, packetsBy, readingOf, File, file, refused, fileOf}
-use Rattle.report.specs.Paper.{streamOf, reportOf}
+use Rattle.report.specs.Paper.{reportOf}
 use Rattle.timing.specs.declared.StreamNumbers.{StreamNumbers}
 use Rattle.timing.specs.declared.State.{State}
-use Rattle.timing.specs.Step.{rulesOf, freshOf, arriveOf, markOf, stepOf, stateAfter, rowsAfter, numbers}
+use Rattle.timing.specs.Step.{ofParameters, rulesOf, freshOf, arriveOf, markOf, stepOf, stateAfter, rowsAfter, numbers}
 use Rattle.timing.specs.Answers.{summaryWith}
 use Rattle.timing.specs.History.{frameHistory}
 
@@ -44,7 +44,7 @@ packet t stamp marker = record { time = t; stamp = stamp; marker = marker }
 
 -- rate 6 gapped narrow, height 1080, 1460, with n and TRO
 abbrev rate6 : ℕ → ℕ → StreamNumbers
-rate6 n tro = record { rate = 6; schedule = 0; class = 1; height = 1080; n = n; maxudp = 1460; tro = tro }
+rate6 n tro = ofParameters (given 6 0 1 1080 n 1460 tro)
 
 abbrev network : State → List ℤ
 network s = pos (networkNumber (s .bucket .network)) ∷ pos (networkFirst (s .bucket .network)) ∷ pos (networkLast (s .bucket .network)) ∷ []
@@ -74,7 +74,7 @@ others-late l =
 
 -- a whole file: the nine numbers and the rows of the C call, or the refusal's number and offset
 abbrev measured : File → List ℤ
-measured (file s l) = reportOf (streamOf s) l
+measured (file s l) = reportOf (ofParameters s) l
 measured (refused number offset) = pos number ∷ pos offset ∷ []
 
 -- "parameters 6, 0, 1, height 1080, n 4, 1460, default TRO and five packets (nanoseconds, timestamp,
@@ -95,11 +95,11 @@ the-file =
 unfoldable pub cases : List Case
 cases =
     -- 1. "Rate 6: TRO 19,999 accepted, 20,000 refused."
-    (one (setUpRefusal 6 0 1 1080 4320 1460 19999) gives one 0)
-    ∷ (one (setUpRefusal 6 0 1 1080 4320 1460 20000) gives one 7)
+    (one (setUpRefusal (given 6 0 1 1080 4320 1460 19999)) gives one 0)
+    ∷ (one (setUpRefusal (given 6 0 1 1080 4320 1460 20000)) gives one 7)
     -- 2. "Rate 7: 16,683 accepted, 16,684 refused."
-    ∷ (one (setUpRefusal 7 0 1 1080 4320 1460 16683) gives one 0)
-    ∷ (one (setUpRefusal 7 0 1 1080 4320 1460 16684) gives one 7)
+    ∷ (one (setUpRefusal (given 7 0 1 1080 4320 1460 16683)) gives one 0)
+    ∷ (one (setUpRefusal (given 7 0 1 1080 4320 1460 16684)) gives one 7)
     -- 3. "Rate 6 narrow: n 4147 gives C_MAX 4, 4148 gives 5."
     ∷ (one (cMax (classOf 1) 0 (frameLength 6) 4147) gives one 4)
     ∷ (one (cMax (classOf 1) 0 (frameLength 6) 4148) gives one 5)

@@ -7,17 +7,18 @@ use native.Mathlib.Omega.{arith}
 use borrow.Author.Tests.{leb-true, le-leb, eqb-true, ltb-true, lt-ltb}
 use lib.Dec.{leb, ltb, eqb}
 use Rattle.laws.specs.Choose.{pick, false-true}
+use Rattle.limits.specs.declared.Parameters.{Parameters}
 use Rattle.limits.specs.Paper.{microsecond, frameLength, classOf, allOnes}
 use Rattle.limits.specs.Paper.{within, classFits, maxudpKnown, troFits, firstNo, setUpRefusal}
 
-pub record Accepted (rate schedule class height n maxudp tro : ℕ) : Type 0 where
-  pub rate-known : (1 ≤ rate) × (rate ≤ 8)
-  pub schedule-known : schedule ≤ 1
-  pub class-fits : classFits (classOf class) schedule ≡ true
-  pub height-fits : (1 ≤ height) × (height ≤ 65535)
-  pub n-fits : (1 ≤ n) × (n ≤ 20000)
-  pub maxudp-known : (maxudp ≡ 1460) ⊎ (maxudp ≡ 8960)
-  pub tro-fits : (tro ≡ allOnes) ⊎ (microsecond * tro < frameLength rate)
+pub record Accepted (p : Parameters) : Type 0 where
+  pub rate-known : (1 ≤ p .rate) × (p .rate ≤ 8)
+  pub schedule-known : p .schedule ≤ 1
+  pub class-fits : classFits (classOf (p .class)) (p .schedule) ≡ true
+  pub height-fits : (1 ≤ p .height) × (p .height ≤ 65535)
+  pub n-fits : (1 ≤ p .n) × (p .n ≤ 20000)
+  pub maxudp-known : (p .maxudp ≡ 1460) ⊎ (p .maxudp ≡ 8960)
+  pub tro-fits : (p .tro ≡ allOnes) ⊎ (microsecond * p .tro < frameLength (p .rate))
 
 -- tests as facts
 
@@ -69,36 +70,36 @@ answered : (t : Bool) (k r : ℕ) → pick t r (suc k) ≡ 0 → (t ≡ true) ×
 answered true k r e = (refl, e)
 answered false k r e = absurd (omega arith)
 
-module _ (rate schedule class height n maxudp tro : ℕ) where
-  pub accepted : setUpRefusal rate schedule class height n maxudp tro ≡ 0 → Accepted rate schedule class height n maxudp tro
+module _ (p : Parameters) where
+  pub accepted : setUpRefusal p ≡ 0 → Accepted p
   unfolding setUpRefusal firstNo
   accepted e0 =
-      let e1 = answered (within 1 8 rate) 0 _ e0 in
-      let e2 = answered (within 0 1 schedule) 1 _ (e1 .1) in
-      let e3 = answered (classFits (classOf class) schedule) 2 _ (e2 .1) in
-      let e4 = answered (within 1 65535 height) 3 _ (e3 .1) in
-      let e5 = answered (within 1 20000 n) 4 _ (e4 .1) in
-      let e6 = answered (maxudpKnown maxudp) 5 _ (e5 .1) in
-      let e7 = answered (troFits (frameLength rate) tro) 6 _ (e6 .1) in
+      let e1 = answered (within 1 8 (p .rate)) 0 _ e0 in
+      let e2 = answered (within 0 1 (p .schedule)) 1 _ (e1 .1) in
+      let e3 = answered (classFits (classOf (p .class)) (p .schedule)) 2 _ (e2 .1) in
+      let e4 = answered (within 1 65535 (p .height)) 3 _ (e3 .1) in
+      let e5 = answered (within 1 20000 (p .n)) 4 _ (e4 .1) in
+      let e6 = answered (maxudpKnown (p .maxudp)) 5 _ (e5 .1) in
+      let e7 = answered (troFits (frameLength (p .rate)) (p .tro)) 6 _ (e6 .1) in
       record {
-        rate-known = within-facts 1 8 rate (e1 .0);
-        schedule-known = within-facts 0 1 schedule (e2 .0) .1;
+        rate-known = within-facts 1 8 (p .rate) (e1 .0);
+        schedule-known = within-facts 0 1 (p .schedule) (e2 .0) .1;
         class-fits = e3 .0;
-        height-fits = within-facts 1 65535 height (e4 .0);
-        n-fits = within-facts 1 20000 n (e5 .0);
-        maxudp-known = udp-facts maxudp (e6 .0);
-        tro-fits = tro-facts (frameLength rate) tro (e7 .0);
+        height-fits = within-facts 1 65535 (p .height) (e4 .0);
+        n-fits = within-facts 1 20000 (p .n) (e5 .0);
+        maxudp-known = udp-facts (p .maxudp) (e6 .0);
+        tro-fits = tro-facts (frameLength (p .rate)) (p .tro) (e7 .0);
       }
 
-  pub accepts : Accepted rate schedule class height n maxudp tro → setUpRefusal rate schedule class height n maxudp tro ≡ 0
+  pub accepts : Accepted p → setUpRefusal p ≡ 0
   unfolding setUpRefusal firstNo
   accepts a =
       rw (
-        facts-within 1 8 rate (a .rate-known .0) (a .rate-known .1),
-        facts-within 0 1 schedule (omega arith) (a .schedule-known),
+        facts-within 1 8 (p .rate) (a .rate-known .0) (a .rate-known .1),
+        facts-within 0 1 (p .schedule) (omega arith) (a .schedule-known),
         a .class-fits,
-        facts-within 1 65535 height (a .height-fits .0) (a .height-fits .1),
-        facts-within 1 20000 n (a .n-fits .0) (a .n-fits .1),
-        facts-udp maxudp (a .maxudp-known),
-        facts-tro (frameLength rate) tro (a .tro-fits),
+        facts-within 1 65535 (p .height) (a .height-fits .0) (a .height-fits .1),
+        facts-within 1 20000 (p .n) (a .n-fits .0) (a .n-fits .1),
+        facts-udp (p .maxudp) (a .maxudp-known),
+        facts-tro (frameLength (p .rate)) (p .tro) (a .tro-fits),
       )

@@ -13,6 +13,7 @@ use Rattle.laws.specs.Choose.{pick, pick-either}
 use Rattle.limits.specs.Fraction.{Fraction, whole, _÷_, Same, int}
 use Rattle.limits.specs.Paper.{microsecond, frameLengths, frameLength, activeRatio, allOnes, defaultTro, troGrains}
 use Rattle.limits.specs.Paper.{readSpacing, readNum, readDen}
+use Rattle.limits.specs.declared.Parameters.{Parameters}
 use Rattle.limits.specs.Accepted.{Accepted, both}
 
 -- "R = 24/25, from 1080/1125"
@@ -95,13 +96,15 @@ default-below F height h =
     (λ e. div-lt-iff-lt-mul (omega arith) .1 (omega arith))
 
 -- "TRO: given in whole microseconds, below one frame, or default": so any TRO that set-up takes lies below one frame
-pub tro-below : {rate schedule class height n maxudp tro : ℕ} → Accepted rate schedule class height n maxudp tro
-    → troGrains (frameLength rate) height tro < frameLength rate
+pub tro-below : {p : Parameters} → Accepted p → troGrains (frameLength (p .rate)) (p .height) (p .tro) < frameLength (p .rate)
 unfolding troGrains
-tro-below {rate} {height} {tro} a = go (eqb tro allOnes) refl (a .tro-fits)
+tro-below {p} a = go (eqb (p .tro) allOnes) refl (a .tro-fits)
   where
-    go : (t : Bool) → eqb tro allOnes ≡ t → (tro ≡ allOnes) ⊎ (microsecond * tro < frameLength rate)
-        → pick t (int (defaultTro (frameLength rate) height)) (microsecond * tro) < frameLength rate
-    go true e f = default-below (frameLength rate) height (omega (arith, frame-least rate (a .rate-known .0) (a .rate-known .1)))
-    go false e (inl f) = absurd (eqb-false tro allOnes e f)
+    F : ℕ
+    F = frameLength (p .rate)
+
+    go : (t : Bool) → eqb (p .tro) allOnes ≡ t → (p .tro ≡ allOnes) ⊎ (microsecond * p .tro < F)
+        → pick t (int (defaultTro F (p .height))) (microsecond * p .tro) < F
+    go true e f = default-below F (p .height) (omega (arith, frame-least (p .rate) (a .rate-known .0) (a .rate-known .1)))
+    go false e (inl f) = absurd (eqb-false (p .tro) allOnes e f)
     go false e (inr f) = f

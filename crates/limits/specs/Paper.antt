@@ -8,6 +8,7 @@ use Rattle.laws.specs.Choose.{pick}
 use Rattle.grain.specs.Paper.{grains}
 use Rattle.limits.specs.Fraction.{Fraction, whole, _·_, _÷_, int}
 use Rattle.limits.specs.declared.Class.{Class}
+use Rattle.limits.specs.declared.Parameters.{Parameters}
 use Rattle.limits.specs.declared.Class.the-variants.{Narrow, NarrowLinear, Wide, Unknown}
 
 -- "Every duration is a whole number of grains; 27 grains are one nanosecond."
@@ -102,15 +103,15 @@ troFits F tro = eqb tro allOnes || ltb (microsecond * tro) F
 
 -- "set-up, in this order: rate, schedule, class (unknown or against the schedule), height, n, MAXUDP, TRO"
 -- "Height 1 to 65,535. Packets per frame n, 1 to 20,000."
-abbrev pub questions : ℕ → ℕ → ℕ → ℕ → ℕ → ℕ → ℕ → List Bool
-questions rate schedule class height n maxudp tro =
-    within 1 8 rate
-    ∷ within 0 1 schedule
-    ∷ classFits (classOf class) schedule
-    ∷ within 1 65535 height
-    ∷ within 1 20000 n
-    ∷ maxudpKnown maxudp
-    ∷ troFits (frameLength rate) tro
+abbrev pub questions : Parameters → List Bool
+questions p =
+    within 1 8 (p .rate)
+    ∷ within 0 1 (p .schedule)
+    ∷ classFits (classOf (p .class)) (p .schedule)
+    ∷ within 1 65535 (p .height)
+    ∷ within 1 20000 (p .n)
+    ∷ maxudpKnown (p .maxudp)
+    ∷ troFits (frameLength (p .rate)) (p .tro)
     ∷ []
 
 -- the number, counted from k, of the first question that is answered no; 0 where there is none
@@ -119,5 +120,17 @@ firstNo k [] = 0
 firstNo k (answer ∷ more) = pick answer (firstNo (suc k) more) k
 
 -- the refusals 1 to 7 of set-up, and 0 for what is accepted
-unfoldable pub setUpRefusal : ℕ → ℕ → ℕ → ℕ → ℕ → ℕ → ℕ → ℕ
-setUpRefusal rate schedule class height n maxudp tro = firstNo 1 (questions rate schedule class height n maxudp tro)
+unfoldable pub setUpRefusal : Parameters → ℕ
+setUpRefusal p = firstNo 1 (questions p)
+
+-- the seven numbers put together, as a call that is given each by itself does
+abbrev pub given : (rate schedule class height n maxudp tro : ℕ) → Parameters
+given rate schedule class height n maxudp tro = record {
+  rate = rate;
+  schedule = schedule;
+  class = class;
+  height = height;
+  n = n;
+  maxudp = maxudp;
+  tro = tro;
+}

@@ -5,12 +5,11 @@
 // limit is held against lies above.
 
 ghost use mathlib.Core.Path.{_≡_};
-ghost use mathlib.Core.List.{[], _∷_};
 ghost use Prim.Native.Nat.{_/_, _<_, max};
 ghost use Rattle.limits.specs.Fraction.{whole, _·_, _÷_, int};
 ghost use Rattle.limits.specs.Steps.{Divides};
 ghost use Rattle.limits.specs.Paper.{frameLength, activeRatio, seconds, classOf, cMax, vrxFull, troGrains, readNum, readDen};
-ghost use Rattle.limits.specs.Paper.{within, classFits, maxudpKnown, troFits, firstNo, setUpRefusal};
+ghost use Rattle.limits.specs.Paper.{within, classFits, maxudpKnown, troFits, setUpRefusal};
 
 const MICROSECOND: u64 = 1000 * grain::GRAINS_PER_NANOSECOND;
 
@@ -21,6 +20,17 @@ const GAPPED: u8 = 0;
 const LINEAR: u8 = 1;
 
 const DEFAULT_TRO: u32 = 4294967295;
+
+// The parameters that a stream is set up with, as a record file holds them: class 0 and a TRO of all ones stay what they are.
+pub struct Parameters {
+    pub rate: u8,
+    pub schedule: u8,
+    pub class: u8,
+    pub height: u16,
+    pub n: u32,
+    pub maxudp: u16,
+    pub tro: u32,
+}
 
 // An unknown class is refused at set-up; the limits give it 0, so that they answer for any number.
 pub enum Class {
@@ -59,55 +69,34 @@ pub fn class_of(class: u8) -> Class
     }
 }
 
-// The first of the seven set-up numbers, in the paper's order, that is refused; 0 where none is.
-pub fn refusal(rate: u8, schedule: u8, class: u8, height: u16, n: u32, maxudp: u16, tro: u32) -> u8
-    ensures { λ r. ⌜ r ≡ setUpRefusal rate schedule class height n maxudp tro ⌝ }
-{
-    first_no(
-        is_within(1, 8, rate as u32),
-        is_within(0, 1, schedule as u32),
-        class_fits(class, schedule),
-        is_within(1, 65535, height as u32),
-        is_within(1, 20000, n),
-        maxudp_known(maxudp),
-        tro_fits(frame_length(rate), tro),
-    )
-}
-
-// The refusal that belongs to the first question answered no; 0 where there is none.
-fn first_no(
-    rate: bool,
-    schedule: bool,
-    class: bool,
-    height: bool,
-    n: bool,
-    maxudp: bool,
-    tro: bool,
-) -> u8
-    ensures { λ r. ⌜ r ≡ firstNo 1 (rate ∷ schedule ∷ class ∷ height ∷ n ∷ maxudp ∷ tro ∷ []) ⌝ }
-{
-    if !rate {
-        return 1;
+impl Parameters {
+    // The first of them, in the paper's order, that is refused; 0 where none is.
+    pub fn refusal(self) -> u8
+        ensures { λ r. ⌜ r ≡ setUpRefusal self ⌝ }
+    {
+        if !is_within(1, 8, self.rate as u32) {
+            return 1;
+        }
+        if !is_within(0, 1, self.schedule as u32) {
+            return 2;
+        }
+        if !class_fits(self.class, self.schedule) {
+            return 3;
+        }
+        if !is_within(1, 65535, self.height as u32) {
+            return 4;
+        }
+        if !is_within(1, 20000, self.n) {
+            return 5;
+        }
+        if !maxudp_known(self.maxudp) {
+            return 6;
+        }
+        if !tro_fits(frame_length(self.rate), self.tro) {
+            return 7;
+        }
+        0
     }
-    if !schedule {
-        return 2;
-    }
-    if !class {
-        return 3;
-    }
-    if !height {
-        return 4;
-    }
-    if !n {
-        return 5;
-    }
-    if !maxudp {
-        return 6;
-    }
-    if !tro {
-        return 7;
-    }
-    0
 }
 
 fn is_within(low: u32, high: u32, x: u32) -> bool

@@ -14,7 +14,7 @@ use Rattle.frame.specs.declared.Row.{Row}
 use Rattle.frame.specs.Step.{rowOf}
 use Rattle.text.specs.Lines.{Put, rowLine}
 use Rattle.record.specs.declared.Cursor.{Cursor}
-use Rattle.record.specs.declared.Numbers.{Numbers}
+use Rattle.limits.specs.declared.Parameters as limits
 use Rattle.record.specs.declared.Read.{Read}
 use Rattle.record.proofs.Read.{the-type}
 use Rattle.record.specs.declared.Read.the-variants.{Version, Parameters, Packet, End, More, Refused}
@@ -86,7 +86,7 @@ module _ (w : List ℕ) (last : Bool) where
         → unopenedOf r ≡ beginOf w last
     begins-no-first r k e = first-not r k ∙ ap firstBy (sym e) ∙ sym begins-then
 
-    pub begins-first : {x : Numbers} {d : Cursor} → pieceOf (c .at) (drop 1 w) last ≡ Parameters x d → readyOf x d ≡ beginOf w last
+    pub begins-first : {x : limits.Parameters} {d : Cursor} → pieceOf (c .at) (drop 1 w) last ≡ Parameters x d → readyOf x d ≡ beginOf w last
     begins-first e = ap firstBy (sym e) ∙ sym begins-then
 
 -- the answers as they were read

@@ -13,10 +13,11 @@ use Rattle.laws.specs.Choose.{pick-either, false-true}
 use Rattle.packet.specs.Step.{nothing}
 use Rattle.text.specs.Lines.{refusalLine}
 use Rattle.record.specs.declared.Cursor.{Cursor}
-use Rattle.record.specs.declared.Numbers.{Numbers}
+use Rattle.limits.specs.declared.Parameters as limits
 use Rattle.record.specs.declared.Read.{Read}
 use Rattle.record.specs.declared.Read.the-variants.{Version, Parameters, Packet, End, More, Refused}
-use Rattle.record.specs.Paper.{versionFits, setUpOf, parametersRefusal, packetsIn, read}
+use Rattle.limits.specs.Paper.{setUpRefusal}
+use Rattle.record.specs.Paper.{versionFits, parametersRefusal, packetsIn, read}
 use Rattle.record.specs.Step.{itemOf, pieceOf}
 use Rattle.record.specs.Pieces.{wantsMore, taken}
 use Rattle.record.proofs.Window.{item-within}
@@ -25,12 +26,11 @@ use Rattle.record.proofs.Reading.{second, before, reading-20, reading-stop, rea
 use Rattle.record.proofs.Opening.{SaysVersion, version-says, SaysFirst, first-says}
 use Rattle.timing.specs.declared.SetUp.{SetUp}
 use Rattle.timing.specs.declared.SetUp.the-variants.{Fresh, Refused as Not-Set-Up}
-use Rattle.timing.specs.Step.{rulesOf, freshOf}
+use Rattle.timing.specs.Step.{ofParameters, rulesOf, freshOf}
 use Rattle.timing.specs.Answers.{setUpAs}
 use Rattle.timing.specs.Laws.InRange.{sound-fresh}
 use Rattle.printer.specs.declared.Opened.{Opened}
 use Rattle.printer.specs.declared.Opened.the-variants.{More as Wanting, Refused as Unopened, Ready as Opens}
-use Rattle.report.specs.Paper.{streamOf}
 use Rattle.printer.specs.Paper.{linesOf, outputBy, restOf, outputOf}
 use Rattle.printer.specs.Step.{unopenedOf, readyBy, readyOf, firstBy, versionBy, beginOf}
 use Rattle.printer.specs.Drive.{Stands, restFrom}
@@ -68,12 +68,12 @@ module _ (w v : List ℕ) (last : Bool) (l : last ≡ true → v ≡ []) where
         let s = behind (Refused n o) f refl in
         rw (reading-stop (w ++ v) n (version .0) (before _ _ (omega arith) ∙ s .0) (s .1), s .2)
 
-    module _ {x : Numbers} {d : Cursor} (f : pieceOf (c .at) (drop 1 w) last ≡ Parameters x d) where
+    module _ {x : limits.Parameters} {d : Cursor} (f : pieceOf (c .at) (drop 1 w) last ≡ Parameters x d) where
       here : SaysFirst (drop 1 (w ++ v)) (Parameters x d)
       here = behind (Parameters x d) f refl
 
-      refusal-is : parametersRefusal (drop 1 (w ++ v)) ≡ setUpOf x
-      refusal-is = second _ _ (here .0) ∙ ap setUpOf (sym (here .1))
+      refusal-is : parametersRefusal (drop 1 (w ++ v)) ≡ setUpRefusal x
+      refusal-is = second _ _ (here .0) ∙ ap setUpRefusal (sym (here .1))
 
       nineteen : 19 ≤ length w
       nineteen =
@@ -81,28 +81,28 @@ module _ (w v : List ℕ) (last : Bool) (l : last ≡ true → v ≡ []) where
           let room : 18 ≤ length (drop 1 w) = subst (λ (r : Read). taken r ≤ length (drop 1 w)) i (item-within (c .at) (drop 1 w) .1) in
           omega (arith, room, length-drop 1 w)
 
-      fresh-tells : setUpOf x ≡ 0 → Tells w v (Opens (record { at = d; state = freshOf (streamOf x) }))
+      fresh-tells : setUpRefusal x ≡ 0 → Tells w v (Opens (record { at = d; state = freshOf (ofParameters x) }))
       unfolding outputOf restOf
       fresh-tells fine =
-          let rules = rulesOf (streamOf x) in
-          let state = freshOf (streamOf x) in
+          let rules = rulesOf (ofParameters x) in
+          let state = freshOf (ofParameters x) in
           let rest = drop 19 (w ++ v) in (
-            record { sound = sound-fresh (streamOf x) fine; offset = here .2 },
+            record { sound = sound-fresh (ofParameters x) fine; offset = here .2 },
             ap outputBy (reading-go (w ++ v) (version .0) (refusal-is ∙ fine))
-                ∙ ap (λ (y : Numbers). outputBy (read y (packetsIn nothing 19 rest))) (sym (here .1))
+                ∙ ap (λ (y : limits.Parameters). outputBy (read y (packetsIn nothing 19 rest))) (sym (here .1))
                 ∙ ap (λ (m : List ℕ). linesOf rules state (packetsIn nothing 19 m)) (drop-append-le 19 w v nineteen)
                 ∙ ap (λ (i : ℕ). linesOf rules state (packetsIn nothing i (drop 19 w ++ v))) (sym (here .2)),
           )
 
-      refused-tells : 0 < setUpOf x → Tells w v (Unopened (setUpOf x) 1)
+      refused-tells : 0 < setUpRefusal x → Tells w v (Unopened (setUpRefusal x) 1)
       unfolding outputOf
-      refused-tells some = ap outputBy (reading-stop (w ++ v) (setUpOf x) (version .0) refusal-is some)
+      refused-tells some = ap outputBy (reading-stop (w ++ v) (setUpRefusal x) (version .0) refusal-is some)
 
-      set-up-tells : Tells w v (readyBy (setUpAs (streamOf x)) d)
+      set-up-tells : Tells w v (readyBy (setUpAs (ofParameters x)) d)
       unfolding setUpAs
       set-up-tells =
-          pick-either (λ (a : SetUp). Tells w v (readyBy a d)) (eqb (setUpOf x) 0)
-          (λ g. fresh-tells (eqb-true (setUpOf x) 0 g)) (λ g. refused-tells (some (setUpOf x) (eqb-false (setUpOf x) 0 g)))
+          pick-either (λ (a : SetUp). Tells w v (readyBy a d)) (eqb (setUpRefusal x) 0)
+          (λ g. fresh-tells (eqb-true (setUpRefusal x) 0 g)) (λ g. refused-tells (some (setUpRefusal x) (eqb-false (setUpRefusal x) 0 g)))
         where
           some : (n : ℕ) → (n ≡ 0 → ⊥) → 0 < n
           some n h = omega arith
@@ -134,9 +134,9 @@ Answered (Unopened number offset) = Unit
 Answered (Opens walk) = Unit
 
 module _ (w : List ℕ) where
-  ready-answered : (x : Numbers) (c : Cursor) → Answered (readyOf x c)
+  ready-answered : (x : limits.Parameters) (c : Cursor) → Answered (readyOf x c)
   unfolding readyOf
-  ready-answered x c = go (setUpAs (streamOf x))
+  ready-answered x c = go (setUpAs (ofParameters x))
     where
       go : (a : SetUp) → Answered (readyBy a c)
       go (Fresh s) = tt

@@ -9,7 +9,7 @@ use lib.ListN.{length, drop, length-drop}
 use Rattle.laws.specs.Choose.{pick-either}
 use Rattle.packet.specs.Step.{refusalOf}
 use Rattle.record.specs.declared.Cursor.{Cursor}
-use Rattle.record.specs.declared.Numbers.{Numbers}
+use Rattle.limits.specs.declared.Parameters as limits
 use Rattle.record.specs.declared.Read.{Read}
 use Rattle.record.specs.declared.Read.the-variants.{Version, Parameters, Packet, End, More, Refused}
 use Rattle.record.specs.Step.{pieceOf}
@@ -18,11 +18,10 @@ use Rattle.record.proofs.Window.{item-within}
 use Rattle.timing.specs.declared.Rules.{Rules}
 use Rattle.timing.specs.declared.SetUp.{SetUp}
 use Rattle.timing.specs.declared.SetUp.the-variants.{Fresh, Refused as Not-Set-Up}
-use Rattle.timing.specs.Step.{rulesOf}
+use Rattle.timing.specs.Step.{ofParameters, rulesOf}
 use Rattle.timing.specs.Range.{inRange}
 use Rattle.timing.specs.Answers.{setUpAs}
 use Rattle.printer.specs.declared.Walk.{Walk}
-use Rattle.report.specs.Paper.{streamOf}
 use Rattle.printer.specs.Step.{Took, unopenedOf, readyBy, readyOf, firstBy, versionBy, beginOf, Headed, packetOf}
 use Rattle.printer.specs.Step.{stepped, linesAt, itemBy, walkBy, takeOf}
 use Rattle.printer.proofs.Answers.{piece-item}
@@ -66,9 +65,9 @@ take-inside walk w last room =
 
 -- a walk begins where the window shows the version byte and the parameters
 
-ready-headed : (x : Numbers) (c : Cursor) (bytes : ℕ) → 19 ≤ bytes → Headed (readyOf x c) bytes
+ready-headed : (x : limits.Parameters) (c : Cursor) (bytes : ℕ) → 19 ≤ bytes → Headed (readyOf x c) bytes
 unfolding readyOf
-ready-headed x c bytes h = go (setUpAs (streamOf x))
+ready-headed x c bytes h = go (setUpAs (ofParameters x))
   where
     go : (a : SetUp) → Headed (readyBy a c) bytes
     go (Fresh s) = h

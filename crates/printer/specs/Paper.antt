@@ -4,13 +4,12 @@ use Prim.Native.Nat.{ℕ}
 use Rattle.frame.specs.declared.Row.{Row}
 use Rattle.text.specs.Lines.{rowLine, summaryLine, refusalLine}
 use Rattle.record.specs.Paper.{Ending, done, stopped, Packets, packetsIn, Reading, unread, read, readingOf}
-use Rattle.report.specs.Paper.{streamOf}
 use Rattle.timing.specs.declared.Rules.{Rules}
 use Rattle.timing.specs.declared.State.{State}
 use Rattle.timing.specs.declared.Judged.{Judged}
 use Rattle.timing.specs.declared.Judged.the-variants.{Given, Refused as Not-Judged}
 use Rattle.timing.specs.Answers.{verdictOf}
-use Rattle.timing.specs.Step.{rulesOf, freshOf, stateAfter, rowsAfter}
+use Rattle.timing.specs.Step.{ofParameters, rulesOf, freshOf, stateAfter, rowsAfter}
 
 -- "It prints `frame` and the ten numbers of each row as it closes"
 unfoldable pub rowLines : List Row → List ℕ
@@ -41,7 +40,7 @@ restOf rules s at l = linesOf rules s (packetsIn (s .past) at l)
 
 abbrev pub outputBy : Reading → List ℕ
 outputBy (unread number offset) = refusalLine number offset
-outputBy (read numbers r) = linesOf (rulesOf (streamOf numbers)) (freshOf (streamOf numbers)) r
+outputBy (read numbers r) = linesOf (rulesOf (ofParameters numbers)) (freshOf (ofParameters numbers)) r
 
 -- "`vtiming` reads a file on standard input": its whole output
 unfoldable pub outputOf : List ℕ → List ℕ

@@ -12,7 +12,7 @@ use Rattle.packet.specs.Step.{refusalOf}
 use Rattle.frame.specs.Range.{Planned, Rowable}
 use Rattle.text.specs.Lines.{refusalLine}
 use Rattle.record.specs.declared.Cursor.{Cursor}
-use Rattle.record.specs.declared.Numbers.{Numbers}
+use Rattle.limits.specs.declared.Parameters as limits
 use Rattle.record.specs.declared.Read.{Read}
 use Rattle.record.specs.declared.Read.the-variants.{Version, Parameters, Packet, End, More, Refused}
 use Rattle.record.specs.Step.{pieceOf}
@@ -21,14 +21,13 @@ use Rattle.timing.specs.declared.Rules.{Rules}
 use Rattle.timing.specs.declared.State.{State}
 use Rattle.timing.specs.declared.SetUp.{SetUp}
 use Rattle.timing.specs.declared.SetUp.the-variants.{Fresh, Refused as Not-Set-Up}
-use Rattle.timing.specs.Step.{rulesOf, stepOf, rowsOf}
+use Rattle.timing.specs.Step.{ofParameters, rulesOf, stepOf, rowsOf}
 use Rattle.timing.specs.Range.{inRange, Sound}
 use Rattle.timing.specs.Answers.{setUpAs}
 use Rattle.printer.specs.declared.Walk.{Walk}
 use Rattle.printer.specs.declared.Taken.{Taken}
 use Rattle.printer.specs.declared.Opened.{Opened}
 use Rattle.printer.specs.declared.Opened.the-variants.{More as Wanting, Refused as Unopened, Ready as Opens}
-use Rattle.report.specs.Paper.{streamOf}
 use Rattle.printer.specs.Paper.{rowLines, sumLine}
 
 -- ---- the start of a file
@@ -45,8 +44,8 @@ abbrev pub readyBy : SetUp → Cursor → Opened
 readyBy (Fresh s) c = Opens (record { at = c; state = s })
 readyBy (Not-Set-Up number) c = Unopened number 1
 
-unfoldable pub readyOf : Numbers → Cursor → Opened
-readyOf x c = readyBy (setUpAs (streamOf x)) c
+unfoldable pub readyOf : limits.Parameters → Cursor → Opened
+readyOf x c = readyBy (setUpAs (ofParameters x)) c
 
 -- what stands first after the version byte, and what stands at the version byte
 abbrev pub firstBy : Read → Opened

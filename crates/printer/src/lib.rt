@@ -11,14 +11,15 @@ ghost use Rattle.record.specs.Pieces.{wantsMore};
 ghost use Rattle.timing.specs.Feed.{closing};
 ghost use Rattle.printer.specs.Paper.{rowLines, sumLine};
 ghost use Rattle.printer.specs.Step.{unopenedOf, readyOf, beginOf, lineOf, stopsAt, walkOf, takeOf, Closes, Ready, Takes};
+use limits::Parameters;
 use record::Cursor;
-use record::Numbers;
 use record::Read;
 use text::LINE;
 use timing::Judged;
 use timing::Rules;
 use timing::SetUp;
 use timing::State;
+use timing::StreamNumbers;
 
 // A packet's record, its length included.
 const PACKET: usize = 16;
@@ -59,10 +60,13 @@ fn unopened(item: Read) -> Opened
 }
 
 // The parameters stand at offset 1, and so does what set-up refuses.
-fn ready(numbers: Numbers, next: Cursor) -> Opened
+fn ready(numbers: Parameters, next: Cursor) -> Opened
     ensures { λ r. ⌜ r ≡ readyOf numbers next ⌝ }
 {
-    match report::stream(numbers).set_up() {
+    let stream = StreamNumbers {
+        parameters: numbers,
+    };
+    match stream.set_up() {
         SetUp::Fresh(state) => Opened::Ready(Walk { at: next, state }),
         SetUp::Refused(number) => Opened::Refused {
             number: number,

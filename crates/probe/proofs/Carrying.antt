@@ -13,13 +13,15 @@ use Rattle.laws.specs.Fold.{fold}
 use Rattle.laws.specs.Lay.{laid, laid-is}
 use Rattle.packet.specs.Paper.{Packet, marked}
 use Rattle.frame.specs.Step as F
+use Rattle.timing.specs.declared.StreamNumbers.{StreamNumbers}
+use Rattle.limits.specs.Steps.{ParametersHeld}
 use Rattle.timing.specs.declared.Rules.{Rules}
 use Rattle.timing.specs.declared.State.{State}
 use Rattle.timing.specs.Step.{arriveOf, markOf, stepOf, stateAfter}
 use Rattle.timing.specs.Laws.Running.{step-numbers}
 use Rattle.probe.specs.declared.Held.the-variants.{Known}
 use Rattle.probe.specs.Words.{wordsOf, heldBy}
-use Rattle.probe.proofs.RoundTrip.{Fits, Narrow, length-words, words-hold}
+use Rattle.probe.proofs.RoundTrip.{Narrow, length-words, words-hold}
 
 -- ---- what is narrow stays narrow
 
@@ -48,7 +50,7 @@ stamp-step rules s p h k = go (marked p)
 
 pub narrow-step : (rules : Rules) (s : State) (p : Packet) → p .stamp < 4294967296 → Narrow s → Narrow (stepOf rules s p)
 narrow-step rules s p h f = record {
-  numbers = subst Fits (sym (step-numbers rules s p)) (f .numbers);
+  numbers = subst (λ (x : StreamNumbers). ParametersHeld (x .parameters)) (sym (step-numbers rules s p)) (f .numbers);
   stamp = stamp-step rules s p h (f .stamp);
 }
 

@@ -16,7 +16,9 @@ use Rattle.frame.specs.declared.Buffer.the-variants.{None, Under, Over, Pass as
 use Rattle.frame.specs.Paper.{bufferNumber, bufferFrame, bufferPlace}
 use Rattle.timing.specs.declared.StreamNumbers.{StreamNumbers}
 use Rattle.timing.specs.declared.State.{State}
-use Rattle.timing.specs.Step.{streamWith}
+use Rattle.limits.specs.declared.Parameters.{Parameters}
+use Rattle.limits.specs.Paper.{given}
+use Rattle.limits.specs.Steps.{ParametersHeld}
 use Rattle.probe.specs.declared.Held.the-variants.{Known, Nothing}
 use Rattle.probe.specs.Words.{flagOf, wordsOf, networkIn, bufferIn, stateIn, same, heldBy}
 use Rattle.probe.proofs.Alike.{alike, alike-only, unequal}
@@ -49,19 +51,9 @@ too-few words h =
 
 -- ---- reading undoes writing
 
--- stream numbers that fit the types that they have
-pub record Fits (x : StreamNumbers) : Type 0 where
-  pub rate : x .rate < 256
-  pub schedule : x .schedule < 256
-  pub class : x .class < 256
-  pub height : x .height < 65536
-  pub n : x .n < 4294967296
-  pub maxudp : x .maxudp < 65536
-  pub tro : x .tro < 4294967296
-
 -- a state whose numbers fit, those that have fewer than 64 bits
 pub record Narrow (s : State) : Type 0 where
-  pub numbers : Fits (s .numbers)
+  pub numbers : ParametersHeld (s .numbers .parameters)
   pub stamp : s .frames .current .stamp < 4294967296
 
 network-again : (x : Network) → networkIn (networkNumber x) (networkFirst x) (networkLast x) ≡ x
@@ -78,9 +70,11 @@ flag-again : (b : Bool) → eqb (flagOf b) 1 ≡ b
 flag-again true = refl
 flag-again false = refl
 
-numbers-again : (x : StreamNumbers) → Fits x → streamWith (x .rate % 256) (x .schedule % 256) (x .class % 256) (x .height % 65536)
-    (x .n % 4294967296) (x .maxudp % 65536) (x .tro % 4294967296) ≡ x
-numbers-again x f =
+numbers-again : (p : Parameters) → ParametersHeld p
+    → given (p .rate % 256) (p .schedule % 256) (p .class % 256) (p .height % 65536) (p .n % 4294967296) (p .maxudp % 65536)
+    (p .tro % 4294967296)
+    ≡ p
+numbers-again p f =
     rw (
       mod-eq-of-lt (f .rate),
       mod-eq-of-lt (f .schedule),
@@ -95,7 +89,7 @@ read-again : (s : State) → Narrow s → stateIn (wordsOf s) ≡ s
 unfolding stateIn wordsOf
 read-again s f =
     rw (
-      numbers-again (s .numbers) (f .numbers),
+      numbers-again (s .numbers .parameters) (f .numbers),
       mod-eq-of-lt (f .stamp),
       network-again (s .bucket .network),
       buffer-again (s .frames .buffer),

@@ -13,6 +13,7 @@ use Rattle.laws.specs.Choose.{pick}
 use Rattle.laws.specs.Lay.{laid}
 use Rattle.packet.specs.declared.Scanned.the-variants.{Fine}
 use Rattle.packet.specs.Paper.{Packet, OneLength, packets, declared}
+use Rattle.limits.specs.Steps.{ParametersHeld}
 use Rattle.timing.specs.declared.StreamNumbers.{StreamNumbers}
 use Rattle.timing.specs.declared.State.{State}
 use Rattle.timing.specs.declared.Fed.{Fed}
@@ -27,14 +28,14 @@ use Rattle.probe.specs.declared.Held.{Held}
 use Rattle.probe.specs.declared.Held.the-variants.{Known, Nothing}
 use Rattle.probe.specs.Words.{heldBy}
 use Rattle.probe.specs.Calls.{wordsNumber, setUpLeft, Told, refused, accepted, byFed, byHeld, callOf}
-use Rattle.probe.proofs.RoundTrip.{Fits, Narrow}
+use Rattle.probe.proofs.RoundTrip.{Narrow}
 use Rattle.probe.proofs.Calls.{enough-words}
 use Rattle.probe.proofs.Carrying.{Stamped, narrow-after, laid-hold}
 
 -- ---- set-up
 
 -- the words that set-up leaves hold the fresh state
-pub set-up-holds : (x : StreamNumbers) (words : List ℕ) → Fits x → setUpOf x ≡ 0 → 32 ≤ length words
+pub set-up-holds : (x : StreamNumbers) (words : List ℕ) → ParametersHeld (x .parameters) → setUpOf x ≡ 0 → 32 ≤ length words
     → (wordsNumber x (length words) ≡ 0) × (heldBy (take 32 (setUpLeft x words)) ≡ Known (freshOf x))
 unfolding wordsNumber setUpLeft
 set-up-holds x words f e h =
@@ -151,7 +152,7 @@ carried (c ∷ cs) s t words written (call {t = mid} {more = more} g rest) w f e
 -- "An accepted list of packets dealt out in order over any calls gives the rows, end state and verdicts of one call with the whole list.":
 -- from the words that set-up leaves, each call is accepted, what they write to the rows is the one call's, and the words at the end hold
 -- its state
-pub dealt-over-c-calls : (x : StreamNumbers) → Fits x → (set-up : setUpOf x ≡ 0) (l : List Packet) (closed : ℕ)
+pub dealt-over-c-calls : (x : StreamNumbers) → ParametersHeld (x .parameters) → (set-up : setUpOf x ≡ 0) (l : List Packet) (closed : ℕ)
     → declared l ≡ Fine closed → (words : List ℕ) → 32 ≤ length words
     → (cs : List Lent) → AllWhole cs → allOf (map asCall cs) ≡ l → Rooms (freshOf x) (map asCall cs)
     → (end : List ℕ) × Dealt (setUpLeft x words) cs end (numbers (rowsAfter (rulesOf x) (freshOf x) l))

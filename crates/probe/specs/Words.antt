@@ -16,7 +16,8 @@ use Rattle.frame.specs.declared.Buffer.the-variants.{None, Under, Over, Pass as
 use Rattle.frame.specs.Paper.{bufferNumber, bufferFrame, bufferPlace}
 use Rattle.timing.specs.declared.StreamNumbers.{StreamNumbers}
 use Rattle.timing.specs.declared.State.{State}
-use Rattle.timing.specs.Step.{streamWith}
+use Rattle.limits.specs.Paper.{given}
+use Rattle.timing.specs.Step.{ofParameters}
 use Rattle.probe.specs.declared.Held.{Held}
 use Rattle.probe.specs.declared.Held.the-variants.{Known, Nothing}
 
@@ -40,13 +41,13 @@ verdictWords s =
 -- a number as itself, a bool as 0 or 1, an answer as its three numbers
 unfoldable pub wordsOf : State → List ℕ
 wordsOf s =
-    s .numbers .rate
-    ∷ s .numbers .schedule
-    ∷ s .numbers .class
-    ∷ s .numbers .height
-    ∷ s .numbers .n
-    ∷ s .numbers .maxudp
-    ∷ s .numbers .tro
+    s .numbers .parameters .rate
+    ∷ s .numbers .parameters .schedule
+    ∷ s .numbers .parameters .class
+    ∷ s .numbers .parameters .height
+    ∷ s .numbers .parameters .n
+    ∷ s .numbers .parameters .maxudp
+    ∷ s .numbers .parameters .tro
     ∷ s .past .packets
     ∷ s .past .first
     ∷ s .past .last
@@ -92,8 +93,8 @@ module _ (w : List ℕ) where
 
   abbrev pub numbersIn : StreamNumbers
   numbersIn =
-      streamWith (word 0 % 256) (word 1 % 256) (word 2 % 256) (word 3 % 65536) (word 4 % 4294967296) (word 5 % 65536)
-      (word 6 % 4294967296)
+      ofParameters (given (word 0 % 256) (word 1 % 256) (word 2 % 256) (word 3 % 65536) (word 4 % 4294967296) (word 5 % 65536)
+      (word 6 % 4294967296))
 
   abbrev pub bucketIn : Bucket
   bucketIn = record { level = word 10; start = word 11; peak = word 12; network = networkIn (word 13) (word 14) (word 15) }

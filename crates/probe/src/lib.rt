@@ -6,7 +6,8 @@ ghost use mathlib.Core.Bool.{true};
 ghost use Prim.Native.Nat.{_≤_};
 ghost use lib.ListN.{length, take};
 ghost use Rattle.laws.specs.Lay.{laid};
-ghost use Rattle.timing.specs.Step.{streamWith};
+ghost use Rattle.limits.specs.Paper.{given};
+ghost use Rattle.timing.specs.Step.{ofParameters};
 ghost use Rattle.timing.specs.Answers.{summaryOf};
 ghost use Rattle.timing.specs.Range.{inRange};
 ghost use Rattle.probe.specs.Words.{flagOf, verdictWords, wordsOf, same as sameOf, heldBy};
@@ -19,6 +20,7 @@ use frame::Buffer;
 use frame::Frame;
 use frame::Frames;
 use frame::Place;
+use limits::Parameters;
 use packet::Past;
 use packet::Scanned;
 use timing::Fed;
@@ -77,14 +79,15 @@ fn words_of(s: State) -> [u64; WORDS]
     ensures { λ r. ⌜ r ≡ wordsOf s ⌝ }
 {
     let verdict = verdict_words(s);
+    let told = s.numbers.parameters;
     [
-        s.numbers.rate as u64,
-        s.numbers.schedule as u64,
-        s.numbers.class as u64,
-        s.numbers.height as u64,
-        s.numbers.n as u64,
-        s.numbers.maxudp as u64,
-        s.numbers.tro as u64,
+        told.rate as u64,
+        told.schedule as u64,
+        told.class as u64,
+        told.height as u64,
+        told.n as u64,
+        told.maxudp as u64,
+        told.tro as u64,
         s.past.packets,
         s.past.first,
         s.past.last,
@@ -117,7 +120,7 @@ fn numbers_in(words: &[u64]) -> StreamNumbers
     requires { ⌜ 32 ≤ length (now words) ⌝ }
     ensures { λ r. ⌜ r ≡ numbersIn (now (words .entry)) ⌝ }
 {
-    StreamNumbers {
+    let told = Parameters {
         rate: (words[0] % 256) as u8,
         schedule: (words[1] % 256) as u8,
         class: (words[2] % 256) as u8,
@@ -125,7 +128,8 @@ fn numbers_in(words: &[u64]) -> StreamNumbers
         n: (words[4] % 4294967296) as u32,
         maxudp: (words[5] % 65536) as u16,
         tro: (words[6] % 4294967296) as u32,
-    }
+    };
+    StreamNumbers { parameters: told }
 }
 
 fn network_in(number: u64, first: u64, last: u64) -> Network
@@ -331,9 +335,9 @@ pub extern "C" fn vtiming_set_up(
     tro: u32,
     state: &mut [u64],
 ) -> u32
-    ensures { λ r. ⌜ SetsUp (streamWith rate schedule class height n maxudp tro) (now (state .entry)) r (now (state .exit)) ⌝ }
+    ensures { λ r. ⌜ SetsUp (ofParameters (given rate schedule class height n maxudp tro)) (now (state .entry)) r (now (state .exit)) ⌝ }
 {
-    let numbers = StreamNumbers {
+    let told = Parameters {
         rate,
         schedule,
         class,
@@ -342,6 +346,7 @@ pub extern "C" fn vtiming_set_up(
         maxudp,
         tro,
     };
+    let numbers = StreamNumbers { parameters: told };
     let number = numbers.refusal();
     if number != 0 {
         return number as u32;

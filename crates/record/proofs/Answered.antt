@@ -16,10 +16,11 @@ use Rattle.packet.specs.declared.Past.{Past}
 use Rattle.packet.specs.Paper as Paper
 use Rattle.packet.specs.Step.{nothing, nextOf, numberOf}
 use Rattle.packet.specs.Calls.{pastAfter}
-use Rattle.record.specs.declared.Numbers.{Numbers}
+use Rattle.limits.specs.declared.Parameters as limits
 use Rattle.record.specs.declared.Read.{Read}
 use Rattle.record.specs.declared.Read.the-variants.{Version, Parameters, Packet, End, Refused}
-use Rattle.record.specs.Paper.{versionFits, numbersAt, packetAt, formatRefusal, setUpOf, parametersRefusal, packetRefusal}
+use Rattle.limits.specs.Paper.{setUpRefusal}
+use Rattle.record.specs.Paper.{versionFits, parametersAt, packetAt, formatRefusal, parametersRefusal, packetRefusal}
 use Rattle.record.specs.Paper.{Ending, done, stopped, Packets, packetsIn, Reading, unread, read, readingOf, file, endedFile, asFile}
 use Rattle.record.specs.Step.{cursor, after, packetOf, recordOf, ended, itemOf}
 use Rattle.record.specs.Pieces.{goesOn, nextAt, taken, callsOf, answers, toldPackets, told, StopsAt, Then, AnsweredBy, Answered}
@@ -132,7 +133,7 @@ packets-told (suc j) past at l b o w =
 -- ---- from the first byte
 
 -- version and parameters in front of the packets
-told-from : (numbers : Numbers) (ps : List Paper.Packet) (e : Ending) (l : List Read) → Tells nothing 19 ps e l
+told-from : (numbers : limits.Parameters) (ps : List Paper.Packet) (e : Ending) (l : List Read) → Tells nothing 19 ps e l
     → AnsweredBy numbers ps e (Version (cursor 1) ∷ Parameters numbers (cursor 19) ∷ l)
 told-from numbers ps done l t = ap (λ (r : List Read). Version (cursor 1) ∷ Parameters numbers (cursor 19) ∷ r) t
 told-from numbers ps (stopped n o) l t =
@@ -166,32 +167,32 @@ module _ (s : List ℕ) (j : ℕ) (w : length s < 2 ^ 64) (h : length s < j) whe
       where
         go : Dec (formatRefusal 1 l ≡ 0) → Answered (readingOf s) all
         go (yes f) =
-            let number = second (formatRefusal 1 l) (setUpOf (numbersAt l)) f in
+            let number = second (formatRefusal 1 l) (setUpRefusal (parametersAt l)) f in
             let here = parameters-here l f in
-            first-stops (setUpOf (numbersAt l)) (Parameters (numbersAt l) (cursor 19)) number (omega (arith, number, r))
+            first-stops (setUpRefusal (parametersAt l)) (Parameters (parametersAt l) (cursor 19)) number (omega (arith, number, r))
             (item-parameters 1 l (omega arith) (omega (arith, here .eighteen)) f refl)
             (record { number-is = refl; offset-is = refl; own = λ q. absurd (omega arith) })
         go (no f) =
             first-stops (formatRefusal 1 l) (Refused (formatRefusal 1 l) 1)
-            (before (formatRefusal 1 l) (setUpOf (numbersAt l)) (omega arith)) (omega arith)
+            (before (formatRefusal 1 l) (setUpRefusal (parametersAt l)) (omega arith)) (omega arith)
             (item-refused-1 (formatRefusal 1 l) 1 l refl refl (omega arith))
             (record { number-is = refl; offset-is = refl; own = λ q. refl })
 
     first-fine : parametersRefusal l ≡ 0 → Answered (readingOf s) all
     first-fine z =
-        let f = neither (formatRefusal 1 l) (setUpOf (numbersAt l)) z .0 in
+        let f = neither (formatRefusal 1 l) (setUpRefusal (parametersAt l)) z .0 in
         let here = parameters-here l f in
         let r = packetsIn nothing 19 (drop 19 s) in
         let size : length l ≡ length s - 1 = length-drop 1 s in
         let rest : length (drop 19 s) ≡ length s - 19 = length-drop 19 s in
         let packets = packets-told j nothing 19 (drop 19 s) (omega (arith, rest)) (omega arith)
         (omega (arith, rest, size, here .eighteen)) in
-        let calls : all ≡ Version (cursor 1) ∷ Parameters (numbersAt l) (cursor 19) ∷ answers j 19 (drop 19 s) =
+        let calls : all ≡ Version (cursor 1) ∷ Parameters (parametersAt l) (cursor 19) ∷ answers j 19 (drop 19 s) =
         from-version (item-parameters 1 l (omega arith) (omega (arith, here .eighteen)) f refl)
-        ∙ ap (λ (q : List ℕ). Version (cursor 1) ∷ Parameters (numbersAt l) (cursor 19) ∷ answers j 19 q) (drop-drop 18 1 s) in
+        ∙ ap (λ (q : List ℕ). Version (cursor 1) ∷ Parameters (parametersAt l) (cursor 19) ∷ answers j 19 q) (drop-drop 18 1 s) in
         subst (λ (q : Reading). Answered q all) (sym (reading-go s v z))
-        (subst (AnsweredBy (numbersAt l) (r .accepted) (r .ending)) (sym calls)
-        (told-from (numbersAt l) (r .accepted) (r .ending) _ packets))
+        (subst (AnsweredBy (parametersAt l) (r .accepted) (r .ending)) (sym calls)
+        (told-from (parametersAt l) (r .accepted) (r .ending) _ packets))
 
   rest-answers : Answered (readingOf s) all
   rest-answers = go (versionFits s) refl (ℕ-discrete (parametersRefusal l) 0)
@@ -245,7 +246,7 @@ pub reader-answers : (s : List ℕ) (j : ℕ) → length s < 2 ^ 64 → length s
 reader-answers s j w h = subst (Answered (readingOf s)) (sym (calls-along (suc (suc j)) 0 s (omega arith) w)) (rest-answers s j w h)
 
 -- of an accepted file there is nothing but the records and the end
-pub answered-file : (r : Reading) (l : List Read) (s : Numbers) (ps : List Paper.Packet) → asFile r ≡ file s ps → Answered r l
+pub answered-file : (r : Reading) (l : List Read) (s : limits.Parameters) (ps : List Paper.Packet) → asFile r ≡ file s ps → Answered r l
     → l ≡ told s ps ++ (End ∷ [])
 answered-file (unread n zero) l s ps e a = absurd (refused-file n 0 s ps e)
 answered-file (unread n (suc o)) l s ps e a = absurd (refused-file n (suc o) s ps e)

@@ -8,10 +8,11 @@ use lib.Seq.{take-at, drop-at, drop-drop, length-take-le}
 use Rattle.endian.specs.Number.{numberAt, bytesOf, Bytes}
 use Rattle.endian.proofs.Width.{length-bytes, number-bytes, bytes-number, number-byte}
 use Rattle.packet.specs.Paper.{Packet}
-use Rattle.record.specs.declared.Numbers.{Numbers}
-use Rattle.record.specs.Paper.{bodyLength, kindOf, numbersAt, packetAt}
+use Rattle.limits.specs.declared.Parameters.{Parameters}
+use Rattle.record.specs.Paper.{bodyLength, kindOf, parametersAt, packetAt}
 use Rattle.record.specs.Layout.{laid, fields, total, Fit, parameterWidths, parameterFields, packetWidths, packetFields}
-use Rattle.record.specs.Layout.{parameterRecord, packetRecord, NumbersHeld}
+use Rattle.limits.specs.Steps.{ParametersHeld}
+use Rattle.record.specs.Layout.{parameterRecord, packetRecord}
 
 -- bytes, in front and behind
 pub bytes-all : (l : List ℕ) → ((i : ℕ) → getD l i 0 < 256) → Bytes l
@@ -72,8 +73,8 @@ packet-fields l = fields-at packetWidths l 0 ∙ rw (number-byte l 2, number-byt
 
 parameter-fields : (l : List ℕ)
     → fields parameterWidths l
-    ≡ bodyLength l ∷ kindOf l ∷ numbersAt l .rate ∷ numbersAt l .schedule ∷ numbersAt l .class
-    ∷ numbersAt l .height ∷ numbersAt l .n ∷ numbersAt l .maxudp ∷ numbersAt l .tro ∷ []
+    ≡ bodyLength l ∷ kindOf l ∷ parametersAt l .rate ∷ parametersAt l .schedule ∷ parametersAt l .class
+    ∷ parametersAt l .height ∷ parametersAt l .n ∷ parametersAt l .maxudp ∷ parametersAt l .tro ∷ []
 parameter-fields l =
     fields-at parameterWidths l 0 ∙ rw (number-byte l 2, number-byte l 3, number-byte l 4, number-byte l 5)
 
@@ -93,24 +94,24 @@ packet-back p rest f =
     let e-marker : packetAt l .marker ≡ p .marker = cc in
     record { body-14 = cc; kind-2 = cc; same = λ j. record { time = e-time j; stamp = e-stamp j; marker = e-marker j } }
 
-pub record ParametersBack (s : Numbers) (l : List ℕ) : Type 0 where
+pub record ParametersBack (s : Parameters) (l : List ℕ) : Type 0 where
   pub body-16 : bodyLength l ≡ 16
   pub kind-1 : kindOf l ≡ 1
-  pub same : numbersAt l ≡ s
+  pub same : parametersAt l ≡ s
 
-pub parameters-back : (s : Numbers) (rest : List ℕ) → NumbersHeld s → ParametersBack s (parameterRecord s ++ rest)
+pub parameters-back : (s : Parameters) (rest : List ℕ) → ParametersHeld s → ParametersBack s (parameterRecord s ++ rest)
 parameters-back s rest h =
     let l = parameterRecord s ++ rest in
     let f : Fit parameterWidths (parameterFields s)
     = (omega arith, (omega arith, (h .rate, (h .schedule, (h .class, (h .height, (h .n, (h .maxudp, (h .tro, tt))))))))) in
     let e = sym (parameter-fields l) ∙ fields-laid parameterWidths (parameterFields s) rest f in
-    let e1 : numbersAt l .rate ≡ s .rate = cc in
-    let e2 : numbersAt l .schedule ≡ s .schedule = cc in
-    let e3 : numbersAt l .class ≡ s .class = cc in
-    let e4 : numbersAt l .height ≡ s .height = cc in
-    let e5 : numbersAt l .n ≡ s .n = cc in
-    let e6 : numbersAt l .maxudp ≡ s .maxudp = cc in
-    let e7 : numbersAt l .tro ≡ s .tro = cc in
+    let e1 : parametersAt l .rate ≡ s .rate = cc in
+    let e2 : parametersAt l .schedule ≡ s .schedule = cc in
+    let e3 : parametersAt l .class ≡ s .class = cc in
+    let e4 : parametersAt l .height ≡ s .height = cc in
+    let e5 : parametersAt l .n ≡ s .n = cc in
+    let e6 : parametersAt l .maxudp ≡ s .maxudp = cc in
+    let e7 : parametersAt l .tro ≡ s .tro = cc in
     record {
       body-16 = cc;
       kind-1 = cc;
@@ -124,6 +125,6 @@ packet-again l b h e k =
     rw (packet-fields l, e, k) at (laid-fields packetWidths l b h)
 
 pub parameters-again : (l : List ℕ) → Bytes l → 18 ≤ length l → bodyLength l ≡ 16 → kindOf l ≡ 1
-    → parameterRecord (numbersAt l) ++ drop 18 l ≡ l
+    → parameterRecord (parametersAt l) ++ drop 18 l ≡ l
 parameters-again l b h e k =
     rw (parameter-fields l, e, k) at (laid-fields parameterWidths l b h)

@@ -11,7 +11,7 @@ use lib.Seq.{take-all, drop-length}
 use borrow.Author.Tests.{lt-ltb, le-ltb, le-leb, lt-leb, eq-eqb, ne-eqb}
 use Rattle.laws.specs.Choose.{pick}
 use Rattle.record.specs.declared.Read.the-variants.{Version, Parameters, End, More, Refused}
-use Rattle.record.specs.Paper.{bodyLength, kindOf, kindLength, numbersAt, formatRefusal}
+use Rattle.record.specs.Paper.{bodyLength, kindOf, kindLength, parametersAt, formatRefusal}
 use Rattle.record.specs.Step.{cursor, after, packetOf, itemOf, enough, pieceOf, scrapOf, Whole}
 use Rattle.record.proofs.Format.{lone-23, scrap-21, nought-21, short-21, kind-22, first-23, again-23, first-0, packet-0}
 
@@ -57,14 +57,14 @@ not-ended false = refl
 module _ (at : ℕ) (l : List ℕ) (h : 0 < at) (s : 0 < length l) where
   item-format : itemOf at l
       ≡ pick (eqb (formatRefusal at l) 0)
-      (pick (eqb at 1) (Parameters (numbersAt l) (cursor 19)) (packetOf l (after at 16))) (Refused (formatRefusal at l) at)
+      (pick (eqb at 1) (Parameters (parametersAt l) (cursor 19)) (packetOf l (after at 16))) (Refused (formatRefusal at l) at)
   unfolding itemOf
   item-format = rw (ne-eqb at 0 (λ z. omega arith), ne-eqb (length l) 0 (λ z. omega arith), not-ended (not (eqb at 1)))
 
   pub item-refused : (n : ℕ) → formatRefusal at l ≡ n → 0 < n → itemOf at l ≡ Refused n at
   item-refused n f p = item-format ∙ rw (f, ne-eqb n 0 (λ z. omega arith))
 
-  pub item-parameters : formatRefusal at l ≡ 0 → at ≡ 1 → itemOf at l ≡ Parameters (numbersAt l) (cursor 19)
+  pub item-parameters : formatRefusal at l ≡ 0 → at ≡ 1 → itemOf at l ≡ Parameters (parametersAt l) (cursor 19)
   item-parameters f e = item-format ∙ rw (eq-eqb (formatRefusal at l) 0 f, eq-eqb at 1 e)
 
   pub item-packet : formatRefusal at l ≡ 0 → (at ≡ 1 → ⊥) → itemOf at l ≡ packetOf l (after at 16)
@@ -174,7 +174,7 @@ module _ {at body : ℕ} {l : List ℕ} (w : Whole at body l) where
     pub whole-again-23 : (at ≡ 1 → ⊥) → kindOf l ≡ 1 → itemOf at l ≡ Refused 23 at
     whole-again-23 n e = item-refused at l (w .past-version) (omega arith) 23 (again-23 w fits n e) (omega arith)
 
-    pub whole-parameters : at ≡ 1 → kindOf l ≡ 1 → itemOf at l ≡ Parameters (numbersAt l) (cursor 19)
+    pub whole-parameters : at ≡ 1 → kindOf l ≡ 1 → itemOf at l ≡ Parameters (parametersAt l) (cursor 19)
     whole-parameters e k = item-parameters at l (w .past-version) (omega arith) (first-0 w fits e k) e
 
     pub whole-packet : (at ≡ 1 → ⊥) → (kindOf l ≡ 1 → ⊥) → itemOf at l ≡ packetOf l (after at 16)

@@ -4,12 +4,12 @@ use mathlib.Core.List.{List}
 use Prim.Native.Nat.{ℕ}
 use Rattle.laws.specs.Unique.{one-answer}
 use Rattle.packet.specs.Paper.{packets}
-use Rattle.record.specs.declared.Numbers.{Numbers}
+use Rattle.limits.specs.declared.Parameters.{Parameters}
 use Rattle.record.specs.declared.Written.{Written}
 use Rattle.record.specs.Layout.{bytesIn}
 use Rattle.record.specs.Write.{leftBy, Writes}
 
-pub writes-unique : (s : Numbers) (ts ss ms out : List ℕ) (a b : Written) (p q : List ℕ) → Writes s ts ss ms out a p
+pub writes-unique : (s : Parameters) (ts ss ms out : List ℕ) (a b : Written) (p q : List ℕ) → Writes s ts ss ms out a p
     → Writes s ts ss ms out b q → (a ≡ b) × (p ≡ q)
 writes-unique s ts ss ms out a b p q x y =
     let same = one-answer (x .answered) (y .answered) in

@@ -15,13 +15,14 @@ use Rattle.laws.specs.Fold.{fold-states}
 use Rattle.packet.specs.Paper as Paper
 use Rattle.packet.specs.Step.{nothing}
 use Rattle.packet.proofs.Declared.{next-at, begun-at}
-use Rattle.record.specs.declared.Numbers.{Numbers}
+use Rattle.limits.specs.declared.Parameters as limits
 use Rattle.record.specs.declared.Cursor.{Cursor}
 use Rattle.record.specs.declared.Tally.{Tally}
 use Rattle.record.specs.declared.Read.{Read}
 use Rattle.record.specs.declared.Read.the-variants.{Version, Parameters, Packet, End, More, Refused}
 use Rattle.record.specs.declared.Checked.the-variants as answer
-use Rattle.record.specs.Paper.{versionFits, numbersAt, formatRefusal, setUpOf}
+use Rattle.limits.specs.Paper.{setUpRefusal}
+use Rattle.record.specs.Paper.{versionFits, parametersAt, formatRefusal}
 use Rattle.record.specs.Paper.{Ending, done, stopped, Packets, packetsIn, endedFile}
 use Rattle.record.specs.Step.{itemOf}
 use Rattle.record.specs.Walk.{asChecked, checkedOf, fresh, tallied, tallyOf, finishBy, finish, refusedBy}
@@ -39,7 +40,7 @@ unfolding count tallied tallyAt
 tally-declared l =
     fold-states (λ y p. tallied y (p .time) (p .marker)) l Paper.nought (tallyAt l) (λ i h. rw (next-at l i, begun-at l i))
 
-pub finish-checked : (numbers : Numbers) (r : Packets)
+pub finish-checked : (numbers : limits.Parameters) (r : Packets)
     → finish numbers fresh r ≡ asChecked (endedFile numbers (r .accepted) (r .ending))
 unfolding tallyAt
 finish-checked numbers r = go (r .ending)
@@ -63,7 +64,7 @@ version-says s = pick-either (SaysVersion s) (versionFits s) (λ e. (e, refl)) (
 
 abbrev pub SaysFirst : List ℕ → Read → Type 0
 SaysFirst l (Version c) = ⊥
-SaysFirst l (Parameters n c) = (formatRefusal 1 l ≡ 0) × (n ≡ numbersAt l) × (c .at ≡ 19)
+SaysFirst l (Parameters n c) = (formatRefusal 1 l ≡ 0) × (n ≡ parametersAt l) × (c .at ≡ 19)
 SaysFirst l (Packet t stamp marker c) = ⊥
 SaysFirst l End = ⊥
 SaysFirst l More = ⊥
@@ -117,19 +118,19 @@ module _ (s : List ℕ) where
         go More k w = absurd w
         go (Refused n o) k w = rw (reading-stop s n v (before _ _ (omega arith) ∙ w .0) (w .1), w .2)
 
-    module _ {numbers : Numbers} {c : Cursor} (e : itemOf 1 (drop 1 s) ≡ Parameters numbers c) where
+    module _ {numbers : limits.Parameters} {c : Cursor} (e : itemOf 1 (drop 1 s) ≡ Parameters numbers c) where
       here : SaysFirst (drop 1 s) (Parameters numbers c)
       here = subst (SaysFirst (drop 1 s)) e (first-says (drop 1 s))
 
       pub first-next : c .at ≡ 19
       first-next = here .2
 
-      pub first-refused : (n : ℕ) → setUpOf numbers ≡ n → 0 < n → answer.Refused n 1 ≡ checkedOf s
+      pub first-refused : (n : ℕ) → setUpRefusal numbers ≡ n → 0 < n → answer.Refused n 1 ≡ checkedOf s
       unfolding checkedOf
-      first-refused n f p = rw (reading-stop s n v (second _ _ (here .0) ∙ ap setUpOf (sym (here .1)) ∙ f) p)
+      first-refused n f p = rw (reading-stop s n v (second _ _ (here .0) ∙ ap setUpRefusal (sym (here .1)) ∙ f) p)
 
-      pub first-fine : setUpOf numbers ≡ 0 → finish numbers fresh (packetsIn nothing (c .at) (drop (c .at) s)) ≡ checkedOf s
+      pub first-fine : setUpRefusal numbers ≡ 0 → finish numbers fresh (packetsIn nothing (c .at) (drop (c .at) s)) ≡ checkedOf s
       unfolding checkedOf
       first-fine f =
-          rw (reading-go s v (second _ _ (here .0) ∙ ap setUpOf (sym (here .1)) ∙ f), here .2, here .1)
-          (finish-checked (numbersAt (drop 1 s)) (packetsIn nothing 19 (drop 19 s)))
+          rw (reading-go s v (second _ _ (here .0) ∙ ap setUpRefusal (sym (here .1)) ∙ f), here .2, here .1)
+          (finish-checked (parametersAt (drop 1 s)) (packetsIn nothing 19 (drop 19 s)))

@@ -15,11 +15,12 @@ use Rattle.packet.specs.Paper.{Packet, marked, packets, OneLength}
 use Rattle.packet.specs.Step.{nothing, numberOf, nextOf, closes, scanOf}
 use Rattle.packet.proofs.Lent.{packets-length}
 use Rattle.packet.proofs.Turn.{scan-ends, scan-goes, lengths-same}
-use Rattle.record.specs.declared.Numbers.{Numbers}
+use Rattle.limits.specs.declared.Parameters.{Parameters}
 use Rattle.record.specs.declared.Written.{Written}
 use Rattle.record.specs.declared.Written.the-variants.{Done}
 use Rattle.record.specs.Write.{fileLength, Writes}
-use Rattle.record.specs.Paper.{versionFits, kindOf, numbersAt, packetAt, formatRefusal, setUpOf, parametersRefusal, packetRefusal}
+use Rattle.limits.specs.Paper.{setUpRefusal}
+use Rattle.record.specs.Paper.{versionFits, kindOf, parametersAt, packetAt, formatRefusal, parametersRefusal, packetRefusal}
 use Rattle.record.specs.Paper.{Ending, done, stopped, Packets, packetsIn, file, refused, endedFile, asFile, fileOf}
 use Rattle.record.specs.Layout.{parameterRecord, recordsOf, bytesIn}
 use Rattle.record.proofs.Writing.{length-file, answers-done, writes-done}
@@ -31,7 +32,7 @@ use Rattle.record.proofs.Fields.{bytes-drop, packet-again, parameters-a
 stopped-done : (n o : ℕ) → stopped n o ≡ done → ⊥
 stopped-done n o e = let z : _≡_ {A = ℕ} 0 1 = cc in omega arith
 
-pub refused-file : (n o : ℕ) (s : Numbers) (ps : List Packet) → refused n o ≡ file s ps → ⊥
+pub refused-file : (n o : ℕ) (s : Parameters) (ps : List Packet) → refused n o ≡ file s ps → ⊥
 refused-file n o s ps e = let z : _≡_ {A = ℕ} 0 1 = cc in omega arith
 
 empty : (l : List ℕ) → length l ≡ 0 → l ≡ []
@@ -97,28 +98,28 @@ version-again [] e = absurd (omega arith)
 version-again (b ∷ s) e = rw e
 
 -- what an accepted file holds: its stream numbers and its packets, all accepted
-pub record FileHolds (s : List ℕ) (numbers : Numbers) (ps : List Packet) : Type 0 where
-  pub set-up : setUpOf numbers ≡ 0
+pub record FileHolds (s : List ℕ) (numbers : Parameters) (ps : List Packet) : Type 0 where
+  pub set-up : setUpRefusal numbers ≡ 0
   pub all-read : packetsIn nothing 19 (drop 19 s) ≡ record { accepted = ps; ending = done }
   pub closed : ℕ
   pub scan-fine : scanOf nothing false 0 ps ≡ scan.Fine closed
 
-pub file-holds : (s : List ℕ) (numbers : Numbers) (ps : List Packet) → fileOf s ≡ file numbers ps → FileHolds s numbers ps
+pub file-holds : (s : List ℕ) (numbers : Parameters) (ps : List Packet) → fileOf s ≡ file numbers ps → FileHolds s numbers ps
 file-holds s numbers ps e = go (versionFits s) refl (ℕ-discrete (parametersRefusal (drop 1 s)) 0)
   where
     r : Packets
     r = packetsIn nothing 19 (drop 19 s)
 
-    ends : (d : Ending) → r .ending ≡ d → endedFile (numbersAt (drop 1 s)) (r .accepted) d ≡ file numbers ps
+    ends : (d : Ending) → r .ending ≡ d → endedFile (parametersAt (drop 1 s)) (r .accepted) d ≡ file numbers ps
         → parametersRefusal (drop 1 s) ≡ 0 → FileHolds s numbers ps
     ends (stopped n o) q f z = absurd (refused-file n o numbers ps f)
     ends done q f z =
-        let e-numbers : numbersAt (drop 1 s) ≡ numbers = cc in
+        let e-numbers : parametersAt (drop 1 s) ≡ numbers = cc in
         let e-packets : r .accepted ≡ ps = cc in
         let scans = packets-scan (length (drop 19 s)) nothing false 0 19 (drop 19 s) (omega arith) (omega arith) q in
-        let fine = neither (formatRefusal 1 (drop 1 s)) (setUpOf (numbersAt (drop 1 s))) z .1 in
+        let fine = neither (formatRefusal 1 (drop 1 s)) (setUpRefusal (parametersAt (drop 1 s))) z .1 in
         record {
-          set-up = sym (ap setUpOf e-numbers) ∙ fine;
+          set-up = sym (ap setUpRefusal e-numbers) ∙ fine;
           all-read = λ j. record { accepted = e-packets j; ending = q j };
           closed = scans .0;
           scan-fine = sym (ap (scanOf nothing false 0) e-packets) ∙ scans .1;
@@ -132,25 +133,25 @@ file-holds s numbers ps e = go (versionFits s) refl (ℕ-discrete (parametersRef
 
 -- and so is a whole file
 module _ (s : List ℕ) (b : Bytes s) where
-  head-again : versionFits s ≡ true → parametersRefusal (drop 1 s) ≡ 0 → 1 ∷ (parameterRecord (numbersAt (drop 1 s)) ++ drop 19 s) ≡ s
+  head-again : versionFits s ≡ true → parametersRefusal (drop 1 s) ≡ 0 → 1 ∷ (parameterRecord (parametersAt (drop 1 s)) ++ drop 19 s) ≡ s
   head-again v e =
       let l = drop 1 s in
       let here = parameters-here l (neither _ _ e .0) in
       let again = parameters-again l (bytes-drop 1 s b) (here .eighteen) (here .body-16) (here .kind-is-1) in
       rw (← drop-drop 18 1 s, again) (version-again s (eqb-true (getD s 0 0) 1 v))
 
-  pub file-again : (numbers : Numbers) (ps : List Packet) → fileOf s ≡ file numbers ps → bytesIn numbers ps ≡ s
+  pub file-again : (numbers : Parameters) (ps : List Packet) → fileOf s ≡ file numbers ps → bytesIn numbers ps ≡ s
   unfolding bytesIn
   file-again numbers ps e = go (versionFits s) refl (ℕ-discrete (parametersRefusal (drop 1 s)) 0)
     where
       r : Packets
       r = packetsIn nothing 19 (drop 19 s)
 
-      ends : (d : Ending) → r .ending ≡ d → endedFile (numbersAt (drop 1 s)) (r .accepted) d ≡ file numbers ps
+      ends : (d : Ending) → r .ending ≡ d → endedFile (parametersAt (drop 1 s)) (r .accepted) d ≡ file numbers ps
           → versionFits s ≡ true → parametersRefusal (drop 1 s) ≡ 0 → bytesIn numbers ps ≡ s
       ends (stopped n o) q f v z = absurd (refused-file n o numbers ps f)
       ends done q f v z =
-          let e-numbers : numbersAt (drop 1 s) ≡ numbers = cc in
+          let e-numbers : parametersAt (drop 1 s) ≡ numbers = cc in
           let e-packets : r .accepted ≡ ps = cc in
           let again = packets-again (length (drop 19 s)) nothing 19 (drop 19 s) (omega arith) (omega arith) (bytes-drop 19 s b) q in
           rw (← e-numbers, ← e-packets, again) (head-again v z)
@@ -162,7 +163,7 @@ module _ (s : List ℕ) (b : Bytes s) where
       go true v (yes z) = ends (r .ending) refl (sym (ap asFile (reading-go s v z)) ∙ e) v z
 
   -- the writer, given room for the file, writes it again
-  pub writer-again : (numbers : Numbers) (ts ss ms out after : List ℕ) (w : Written) → OneLength ts ss ms
+  pub writer-again : (numbers : Parameters) (ts ss ms out after : List ℕ) (w : Written) → OneLength ts ss ms
       → fileOf s ≡ file numbers (packets ts ss ms) → length s ≤ length out → Writes numbers ts ss ms out w after
       → (w ≡ Done (length s)) × (take (length s) after ≡ s)
   writer-again numbers ts ss ms out after w same e room h =

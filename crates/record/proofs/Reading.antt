@@ -13,7 +13,7 @@ use borrow.Author.Tests.{eq-eqb, ne-eqb, eqb-true, eqb-false}
 use Rattle.laws.specs.Choose.{pick-either, false-true, orElse}
 use Rattle.packet.specs.declared.Past.{Past}
 use Rattle.packet.specs.Step.{nothing, nextOf}
-use Rattle.record.specs.Paper.{versionFits, bodyLength, kindOf, inPlace, numbersAt, packetAt}
+use Rattle.record.specs.Paper.{versionFits, bodyLength, kindOf, inPlace, parametersAt, packetAt}
 use Rattle.record.specs.Paper.{formatRefusal, parametersRefusal, packetRefusal, unread, read, readingOf}
 use Rattle.record.specs.Paper.{done, stopped, none, more, packetsBy, packetsIn}
 use Rattle.record.proofs.Format.{formed, kind-1, kind-2}
@@ -142,7 +142,7 @@ module _ (s : List ℕ) where
   reading-stop n v e p = rw (v, e, ne-eqb n 0 (λ z. omega arith))
 
   pub reading-go : versionFits s ≡ true → parametersRefusal (drop 1 s) ≡ 0
-      → readingOf s ≡ read (numbersAt (drop 1 s)) (packetsIn nothing 19 (drop 19 s))
+      → readingOf s ≡ read (parametersAt (drop 1 s)) (packetsIn nothing 19 (drop 19 s))
   unfolding readingOf
   reading-go v e =
       let here = parameters-here (drop 1 s) (neither _ _ e .0) in

@@ -11,13 +11,15 @@ use Rattle.packet.specs.Paper.{Packet, packets, OneLength, declared}
 use Rattle.packet.specs.Step.{nothing}
 use Rattle.packet.proofs.Turn.{scanned-fine}
 use Rattle.packet.proofs.Declared.{scan-declared}
-use Rattle.record.specs.declared.Numbers.{Numbers}
+use Rattle.limits.specs.declared.Parameters.{Parameters}
 use Rattle.record.specs.declared.Written.{Written}
 use Rattle.record.specs.declared.Written.the-variants.{Done}
 use Rattle.record.specs.declared.Read.the-variants.{End}
-use Rattle.record.specs.Paper.{setUpOf, readingOf, file, asFile, fileOf}
+use Rattle.limits.specs.Paper.{setUpRefusal}
+use Rattle.record.specs.Paper.{readingOf, file, asFile, fileOf}
 use Rattle.record.specs.Pieces.{callsOf, told, Answered}
-use Rattle.record.specs.Layout.{bytesIn, NumbersHeld, PacketsHeld}
+use Rattle.limits.specs.Steps.{ParametersHeld}
+use Rattle.record.specs.Layout.{bytesIn, PacketsHeld}
 use Rattle.record.specs.Write.{Writes}
 use Rattle.record.proofs.Fields.{bytes-all}
 use Rattle.record.proofs.Writing.{was-written, writes-done, packets-held}
@@ -26,8 +28,8 @@ use Rattle.record.proofs.ReadWrite.{file-again, writer-again}
 use Rattle.record.proofs.Answered.{reader-answers, answered-file}
 
 -- for all accepted stream numbers and packets, reading what was written gives the same stream numbers and packets
-pub reading-written : (s : Numbers) (ps : List Packet) (closed : ℕ) → NumbersHeld s → PacketsHeld ps
-    → setUpOf s ≡ 0 → declared ps ≡ scan.Fine closed → fileOf (bytesIn s ps) ≡ file s ps
+pub reading-written : (s : Parameters) (ps : List Packet) (closed : ℕ) → ParametersHeld s → PacketsHeld ps
+    → setUpRefusal s ≡ 0 → declared ps ≡ scan.Fine closed → fileOf (bytesIn s ps) ≡ file s ps
 reading-written s ps closed hs hp e f = ap asFile (file-written s ps closed hs hp e (scan-declared ps ∙ f))
 
 -- What a file reads as is what the reader gives. Of any bytes: the records up to the first refusal, which has its number and offset, or
@@ -38,16 +40,16 @@ read-by-cursor = reader-answers
 
 -- so an accepted file is answered as version, parameters, each packet in order, end
 pub file-by-cursor : (bytes : List ℕ) (calls : ℕ) → length bytes < 2 ^ 64 → length bytes < calls
-    → (s : Numbers) (ps : List Packet) → fileOf bytes ≡ file s ps → callsOf (suc (suc calls)) 0 bytes ≡ told s ps ++ (End ∷ [])
+    → (s : Parameters) (ps : List Packet) → fileOf bytes ≡ file s ps → callsOf (suc (suc calls)) 0 bytes ≡ told s ps ++ (End ∷ [])
 file-by-cursor bytes calls w h s ps e = answered-file (readingOf bytes) _ s ps e (reader-answers bytes calls w h)
 
 -- for every accepted file, writing what was read gives the same bytes
 pub writing-read : (bytes : List ℕ) → ((i : ℕ) → getD bytes i 0 < 256)
-    → (s : Numbers) (ps : List Packet) → fileOf bytes ≡ file s ps → bytesIn s ps ≡ bytes
+    → (s : Parameters) (ps : List Packet) → fileOf bytes ≡ file s ps → bytesIn s ps ≡ bytes
 writing-read bytes b s ps e = file-again bytes (bytes-all bytes b) s ps e
 
 -- what the writer writes is accepted, and reads as what it was given
-pub written-accepted : (s : Numbers) (ts ss ms out after : List ℕ) (n : ℕ) → NumbersHeld s
+pub written-accepted : (s : Parameters) (ts ss ms out after : List ℕ) (n : ℕ) → ParametersHeld s
     → ((i : ℕ) → getD ts i 0 < 18446744073709551616) → ((i : ℕ) → getD ss i 0 < 4294967296)
     → Writes s ts ss ms out (Done n) after → fileOf (take n after) ≡ file s (packets ts ss ms)
 written-accepted s ts ss ms out after n hs ht hm w =
@@ -58,6 +60,6 @@ written-accepted s ts ss ms out after n hs ht hm w =
 
 -- and the writer, given what an accepted file reads as and room for it, writes that file
 pub writer-repeats : (bytes : List ℕ) → ((i : ℕ) → getD bytes i 0 < 256)
-    → (s : Numbers) (ts ss ms out after : List ℕ) (r : Written) → OneLength ts ss ms → fileOf bytes ≡ file s (packets ts ss ms)
+    → (s : Parameters) (ts ss ms out after : List ℕ) (r : Written) → OneLength ts ss ms → fileOf bytes ≡ file s (packets ts ss ms)
     → length bytes ≤ length out → Writes s ts ss ms out r after → (r ≡ Done (length bytes)) × (take (length bytes) after ≡ bytes)
 writer-repeats bytes b s ts ss ms out after r same e room w = writer-again bytes (bytes-all bytes b) s ts ss ms out after r same e room w

@@ -10,7 +10,7 @@ use Rattle.endian.specs.Number.{bytesOf}
 use Rattle.endian.proofs.Width.{length-bytes, two-stored, sets-join}
 use Rattle.packet.specs.Paper.{Packet, OneLength, lent, packetsFrom}
 use Rattle.packet.proofs.Lent.{packets-cons, packets-none}
-use Rattle.record.specs.declared.Numbers.{Numbers}
+use Rattle.limits.specs.declared.Parameters.{Parameters}
 use Rattle.record.specs.Layout.{laid, packetWith, packetRecord, headOf, recordsOf}
 
 one-stored : (v : ℕ) (d : List ℕ) (at : ℕ) → sets d at (bytesOf 1 v) ≡ set d at v
@@ -27,7 +27,7 @@ pub packet-stored : (t stamp marker : ℕ) (d : List ℕ) (at : ℕ)
 unfolding laid
 packet-stored t stamp marker d at = sym (simp (sets-join, length-bytes, one-stored, length-stored 14 (lit< tt), add-assoc))
 
-pub head-stored : (s : Numbers) (d : List ℕ)
+pub head-stored : (s : Parameters) (d : List ℕ)
     → sets (sets (sets (sets (set (set (set (set (set (set (set d 0 1) 1 0) 2 16) 3 1) 4 (s .rate)) 5 (s .schedule)) 6 (s .class))
     7 (bytesOf 2 (s .height))) 9 (bytesOf 4 (s .n))) 13 (bytesOf 2 (s .maxudp))) 15 (bytesOf 4 (s .tro))
     ≡ sets d 0 (headOf s)

@@ -17,7 +17,7 @@ use Rattle.laws.specs.Choose.{pick-either}
 use Rattle.laws.specs.Fold.{fold}
 use Rattle.packet.specs.declared.Past.{Past}
 use Rattle.packet.specs.Step.{refusalOf, nextOf}
-use Rattle.record.specs.declared.Numbers.{Numbers}
+use Rattle.limits.specs.declared.Parameters as limits
 use Rattle.record.specs.declared.Cursor.{Cursor}
 use Rattle.record.specs.declared.Tally.{Tally}
 use Rattle.record.specs.declared.Read.{Read}
@@ -50,7 +50,7 @@ item-says at l h = go (ℕ-discrete (length l) 0) (ℕ-discrete (formatRefusal a
         subst (Says at l) (sym (item-refused at l (omega arith) (omega arith) _ refl (omega arith))) (omega arith, refl, omega arith, refl)
 
 -- an answer that is no packet ends the walk
-pub stops : (numbers : Numbers) (y : Tally) (at : ℕ) (l : List ℕ) (r : Read) → 1 < at → OneOf (0 ∷ 1 ∷ 3 ∷ 4 ∷ 5 ∷ []) (tagOf the-type r)
+pub stops : (numbers : limits.Parameters) (y : Tally) (at : ℕ) (l : List ℕ) (r : Read) → 1 < at → OneOf (0 ∷ 1 ∷ 3 ∷ 4 ∷ 5 ∷ []) (tagOf the-type r)
     → itemOf at l ≡ r → finish numbers y (packetsIn (y .past) at l) ≡ closing r numbers y
 unfolding closing fold
 stops numbers y at l r h k e = go r k (subst (Says at l) e (item-says at l h))
@@ -65,7 +65,7 @@ stops numbers y at l r h k e = go r k (subst (Says at l) e (item-says at l h))
     go (Refused n o) k s =
         rw (packets-stop (y .past) at l n (s .0) (before _ _ (omega arith) ∙ s .1) (s .2), s .3)
 
-finish-more : (numbers : Numbers) (y : Tally) (p : Paper.Packet) (r : Packets)
+finish-more : (numbers : limits.Parameters) (y : Tally) (p : Paper.Packet) (r : Packets)
     → finish numbers y (more p r) ≡ finish numbers (tallied y (p .time) (p .marker)) r
 unfolding fold
 finish-more numbers y p r = go (r .ending)
@@ -100,7 +100,7 @@ module _ (s : List ℕ) {at : ℕ} (h : 1 < at) (fits : length s < 2 ^ 64)
   rest : drop 16 (drop at s) ≡ drop (next .at) s
   rest = drop-drop 16 at s ∙ rw next-at
 
-  module _ (numbers : Numbers) (y : Tally) where
+  module _ (numbers : limits.Parameters) (y : Tally) where
     pub goes : refusalOf (y .past) t marker ≡ 0
         → finish numbers y (packetsIn (y .past) at (drop at s))
         ≡ finish numbers (tallied y t marker) (packetsIn (tallied y t marker .past) (next .at) (drop (next .at) s))
@@ -139,7 +139,7 @@ tally-keeps y t marker h =
     pick-either (λ n. y .closed + n ≤ y .past .packets + 1) (y .begun && eqb marker 1) (λ e. omega arith) (λ e. omega arith)
 
 -- an answer at which reading stops
-pub closing-fine : (r : Read) (numbers : Numbers) (y : Tally) → OneOf (0 ∷ 1 ∷ 2 ∷ 3 ∷ 4 ∷ []) (tagOf the-type r)
+pub closing-fine : (r : Read) (numbers : limits.Parameters) (y : Tally) → OneOf (0 ∷ 1 ∷ 2 ∷ 3 ∷ 4 ∷ []) (tagOf the-type r)
     → fineWith numbers y ≡ closing r numbers y
 unfolding closing
 closing-fine (Version c) numbers y k = refl

@@ -16,7 +16,7 @@ use Rattle.endian.specs.Number.{numberAt, Bytes}
 use Rattle.endian.proofs.Width.{number-small}
 use Rattle.record.specs.declared.Read.{Read}
 use Rattle.record.specs.declared.Read.the-variants.{Parameters, Packet}
-use Rattle.record.specs.Paper.{bodyLength, kindOf, kindLength, numbersAt, packetAt, formatRefusal}
+use Rattle.record.specs.Paper.{bodyLength, kindOf, kindLength, parametersAt, packetAt, formatRefusal}
 use Rattle.record.specs.Step.{cursor, after, itemOf, enough, Whole}
 use Rattle.record.specs.Pieces.{goesOn, taken, wantsMore}
 use Rattle.record.proofs.Fields.{bytes-take}
@@ -36,7 +36,7 @@ module _ (w v : List ℕ) where
   longer : length w ≤ length (w ++ v)
   longer = omega (arith, length-append w v)
 
-  numbers-front : 18 ≤ length w → numbersAt (w ++ v) ≡ numbersAt w
+  numbers-front : 18 ≤ length w → parametersAt (w ++ v) ≡ parametersAt w
   numbers-front h =
       rw (
         byte-front 3 (omega arith),

@@ -13,11 +13,13 @@ use Rattle.packet.specs.Paper.{Packet, marked}
 use Rattle.packet.specs.Step.{nothing, numberOf, nextOf, closes, scanOf}
 use Rattle.packet.proofs.Refusals.{accepted}
 use Rattle.packet.proofs.Turn.{scan-goes, ready-accepted, fine-ready}
-use Rattle.record.specs.declared.Numbers.{Numbers}
-use Rattle.record.specs.Paper.{kindOf, packetAt, formatRefusal, setUpOf, packetRefusal}
+use Rattle.limits.specs.declared.Parameters.{Parameters}
+use Rattle.limits.specs.Paper.{setUpRefusal}
+use Rattle.record.specs.Paper.{kindOf, packetAt, formatRefusal, packetRefusal}
 use Rattle.record.specs.Paper.{done, Packets, more, packetsIn, read, readingOf}
 use Rattle.record.specs.Layout.{packetWidths, packetFields, parameterRecord, packetRecord, recordsOf, bytesIn, Fit}
-use Rattle.record.specs.Layout.{NumbersHeld, PacketsHeld}
+use Rattle.limits.specs.Steps.{ParametersHeld}
+use Rattle.record.specs.Layout.{PacketsHeld}
 use Rattle.record.specs.Step.{Whole}
 use Rattle.record.proofs.Format.{kind-1, kind-2-length, first-0, packet-0}
 use Rattle.record.proofs.Reading.{second, packets-end, packets-go, reading-go}
@@ -70,8 +72,8 @@ packets-written (p ∷ ps) past begun closed n at h held e =
     packets-go past at l h fine ∙ ap (more (packetAt l)) rest ∙ ap (λ q. more q (every ps)) (back .same)
 
 -- the whole file
-pub file-written : (s : Numbers) (ps : List Packet) (n : ℕ) → NumbersHeld s → PacketsHeld ps
-    → setUpOf s ≡ 0 → scanOf nothing false 0 ps ≡ scan.Fine n → readingOf (bytesIn s ps) ≡ read s (every ps)
+pub file-written : (s : Parameters) (ps : List Packet) (n : ℕ) → ParametersHeld s → PacketsHeld ps
+    → setUpRefusal s ≡ 0 → scanOf nothing false 0 ps ≡ scan.Fine n → readingOf (bytesIn s ps) ≡ read s (every ps)
 unfolding bytesIn
 file-written s ps n hs hp e f =
     let l = parameterRecord s ++ recordsOf ps in
@@ -85,5 +87,5 @@ file-written s ps n hs hp e f =
       all-there = omega arith;
     } in
     let format = first-0 whole (sym (kind-1 (kindOf l) (back .kind-1))) refl (back .kind-1) in
-    reading-go (1 ∷ l) refl (second _ _ format ∙ ap setUpOf (back .same) ∙ e)
+    reading-go (1 ∷ l) refl (second _ _ format ∙ ap setUpRefusal (back .same) ∙ e)
     ∙ rw (back .same, drop-at (parameterRecord s) (recordsOf ps) 18 long, packets-written ps nothing false 0 n 19 (omega arith) hp f)

@@ -20,15 +20,15 @@ use Rattle.packet.proofs.Lent.{packets-length}
 use Rattle.packet.proofs.Turn.{scanned-fine}
 use Rattle.packet.proofs.Declared.{scan-declared, fine-few}
 use Rattle.endian.proofs.Width.{length-bytes, sets-join}
-use Rattle.record.specs.declared.Numbers.{Numbers}
+use Rattle.limits.specs.declared.Parameters.{Parameters}
 use Rattle.record.specs.declared.Written.{Written}
 use Rattle.record.specs.declared.Written.the-variants.{Done, Refused}
-use Rattle.record.specs.Paper.{setUpOf}
+use Rattle.limits.specs.Paper.{setUpRefusal}
 use Rattle.record.specs.Layout.{laid, packetRecord, headOf, recordsOf, bytesIn, PacketsHeld}
 use Rattle.record.specs.Write.{fileLength, scanning, writtenOf, Writes}
 use Rattle.record.proofs.Stores.{length-packet}
 
-pub length-head : (s : Numbers) → length (headOf s) ≡ 19
+pub length-head : (s : Parameters) → length (headOf s) ≡ 19
 unfolding laid
 length-head s = simp (length-append, length-bytes)
 
@@ -38,16 +38,16 @@ length-records [] = refl
 length-records (p ∷ ps) =
     rw (length-append (packetRecord p) (recordsOf ps), length-packet p, length-records ps) (omega arith)
 
-pub length-file : (s : Numbers) (ps : List Packet) → length (bytesIn s ps) ≡ fileLength (length ps)
+pub length-file : (s : Parameters) (ps : List Packet) → length (bytesIn s ps) ≡ fileLength (length ps)
 unfolding bytesIn
 length-file s ps = rw (length-append (headOf s) (recordsOf ps), length-head s, length-records ps)
 
-one-run : (s : Numbers) (ps : List Packet) (d : List ℕ) → sets (sets d 0 (headOf s)) 19 (recordsOf ps) ≡ sets d 0 (bytesIn s ps)
+one-run : (s : Parameters) (ps : List Packet) (d : List ℕ) → sets (sets d 0 (headOf s)) 19 (recordsOf ps) ≡ sets d 0 (bytesIn s ps)
 unfolding bytesIn
 one-run s ps d = sym (sets-join (headOf s) (recordsOf ps) d 0 ∙ rw (length-head s))
 
 -- the head stored, and the records after it, are the file stored: it stands in front of what was there
-pub file-stored : (s : Numbers) (ps : List Packet) (d : List ℕ) → fileLength (length ps) ≤ length d
+pub file-stored : (s : Parameters) (ps : List Packet) (d : List ℕ) → fileLength (length ps) ≤ length d
     → sets (sets d 0 (headOf s)) 19 (recordsOf ps) ≡ bytesIn s ps ++ drop (fileLength (length ps)) d
 file-stored s ps d h =
     one-run s ps d ∙ sets-eq (bytesIn s ps) d 0 (omega (arith, length-file s ps)) ∙ rw (zero-add (length (bytesIn s ps)), length-file s ps)
@@ -58,16 +58,16 @@ pub scan-of : (ts ss ms : List ℕ) {past : Past} {a : Scanned} → past ≡ not
 scan-of ts ss ms e f = sym (f ∙ ap (λ p. scannedOf p false ts ss ms) e)
 
 -- the answer, for so many lent bytes
-module _ (s : Numbers) (ts ss ms : List ℕ) (room : ℕ) where
-  pub answers-set-up : (n : ℕ) → setUpOf s ≡ n → 0 < n → Refused n 0 ≡ writtenOf s ts ss ms room
+module _ (s : Parameters) (ts ss ms : List ℕ) (room : ℕ) where
+  pub answers-set-up : (n : ℕ) → setUpRefusal s ≡ n → 0 < n → Refused n 0 ≡ writtenOf s ts ss ms room
   unfolding writtenOf
   answers-set-up n e p = rw (e, ne-eqb n 0 (λ z. omega arith))
 
-  module _ (fine : setUpOf s ≡ 0) where
+  module _ (fine : setUpRefusal s ≡ 0) where
     scanned : {a : Scanned} → scannedOf nothing false ts ss ms ≡ a
         → writtenOf s ts ss ms room ≡ scanning a (fileLength (length ts)) room
     unfolding writtenOf
-    scanned e = rw (eq-eqb (setUpOf s) 0 fine, e)
+    scanned e = rw (eq-eqb (setUpRefusal s) 0 fine, e)
 
     pub answers-scan : {r : Refusal} {w : Written} → scannedOf nothing false ts ss ms ≡ scan.Refused r → w ≡ Refused (r .number) (r .place)
         → w ≡ writtenOf s ts ss ms room
@@ -104,20 +104,20 @@ fitting-done needed room n =
     pick-either (λ w. Done n ≡ w → (needed ≤ room) × (n ≡ needed)) (leb needed room)
     (λ t e. (leb-true needed room t, cc)) (λ t e. absurd (done-refused n 24 0 e))
 
-pub record WasWritten (s : Numbers) (ts ss ms : List ℕ) (room n : ℕ) : Type 0 where
-  pub set-up : setUpOf s ≡ 0
+pub record WasWritten (s : Parameters) (ts ss ms : List ℕ) (room n : ℕ) : Type 0 where
+  pub set-up : setUpRefusal s ≡ 0
   pub closed : ℕ
   pub scan-fine : scannedOf nothing false ts ss ms ≡ scan.Fine closed
   pub enough : fileLength (length ts) ≤ room
   pub size : n ≡ fileLength (length ts)
 
-pub was-written : (s : Numbers) (ts ss ms : List ℕ) (room n : ℕ) → Done n ≡ writtenOf s ts ss ms room → WasWritten s ts ss ms room n
+pub was-written : (s : Parameters) (ts ss ms : List ℕ) (room n : ℕ) → Done n ≡ writtenOf s ts ss ms room → WasWritten s ts ss ms room n
 unfolding writtenOf
 was-written s ts ss ms room n =
-    pick-either (λ w. Done n ≡ w → WasWritten s ts ss ms room n) (eqb (setUpOf s) 0)
-    (λ t e. go (scannedOf nothing false ts ss ms) refl (eqb-true (setUpOf s) 0 t) e) (λ t e. absurd (done-refused n _ 0 e))
+    pick-either (λ w. Done n ≡ w → WasWritten s ts ss ms room n) (eqb (setUpRefusal s) 0)
+    (λ t e. go (scannedOf nothing false ts ss ms) refl (eqb-true (setUpRefusal s) 0 t) e) (λ t e. absurd (done-refused n _ 0 e))
   where
-    go : (a : Scanned) → scannedOf nothing false ts ss ms ≡ a → setUpOf s ≡ 0
+    go : (a : Scanned) → scannedOf nothing false ts ss ms ≡ a → setUpRefusal s ≡ 0
         → Done n ≡ scanning a (fileLength (length ts)) room → WasWritten s ts ss ms room n
     go (scan.Fine k) f u e =
         let d = fitting-done (fileLength (length ts)) room n e in
@@ -125,11 +125,11 @@ was-written s ts ss ms room n =
     go (scan.Refused r) f u e = absurd (done-refused n _ _ e)
 
 -- refused, the lent bytes stay; else they are the file and what was beyond it
-pub leaves-all : (s : Numbers) (ts ss ms out : List ℕ) {w : Written} {n o : ℕ} → w ≡ writtenOf s ts ss ms (length out) → w ≡ Refused n o
+pub leaves-all : (s : Parameters) (ts ss ms out : List ℕ) {w : Written} {n o : ℕ} → w ≡ writtenOf s ts ss ms (length out) → w ≡ Refused n o
     → Writes s ts ss ms out w out
 leaves-all s ts ss ms out e f = record { answered = e; left = rw f refl }
 
-pub writes-file : (s : Numbers) (ts ss ms out : List ℕ) {after : List ℕ} {n : ℕ} → WasWritten s ts ss ms (length out) n
+pub writes-file : (s : Parameters) (ts ss ms out : List ℕ) {after : List ℕ} {n : ℕ} → WasWritten s ts ss ms (length out) n
     → Done n ≡ writtenOf s ts ss ms (length out)
     → after ≡ sets (sets out 0 (headOf s)) 19 (recordsOf (packets ts ss ms)) → Writes s ts ss ms out (Done n) after
 writes-file s ts ss ms out w e g =
@@ -140,7 +140,7 @@ writes-file s ts ss ms out w e g =
     }
 
 -- then the file stands in front
-pub writes-done : (s : Numbers) (ts ss ms out after : List ℕ) (n : ℕ) → Writes s ts ss ms out (Done n) after
+pub writes-done : (s : Parameters) (ts ss ms out after : List ℕ) (n : ℕ) → Writes s ts ss ms out (Done n) after
     → take n after ≡ bytesIn s (packets ts ss ms)
 writes-done s ts ss ms out after n w =
     let was = was-written s ts ss ms (length out) n (w .answered) in

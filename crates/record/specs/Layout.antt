@@ -4,7 +4,7 @@ use Prim.Native.Nat.{ℕ, _+_, _^_, _<_}
 use lib.ListN.{take, drop}
 use Rattle.endian.specs.Number.{numberOf, bytesOf}
 use Rattle.packet.specs.Paper.{Packet}
-use Rattle.record.specs.declared.Numbers.{Numbers}
+use Rattle.limits.specs.declared.Parameters.{Parameters}
 
 -- the bytes of some fields, by their widths
 unfoldable pub laid : List ℕ → List ℕ → List ℕ
@@ -32,7 +32,7 @@ Fit (w ∷ ws) (v ∷ vs) = (v < 256 ^ w) × Fit ws vs
 abbrev pub parameterWidths : List ℕ
 parameterWidths = 2 ∷ 1 ∷ 1 ∷ 1 ∷ 1 ∷ 2 ∷ 4 ∷ 2 ∷ 4 ∷ []
 
-abbrev pub parameterFields : Numbers → List ℕ
+abbrev pub parameterFields : Parameters → List ℕ
 parameterFields s = 16 ∷ 1 ∷ s .rate ∷ s .schedule ∷ s .class ∷ s .height ∷ s .n ∷ s .maxudp ∷ s .tro ∷ []
 
 -- "Kind 2, 14 bytes: kind, arrival (8), timestamp (4), marker."
@@ -45,7 +45,7 @@ packetFields p = 14 ∷ 2 ∷ p .time ∷ p .stamp ∷ p .marker ∷ []
 abbrev pub packetWith : ℕ → ℕ → ℕ → Packet
 packetWith t stamp marker = record { time = t; stamp = stamp; marker = marker }
 
-abbrev pub parameterRecord : Numbers → List ℕ
+abbrev pub parameterRecord : Parameters → List ℕ
 parameterRecord s = laid parameterWidths (parameterFields s)
 
 abbrev pub packetRecord : Packet → List ℕ
@@ -56,23 +56,13 @@ unfoldable pub recordsOf : List Packet → List ℕ
 recordsOf [] = []
 recordsOf (p ∷ ps) = packetRecord p ++ recordsOf ps
 
-abbrev pub headOf : Numbers → List ℕ
+abbrev pub headOf : Parameters → List ℕ
 headOf s = 1 ∷ parameterRecord s
 
-unfoldable pub bytesIn : Numbers → List Packet → List ℕ
+unfoldable pub bytesIn : Parameters → List Packet → List ℕ
 bytesIn s ps = headOf s ++ recordsOf ps
 
--- what a u8, a u16, a u32 and a u64 always hold
-pub record NumbersHeld (s : Numbers) : Type 0 where
-  pub rate : s .rate < 256
-  pub schedule : s .schedule < 256
-  pub class : s .class < 256
-  pub height : s .height < 65536
-  pub n : s .n < 4294967296
-  pub maxudp : s .maxudp < 65536
-  pub tro : s .tro < 4294967296
-
--- and what packets of lent slices hold; no refusal but 11 bounds a marker, which then is 0 or 1
+-- what packets of lent slices hold; no refusal but 11 bounds a marker, which then is 0 or 1
 abbrev pub PacketsHeld : List Packet → Type 0
 PacketsHeld [] = Unit
 PacketsHeld (p ∷ ps) = (p .time < 18446744073709551616) × (p .stamp < 4294967296) × PacketsHeld ps

@@ -11,7 +11,7 @@ use Rattle.packet.specs.declared.Past.{Past}
 use Rattle.packet.specs.Paper.{Packet}
 use Rattle.packet.specs.Step.{nothing, numberOf, nextOf}
 use Rattle.endian.specs.Number.{numberAt}
-use Rattle.record.specs.declared.Numbers.{Numbers}
+use Rattle.limits.specs.declared.Parameters.{Parameters}
 
 -- "Version byte 1": the empty file has no byte 1 either
 abbrev pub versionFits : List ℕ → Bool
@@ -26,8 +26,8 @@ kindOf l = getD l 2 0
 
 -- "Kind 1, 16 bytes: kind, rate, schedule, class, height (2), n (4), MAXUDP (2), TRO (4; all ones is default)."
 -- "Records keep class 0 and a default TRO as written."
-abbrev pub numbersAt : List ℕ → Numbers
-numbersAt l = record {
+abbrev pub parametersAt : List ℕ → Parameters
+parametersAt l = record {
   rate = getD l 3 0;
   schedule = getD l 4 0;
   class = getD l 5 0;
@@ -35,18 +35,6 @@ numbersAt l = record {
   n = numberAt 4 l 8;
   maxudp = numberAt 2 l 12;
   tro = numberAt 4 l 14;
-}
-
--- the seven numbers put together
-abbrev pub numbersWith : (rate schedule class height n maxudp tro : ℕ) → Numbers
-numbersWith rate schedule class height n maxudp tro = record {
-  rate = rate;
-  schedule = schedule;
-  class = class;
-  height = height;
-  n = n;
-  maxudp = maxudp;
-  tro = tro;
 }
 
 -- "Kind 2, 14 bytes: kind, arrival (8), timestamp (4), marker."
@@ -77,13 +65,9 @@ formatRefusal at l =
     (pick (inPlace at (kindOf l)) 0 23)
     22))))
 
--- the refusals of set-up, of these numbers
-abbrev pub setUpOf : Numbers → ℕ
-setUpOf s = setUpRefusal (s .rate) (s .schedule) (s .class) (s .height) (s .n) (s .maxudp) (s .tro)
-
 -- 21 to 23 come "before set-up and packet refusals"
 abbrev pub parametersRefusal : List ℕ → ℕ
-parametersRefusal l = orElse (formatRefusal 1 l) (setUpOf (numbersAt l))
+parametersRefusal l = orElse (formatRefusal 1 l) (setUpRefusal (parametersAt l))
 
 abbrev pub packetRefusal : Past → ℕ → List ℕ → ℕ
 packetRefusal past at l = orElse (formatRefusal at l) (numberOf past (packetAt l))
@@ -122,12 +106,12 @@ packetsIn past at l = packetsBy (length l) past at l
 -- and the packets up to the first refusal or the end
 pub data Reading : Type 0 where
   unread : ℕ → ℕ → Reading
-  read : Numbers → Packets → Reading
+  read : Parameters → Packets → Reading
 
 abbrev pub parametersIn : List ℕ → Reading
 parametersIn l =
     pick (eqb (parametersRefusal l) 0)
-    (read (numbersAt l) (packetsIn nothing (1 + (2 + bodyLength l)) (drop (2 + bodyLength l) l)))
+    (read (parametersAt l) (packetsIn nothing (1 + (2 + bodyLength l)) (drop (2 + bodyLength l) l)))
     (unread (parametersRefusal l) 1)
 
 -- "20 file empty, or version byte not 1": "its offset (0 for 20)"
@@ -136,10 +120,10 @@ readingOf s = pick (versionFits s) (parametersIn (drop 1 s)) (unread 20 0)
 
 -- a file as a whole: the stream numbers and the packets, or the number and the offset
 pub data File : Type 0 where
-  file : Numbers → List Packet → File
+  file : Parameters → List Packet → File
   refused : ℕ → ℕ → File
 
-abbrev pub endedFile : Numbers → List Packet → Ending → File
+abbrev pub endedFile : Parameters → List Packet → Ending → File
 endedFile numbers ps done = file numbers ps
 endedFile numbers ps (stopped number offset) = refused number offset
 

@@ -9,10 +9,11 @@ use Rattle.packet.specs.declared.Past.{Past}
 use Rattle.packet.specs.Paper as Paper
 use Rattle.packet.specs.Step.{nothing, refusalOf}
 use Rattle.packet.specs.Calls.{pastAfter}
-use Rattle.record.specs.declared.Numbers.{Numbers}
+use Rattle.limits.specs.declared.Parameters as limits
 use Rattle.record.specs.declared.Read.{Read}
 use Rattle.record.specs.declared.Read.the-variants.{Version, Parameters, Packet, End, More, Refused}
-use Rattle.record.specs.Paper.{setUpOf, Ending, done, stopped, Reading, unread, read}
+use Rattle.limits.specs.Paper.{setUpRefusal}
+use Rattle.record.specs.Paper.{Ending, done, stopped, Reading, unread, read}
 use Rattle.record.specs.Step.{cursor, itemOf, pieceOf}
 
 -- whether reading goes on after an answer, at what offset, and how many bytes it took
@@ -98,13 +99,13 @@ toldPackets at [] = []
 toldPackets at (p ∷ ps) = Packet (p .time) (p .stamp) (p .marker) (cursor (at + 16)) ∷ toldPackets (at + 16) ps
 
 -- version, parameters, each packet in order
-abbrev pub told : Numbers → List Paper.Packet → List Read
+abbrev pub told : limits.Parameters → List Paper.Packet → List Read
 told s ps = Version (cursor 1) ∷ Parameters s (cursor 19) ∷ toldPackets 19 ps
 
 -- the number by which the record is refused that an answer gives: the cursor's own, or set-up's or the packet's after what came before
 abbrev pub refusalIn : Past → Read → ℕ
 refusalIn past (Version c) = 0
-refusalIn past (Parameters s c) = setUpOf s
+refusalIn past (Parameters s c) = setUpRefusal s
 refusalIn past (Packet t stamp marker c) = refusalOf past t marker
 refusalIn past End = 0
 refusalIn past More = 0
@@ -120,7 +121,7 @@ pub record StopsAt (past : Past) (at number offset : ℕ) (r : Read) : Type 0 wh
 abbrev pub Then : List Read → (Read → Type 0) → List Read → Type 0
 Then front P l = (r : Read) × (more : List Read) × (l ≡ front ++ (r ∷ more)) × P r
 
-abbrev pub AnsweredBy : Numbers → List Paper.Packet → Ending → List Read → Type 0
+abbrev pub AnsweredBy : limits.Parameters → List Paper.Packet → Ending → List Read → Type 0
 AnsweredBy s ps done l = l ≡ told s ps ++ (End ∷ [])
 AnsweredBy s ps (stopped number offset) l =
     Then (told s ps) (StopsAt (pastAfter nothing ps) (19 + 16 * length ps) number offset) l

@@ -9,7 +9,7 @@ use Rattle.laws.specs.Choose.{pick}
 use Rattle.record.specs.declared.Cursor.{Cursor}
 use Rattle.record.specs.declared.Read.{Read}
 use Rattle.record.specs.declared.Read.the-variants.{Version, Parameters, Packet, End, More, Refused}
-use Rattle.record.specs.Paper.{versionFits, bodyLength, kindOf, numbersAt, packetAt, formatRefusal}
+use Rattle.record.specs.Paper.{versionFits, bodyLength, kindOf, parametersAt, packetAt, formatRefusal}
 
 abbrev pub cursor : ℕ → Cursor
 cursor at = record { at = at }
@@ -26,7 +26,7 @@ versionOf l = pick (versionFits l) (Version (cursor 1)) (Refused 20 0)
 
 -- an accepted record: the parameters are 18 bytes, a packet 16
 abbrev pub recordOf : ℕ → List ℕ → Read
-recordOf at l = pick (eqb at 1) (Parameters (numbersAt l) (cursor 19)) (packetOf l (after at 16))
+recordOf at l = pick (eqb at 1) (Parameters (parametersAt l) (cursor 19)) (packetOf l (after at 16))
 
 -- nothing is left after the parameters or a packet
 abbrev pub ended : ℕ → List ℕ → Bool

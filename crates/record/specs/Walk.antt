@@ -9,7 +9,7 @@ use Rattle.laws.specs.Count.{count}
 use Rattle.laws.specs.Fold.{fold}
 use Rattle.packet.specs.Paper.{Packet, closesAt}
 use Rattle.packet.specs.Step.{nothing, nextOf}
-use Rattle.record.specs.declared.Numbers.{Numbers}
+use Rattle.limits.specs.declared.Parameters.{Parameters}
 use Rattle.record.specs.declared.Tally.{Tally}
 use Rattle.record.specs.declared.Read.{Read}
 use Rattle.record.specs.declared.Read.the-variants as item
@@ -53,19 +53,19 @@ pub record Countable (y : Tally) : Type 0 where
   pub few : y .past .packets < 1000000000
   pub no-more : y .closed ≤ y .past .packets
 
-abbrev pub fineWith : Numbers → Tally → Checked
+abbrev pub fineWith : Parameters → Tally → Checked
 fineWith numbers y = Fine numbers (y .past .packets) (y .closed)
 
 -- the packets read from here on, and how that ended
-abbrev pub finishBy : Numbers → Tally → List Packet → Ending → Checked
+abbrev pub finishBy : Parameters → Tally → List Packet → Ending → Checked
 finishBy numbers y ps done = fineWith numbers (tallyOf y ps)
 finishBy numbers y ps (stopped number offset) = Refused number offset
 
-abbrev pub finish : Numbers → Tally → Packets → Checked
+abbrev pub finish : Parameters → Tally → Packets → Checked
 finish numbers y r = finishBy numbers y (r .accepted) (r .ending)
 
 -- an item at which reading stops
-unfoldable pub closing : Read → Numbers → Tally → Checked
+unfoldable pub closing : Read → Parameters → Tally → Checked
 closing (item.Version c) numbers y = fineWith numbers y
 closing (item.Parameters s c) numbers y = fineWith numbers y
 closing (item.Packet t stamp marker c) numbers y = fineWith numbers y

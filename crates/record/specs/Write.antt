@@ -10,10 +10,10 @@ use Rattle.packet.specs.declared.Scanned.{Scanned}
 use Rattle.packet.specs.declared.Scanned.the-variants as scan
 use Rattle.packet.specs.Paper.{packets, OneLength}
 use Rattle.packet.specs.Step.{nothing, scannedOf}
-use Rattle.record.specs.declared.Numbers.{Numbers}
+use Rattle.limits.specs.declared.Parameters.{Parameters}
 use Rattle.record.specs.declared.Written.{Written}
 use Rattle.record.specs.declared.Written.the-variants.{Done, Refused}
-use Rattle.record.specs.Paper.{setUpOf}
+use Rattle.limits.specs.Paper.{setUpRefusal}
 use Rattle.record.specs.Layout.{bytesIn}
 
 -- the bytes of a file of so many packets: the version, 18 for the parameters, 16 for a packet
@@ -30,11 +30,11 @@ scanning (scan.Fine closed) needed room = fitting needed room
 scanning (scan.Refused r) needed room = Refused (r .number) (r .place)
 
 -- "The writer refuses by 1 to 7, 10 to 14, then 24"
-unfoldable pub writtenOf : Numbers → List ℕ → List ℕ → List ℕ → ℕ → Written
+unfoldable pub writtenOf : Parameters → List ℕ → List ℕ → List ℕ → ℕ → Written
 writtenOf s ts ss ms room =
-    pick (eqb (setUpOf s) 0)
+    pick (eqb (setUpRefusal s) 0)
     (scanning (scannedOf nothing false ts ss ms) (fileLength (length ts)) room)
-    (Refused (setUpOf s) 0)
+    (Refused (setUpRefusal s) 0)
 
 -- the paper's number, 0 where it wrote, and the place
 abbrev pub writtenNumber : Written → ℕ
@@ -51,7 +51,7 @@ leftBy (Done needed) file out = file ++ drop needed out
 leftBy (Refused number place) file out = out
 
 -- the answer, and the lent bytes after it
-pub record Writes (s : Numbers) (ts ss ms out : List ℕ) (r : Written) (after : List ℕ) : Type 0 where
+pub record Writes (s : Parameters) (ts ss ms out : List ℕ) (r : Written) (after : List ℕ) : Type 0 where
   pub answered : r ≡ writtenOf s ts ss ms (length out)
   pub left : after ≡ leftBy r (bytesIn s (packets ts ss ms)) out
 

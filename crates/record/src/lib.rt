@@ -7,6 +7,7 @@ use endian::read64;
 use endian::write16;
 use endian::write32;
 use endian::write64;
+use limits::Parameters;
 use packet::Past;
 use packet::Scanned;
 ghost use mathlib.Core.Path.{_≡_};
@@ -16,22 +17,11 @@ ghost use lib.Seq.{sets};
 ghost use Rattle.endian.specs.Number.{Room};
 ghost use Rattle.packet.specs.Paper.{packets};
 ghost use Rattle.packet.specs.Step.{nothing};
-ghost use Rattle.record.specs.Paper.{numbersAt, kindLength, setUpOf, packetsIn};
+ghost use Rattle.record.specs.Paper.{parametersAt, kindLength, packetsIn};
 ghost use Rattle.record.specs.Step.{after, itemOf, pieceOf, scrapOf, Whole, standsIn, packetOf};
 ghost use Rattle.record.specs.Layout.{packetWith, packetRecord, headOf, recordsOf};
 ghost use Rattle.record.specs.Write.{scanning, writtenOf, Writes, Fitting};
 ghost use Rattle.record.specs.Walk.{Countable, fresh, tallied, closing, refusedBy, finish, checkedOf};
-
-// The stream numbers, kept as written: class 0 and a TRO of all ones stay what they are.
-pub struct Numbers {
-    pub rate: u8,
-    pub schedule: u8,
-    pub class: u8,
-    pub height: u16,
-    pub n: u32,
-    pub maxudp: u16,
-    pub tro: u32,
-}
 
 // Where the reader stands: at 0 the version byte is next, at 1 the parameters, further on a packet or the end.
 pub struct Cursor {
@@ -44,7 +34,7 @@ pub enum Read {
         next: Cursor,
     },
     Parameters {
-        numbers: Numbers,
+        numbers: Parameters,
         next: Cursor,
     },
     Packet {
@@ -64,7 +54,7 @@ pub enum Read {
 // A whole file: fine, with the numbers of packets and of frames that close; or the number and offset of its first refusal.
 pub enum Checked {
     Fine {
-        numbers: Numbers,
+        numbers: Parameters,
         packets: u64,
         closed: u64,
     },
@@ -105,11 +95,11 @@ fn kind_length(kind: u8) -> u16
 //  0        2      3      4          5       6        8     12       14    18
 //  | length | kind | rate | schedule | class | height | n   | MAXUDP | TRO |
 //  | 0   16 | 1    |      |          |       |        |     |        |     |
-fn parameters_of(s: &[u8]) -> Numbers
+fn parameters_of(s: &[u8]) -> Parameters
     requires { ⌜ Room 18 (now s) 0 ⌝ }
-    ensures { λ r. ⌜ r ≡ numbersAt (now (s .entry)) ⌝ }
+    ensures { λ r. ⌜ r ≡ parametersAt (now (s .entry)) ⌝ }
 {
-    Numbers {
+    Parameters {
         rate: s[3],
         schedule: s[4],
         class: s[5],
@@ -316,23 +306,6 @@ impl Cursor {
     }
 }
 
-impl Numbers {
-    // The number by which set-up refuses these, 0 where it does not.
-    pub fn refusal(self) -> u8
-        ensures { λ r. ⌜ r ≡ setUpOf self ⌝ }
-    {
-        limits::refusal(
-            self.rate,
-            self.schedule,
-            self.class,
-            self.height,
-            self.n,
-            self.maxudp,
-            self.tro,
-        )
-    }
-}
-
 impl Tally {
     fn none() -> Tally
         ensures { λ r. ⌜ r ≡ fresh ⌝ }
@@ -373,7 +346,7 @@ impl Tally {
     }
 
     // The answer where reading stops: at a refusal, or else at the end.
-    fn close(self, item: Read, numbers: Numbers) -> Checked
+    fn close(self, item: Read, numbers: Parameters) -> Checked
         ensures { λ r. ⌜ r ≡ closing item numbers self ⌝ }
     {
         let Read::Refused { number, offset } = item else {
@@ -430,7 +403,7 @@ pub fn check(s: &[u8]) -> Checked
 }
 
 // The packets from an offset on, after the parameters.
-fn check_packets(numbers: Numbers, from: Cursor, s: &[u8]) -> Checked
+fn check_packets(numbers: Parameters, from: Cursor, s: &[u8]) -> Checked
     requires { ⌜ 1 < from .at ⌝ }
     ensures { λ r. ⌜ r ≡ finish numbers fresh (packetsIn nothing (from .at) (drop (from .at) (now (s .entry)))) ⌝ }
 {
@@ -462,7 +435,7 @@ fn check_packets(numbers: Numbers, from: Cursor, s: &[u8]) -> Checked
 
 // What the writer would answer for so many lent bytes. It writes nothing.
 pub fn would_write(
-    numbers: Numbers,
+    numbers: Parameters,
     arrivals: &[u64],
     stamps: &[u32],
     markers: &[u8],
@@ -493,7 +466,7 @@ pub fn would_write(
 
 // The whole record file of these stream numbers and packets into lent bytes, or nothing where it is refused.
 pub fn write(
-    numbers: Numbers,
+    numbers: Parameters,
     arrivals: &[u64],
     stamps: &[u32],
     markers: &[u8],
@@ -525,7 +498,7 @@ fn refused_scan(scanned: Scanned) -> Written
 }
 
 // The version byte and the parameters.
-fn write_parameters(numbers: Numbers, out: &mut [u8])
+fn write_parameters(numbers: Parameters, out: &mut [u8])
     requires { ⌜ Room 19 (now out) 0 ⌝ }
     ensures { λ _. ⌜ now (out .exit) ≡ sets (now (out .entry)) 0 (headOf numbers) ⌝ }
 {

@@ -18,17 +18,17 @@ use Rattle.packet.specs.Step.{nothing, scanOf}
 use Rattle.packet.proofs.Declared.{scan-declared, fine-few, fine-count}
 use Rattle.timing.specs.declared.StreamNumbers.{StreamNumbers}
 use Rattle.timing.specs.declared.State.{State}
-use Rattle.timing.specs.Step.{rulesOf, freshOf, numbers}
+use Rattle.timing.specs.Step.{ofParameters, rulesOf, freshOf, numbers}
 use Rattle.timing.specs.Answers.{summaryOf}
 use Rattle.timing.specs.Laws.Scanning.{numbers-length, scan-runs}
-use Rattle.record.specs.declared.Numbers.{Numbers}
+use Rattle.limits.specs.declared.Parameters.{Parameters}
 use Rattle.record.specs.declared.Checked.the-variants as checked
 use Rattle.record.specs.Paper.{Packets, File, file, refused, fileOf}
 use Rattle.record.specs.Walk.{asChecked, checkedOf}
 use Rattle.record.proofs.ReadWrite.{FileHolds, file-holds}
 use Rattle.report.specs.declared.Asked.{Asked}
 use Rattle.report.specs.declared.Asked.the-variants.{Fine, Refused}
-use Rattle.report.specs.Paper.{streamOf, stateOf, rowsOf, reportOf, inBytes, encoded, bytesFor, answer, answered, answerOf}
+use Rattle.report.specs.Paper.{stateOf, rowsOf, reportOf, inBytes, encoded, bytesFor, answer, answered, answerOf}
 use Rattle.report.specs.Paper.{roomFor, roomOf, filled, filledBy}
 use Rattle.report.specs.Step.{needed, asAsked, askedOf, askedNumber, askedOffset, packetsOf, Measurable, Measured}
 use Rattle.report.proofs.Bytes.{nine, length-stored, length-encoded, encoded-append, naturals, front-last}
@@ -63,21 +63,21 @@ rows-closed x ps n e =
     let runs = scan-runs ps (rulesOf x) (freshOf x) 0 n e in
     omega (arith, runs .1, fine-count ps n (sym (scan-declared ps) ∙ e))
 
-length-needed : (s : List ℕ) (x : Numbers) (ps : List Packet) → FileHolds s x ps
+length-needed : (s : List ℕ) (x : Parameters) (ps : List Packet) → FileHolds s x ps
     → length (bytesFor x ps) ≡ needed (count (closesAt ps) (length ps))
 length-needed s x ps h =
-    length-report (streamOf x) ps
-    ∙ rw (numbers-length (rowsOf (streamOf x) ps), rows-closed (streamOf x) ps (h .closed) (h .scan-fine))
+    length-report (ofParameters x) ps
+    ∙ rw (numbers-length (rowsOf (ofParameters x) ps), rows-closed (ofParameters x) ps (h .closed) (h .scan-fine))
 
 -- ---- the check's answer
 
 -- a file that the check finds fine, and the frames that it counts
-pub record FineFile (s : List ℕ) (x : Numbers) (closed : ℕ) : Type 0 where
+pub record FineFile (s : List ℕ) (x : Parameters) (closed : ℕ) : Type 0 where
   pub ps : List Packet
   pub is-file : fileOf s ≡ file x ps
   pub as-many : count (closesAt ps) (length ps) ≡ closed
 
-checked-file : (s : List ℕ) (x : Numbers) (packets closed : ℕ) → checkedOf s ≡ checked.Fine x packets closed → FineFile s x closed
+checked-file : (s : List ℕ) (x : Parameters) (packets closed : ℕ) → checkedOf s ≡ checked.Fine x packets closed → FineFile s x closed
 unfolding checkedOf
 checked-file s x packets closed e = go (fileOf s) refl e
   where
@@ -85,7 +85,7 @@ checked-file s x packets closed e = go (fileOf s) refl e
     go (refused m p) g e = let z : _≡_ {A = ℕ} 0 1 = cc in absurd (omega arith)
     go (file y ps) g e = let same : y ≡ x = cc in record { ps = ps; is-file = g ∙ rw same; as-many = cc }
 
-module _ (s : List ℕ) (x : Numbers) (closed : ℕ) (f : FineFile s x closed) where
+module _ (s : List ℕ) (x : Parameters) (closed : ℕ) (f : FineFile s x closed) where
   fine-long : length (bytesFor x (f .ps)) ≡ needed closed
   fine-long = length-needed s x (f .ps) (file-holds s x (f .ps) (f .is-file)) ∙ ap needed (f .as-many)
 
@@ -99,13 +99,13 @@ module _ (s : List ℕ) (x : Numbers) (closed : ℕ) (f : FineFile s x closed) w
 -- ---- the room, by the check's answer
 
 module _ (s : List ℕ) where
-  pub room-fine : (x : Numbers) (packets closed : ℕ) → checkedOf s ≡ checked.Fine x packets closed → needed closed ≡ roomOf s
+  pub room-fine : (x : Parameters) (packets closed : ℕ) → checkedOf s ≡ checked.Fine x packets closed → needed closed ≡ roomOf s
   unfolding roomOf
   room-fine x packets closed e =
       let f = checked-file s x packets closed e in
       sym (ap roomFor (f .is-file) ∙ fine-long s x closed f)
 
-  pub few-closed : (x : Numbers) (packets closed : ℕ) → checkedOf s ≡ checked.Fine x packets closed → closed ≤ 1000000000
+  pub few-closed : (x : Parameters) (packets closed : ℕ) → checkedOf s ≡ checked.Fine x packets closed → closed ≤ 1000000000
   few-closed x packets closed e = fine-closed s x closed (checked-file s x packets closed e)
 
   pub room-refused : (n o : ℕ) → checkedOf s ≡ checked.Refused n o → 0 ≡ roomOf s
@@ -127,28 +127,28 @@ module _ (s : List ℕ) (room : ℕ) where
       go (file x ps) e = let z : _≡_ {A = ℕ} 0 1 = cc in absurd (omega arith)
       go (refused m p) e = cc
 
-  asked-by : (x : Numbers) (packets closed : ℕ) → checkedOf s ≡ checked.Fine x packets closed
-      → pick (leb (needed closed) room) (Fine (streamOf x)) (Refused 15 (length s)) ≡ askedOf s room
+  asked-by : (x : Parameters) (packets closed : ℕ) → checkedOf s ≡ checked.Fine x packets closed
+      → pick (leb (needed closed) room) (Fine (ofParameters x)) (Refused 15 (length s)) ≡ askedOf s room
   unfolding askedOf
   asked-by x packets closed e =
       let f = checked-file s x packets closed e in
       sym (ap (asAsked (length s) room) (f .is-file) ∙ rw (fine-long s x closed f))
 
-  pub asked-room : (x : Numbers) (packets closed : ℕ) → checkedOf s ≡ checked.Fine x packets closed → leb (needed closed) room ≡ true
-      → Fine (streamOf x) ≡ askedOf s room
+  pub asked-room : (x : Parameters) (packets closed : ℕ) → checkedOf s ≡ checked.Fine x packets closed → leb (needed closed) room ≡ true
+      → Fine (ofParameters x) ≡ askedOf s room
   asked-room x packets closed e t = sym (rw t) ∙ asked-by x packets closed e
 
-  pub asked-15 : (x : Numbers) (packets closed : ℕ) → checkedOf s ≡ checked.Fine x packets closed → leb (needed closed) room ≡ false
+  pub asked-15 : (x : Parameters) (packets closed : ℕ) → checkedOf s ≡ checked.Fine x packets closed → leb (needed closed) room ≡ false
       → Refused 15 (length s) ≡ askedOf s room
   asked-15 x packets closed e t = sym (rw t) ∙ asked-by x packets closed e
 
   -- a file that is fine, with room for its report
   pub record Fits (x : StreamNumbers) : Type 0 where
-    pub written : Numbers
+    pub written : Parameters
     pub ps : List Packet
     pub is-file : fileOf s ≡ file written ps
     pub enough : length (bytesFor written ps) ≤ room
-    pub stream : streamOf written ≡ x
+    pub stream : ofParameters written ≡ x
 
   pub asked-fine : (x : StreamNumbers) → askedOf s room ≡ Fine x → Fits x
   unfolding askedOf
@@ -159,7 +159,7 @@ module _ (s : List ℕ) (room : ℕ) where
       go (file y ps) g e = by (leb (length (bytesFor y ps)) room) refl e
         where
           by : (t : Bool) → leb (length (bytesFor y ps)) room ≡ t
-              → pick t (Fine (streamOf y)) (Refused 15 (length s)) ≡ Fine x → Fits x
+              → pick t (Fine (ofParameters y)) (Refused 15 (length s)) ≡ Fine x → Fits x
           by true q e = record { written = y; ps = ps; is-file = g; enough = leb-true _ _ q; stream = cc }
           by false q e = let z : _≡_ {A = ℕ} 0 1 = cc in absurd (omega arith)
 
@@ -174,8 +174,8 @@ module _ (s : List ℕ) (room : ℕ) where
       go (file y ps) = by (leb (length (bytesFor y ps)) room)
         where
           by : (t : Bool) → pick t (answer 0 0) (answer 15 (length s))
-              ≡ answer (askedNumber (pick t (Fine (streamOf y)) (Refused 15 (length s))))
-              (askedOffset (pick t (Fine (streamOf y)) (Refused 15 (length s))))
+              ≡ answer (askedNumber (pick t (Fine (ofParameters y)) (Refused 15 (length s))))
+              (askedOffset (pick t (Fine (ofParameters y)) (Refused 15 (length s))))
           by true = refl
           by false = refl
 
@@ -188,7 +188,7 @@ module _ (s : List ℕ) (room : ℕ) where
   pub fits-measurable : (x : StreamNumbers) → Fits x → Measurable x s room
   fits-measurable x h =
       let holds = file-holds s (h .written) (h .ps) (h .is-file) in
-      let long = length-report (streamOf (h .written)) (h .ps) in
+      let long = length-report (ofParameters (h .written)) (h .ps) in
       record {
         set-up = rw (← h .stream) (holds .set-up);
         whole = ap (λ (r : Packets). r .ending) (holds .all-read);
@@ -205,7 +205,7 @@ refused-leaves s out n o e = go (fileOf s) e
     go (refused m p) e = refl
     go (file y ps) e = by (leb (length (bytesFor y ps)) (length out)) e
       where
-        by : (t : Bool) → pick t (Fine (streamOf y)) (Refused 15 (length s)) ≡ Refused n o
+        by : (t : Bool) → pick t (Fine (ofParameters y)) (Refused 15 (length s)) ≡ Refused n o
             → out ≡ pick t (bytesFor y ps ++ drop (length (bytesFor y ps)) out) out
         by true e = let z : _≡_ {A = ℕ} 0 1 = cc in absurd (omega arith)
         by false e = refl
@@ -215,7 +215,7 @@ pub report-filled : (s out : List ℕ) (x : StreamNumbers) {state : State} {rows
     → Measured x s out state rows → after ≡ sets rows 0 (inBytes (summaryOf state)) → after ≡ filledBy s out
 unfolding filledBy
 report-filled s out x {state} {rows} {after} h m e =
-    let y = streamOf (h .written) in
+    let y = ofParameters (h .written) in
     let front = inBytes (summaryOf (stateOf y (h .ps))) in
     let behind = encoded (numbers (rowsOf y (h .ps))) in
     let whole : bytesFor (h .written) (h .ps) ≡ front ++ behind =

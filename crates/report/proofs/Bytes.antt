@@ -1,4 +1,4 @@
--- Numbers of 8 bytes stored one after the other: how long they are, two lists put together, and one turn of a loop that stores them.
+-- Parameters of 8 bytes stored one after the other: how long they are, two lists put together, and one turn of a loop that stores them.
 use mathlib.Core.Path.{_≡_, refl, sym, ap, _∙_}
 use mathlib.Core.List.{List, [], _∷_, _++_, map, append-assoc}
 use Prim.Native.Nat.{ℕ, zero, suc, _+_, _*_, _≤_, _<_}

@@ -26,16 +26,16 @@ use Rattle.timing.specs.declared.Drawn.the-variants.{Figures, Refused as Not-Dr
 use Rattle.timing.specs.Step.{setUpOf}
 use Rattle.timing.specs.Answers.{graphOf}
 use Rattle.timing.specs.Laws.Answering.{set-up-then}
-use Rattle.record.specs.declared.Numbers.{Numbers}
+use Rattle.limits.specs.declared.Parameters.{Parameters}
 use Rattle.record.specs.declared.Written.{Written}
 use Rattle.record.specs.declared.Written.the-variants.{Done}
-use Rattle.record.specs.Paper as record-paper
+use Rattle.limits.specs.Paper.{setUpRefusal}
 use Rattle.record.specs.Layout.{bytesIn}
 use Rattle.record.specs.Write as record-write
 use Rattle.report.specs.Paper.{limitsOf, limitsNumber, limitsLeft}
 use Rattle.report.specs.Step.{Writes, Limits, drawNumber, drawLeft, Draws}
 
-pub writes-as : (s : Numbers) (ts ss ms out : List ℕ) {w v : Written} {after : List ℕ} → record-write.Writes s ts ss ms out w after → w ≡ v
+pub writes-as : (s : Parameters) (ts ss ms out : List ℕ) {w v : Written} {after : List ℕ} → record-write.Writes s ts ss ms out w after → w ≡ v
     → Writes s ts ss ms out (record-write.writtenNumber v) after
 writes-as s ts ss ms out h e = record {
   number-is = ap record-write.writtenNumber (sym e ∙ h .answered);
@@ -43,11 +43,11 @@ writes-as s ts ss ms out h e = record {
 }
 
 -- a number of 0 says that the file was written: every refusal of the writer's has another
-number-nought : (s : Numbers) (ts ss ms : List ℕ) (room : ℕ) → record-write.writtenNumber (record-write.writtenOf s ts ss ms room) ≡ 0
+number-nought : (s : Parameters) (ts ss ms : List ℕ) (room : ℕ) → record-write.writtenNumber (record-write.writtenOf s ts ss ms room) ≡ 0
     → record-write.writtenOf s ts ss ms room ≡ Done (record-write.fileLength (length ts))
 unfolding record-write.writtenOf
 number-nought s ts ss ms room =
-    let set-up = record-paper.setUpOf s in
+    let set-up = setUpRefusal s in
     pick-either P (eqb set-up 0) (λ t. by (scannedOf nothing false ts ss ms) refl) (λ t e. absurd (eqb-false set-up 0 t e))
   where
     size : ℕ
@@ -60,7 +60,7 @@ number-nought s ts ss ms room =
     by (scan.Fine n) f = pick-either P (leb size room) (λ t e. refl) (λ t e. absurd (omega arith))
     by (scan.Refused r) f = λ e. absurd (scanned-some nothing false ts ss ms r f e)
 
-pub written-whole : (s : Numbers) (ts ss ms out : List ℕ) {after : List ℕ} → Writes s ts ss ms out 0 after
+pub written-whole : (s : Parameters) (ts ss ms out : List ℕ) {after : List ℕ} → Writes s ts ss ms out 0 after
     → record-write.Writes s ts ss ms out (Done (record-write.fileLength (length ts))) after
 written-whole s ts ss ms out h =
     let done = number-nought s ts ss ms (length out) (sym (h .number-is)) in

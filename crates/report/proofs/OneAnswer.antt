@@ -8,7 +8,7 @@ use Rattle.laws.specs.Unique.{one-answer}
 use Rattle.timing.specs.declared.StreamNumbers.{StreamNumbers}
 use Rattle.timing.specs.declared.Rules.{Rules}
 use Rattle.timing.specs.declared.State.{State}
-use Rattle.record.specs.declared.Numbers.{Numbers}
+use Rattle.limits.specs.declared.Parameters.{Parameters}
 use Rattle.report.specs.Step.{Measures, Writes, Limits, Draws, Measured, Closed}
 
 -- ---- the C functions: the number, and what the lent slice holds then
@@ -16,7 +16,7 @@ use Rattle.report.specs.Step.{Measures, Writes, Limits, Draws, Measured,
 pub measures-unique : (s out : List ℕ) (a b : ℕ) (p q : List ℕ) → Measures s out a p → Measures s out b q → (a ≡ b) × (p ≡ q)
 measures-unique s out a b p q x y = (one-answer (x .number-is) (y .number-is), one-answer (x .bytes-are) (y .bytes-are))
 
-pub writes-unique : (s : Numbers) (ts ss ms out : List ℕ) (a b : ℕ) (p q : List ℕ) → Writes s ts ss ms out a p
+pub writes-unique : (s : Parameters) (ts ss ms out : List ℕ) (a b : ℕ) (p q : List ℕ) → Writes s ts ss ms out a p
     → Writes s ts ss ms out b q → (a ≡ b) × (p ≡ q)
 writes-unique s ts ss ms out a b p q x y = (one-answer (x .number-is) (y .number-is), one-answer (x .bytes-are) (y .bytes-are))
 

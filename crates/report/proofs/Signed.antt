@@ -19,17 +19,17 @@ use Rattle.packet.specs.declared.Past.{Past}
 use Rattle.packet.specs.Paper.{Packet, at}
 use Rattle.packet.specs.Step.{nothing, nextOf}
 use Rattle.frame.proofs.RowsFit.{AllFit, fit-append, fit-at}
-use Rattle.timing.specs.Step.{rulesOf, freshOf}
+use Rattle.timing.specs.Step.{ofParameters, rulesOf, freshOf}
 use Rattle.timing.specs.Answers.{summaryOf}
 use Rattle.timing.specs.Laws.InRange.{sound-fresh}
 use Rattle.timing.specs.Laws.Dealing.{sound-after}
 use Rattle.timing.specs.Laws.Scanning.{scan-runs}
 use Rattle.timing.specs.Laws.Fitting.{summary-fits, rows-fit}
-use Rattle.record.specs.declared.Numbers.{Numbers}
+use Rattle.limits.specs.declared.Parameters.{Parameters}
 use Rattle.record.specs.Paper.{bodyLength, packetAt, packetRefusal, Packets, packetsBy, file, fileOf}
 use Rattle.record.proofs.Fields.{bytes-take, bytes-drop}
 use Rattle.record.proofs.ReadWrite.{file-holds}
-use Rattle.report.specs.Paper.{streamOf, stateOf, reportOf, signed, inBytes, encoded}
+use Rattle.report.specs.Paper.{stateOf, reportOf, signed, inBytes, encoded}
 
 -- ---- the timestamps of packets that were read
 
@@ -59,9 +59,9 @@ stamps-by (suc k) past from l b =
 
 -- ---- the numbers of a report
 
-pub report-fits : (s : List ℕ) (w : Numbers) (ps : List Packet) → Bytes s → fileOf s ≡ file w ps → AllFit (reportOf (streamOf w) ps)
+pub report-fits : (s : List ℕ) (w : Parameters) (ps : List Packet) → Bytes s → fileOf s ≡ file w ps → AllFit (reportOf (ofParameters w) ps)
 report-fits s w ps b e =
-    let x = streamOf w in
+    let x = ofParameters w in
     let holds = file-holds s w ps e in
     let sound = sound-fresh x (holds .set-up) in
     let passes = scan-runs ps (rulesOf x) (freshOf x) 0 (holds .closed) (holds .scan-fine) .0 in

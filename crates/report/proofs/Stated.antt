@@ -17,20 +17,20 @@ use Rattle.endian.specs.Number.{numberOf}
 use Rattle.packet.specs.Paper.{Packet, packets}
 use Rattle.timing.specs.declared.State.{State}
 use Rattle.timing.specs.declared.Fed.the-variants.{Accepted}
-use Rattle.timing.specs.Step.{rulesOf, freshOf, numbers}
+use Rattle.timing.specs.Step.{ofParameters, rulesOf, freshOf, numbers}
 use Rattle.timing.specs.Answers.{summaryOf}
 use Rattle.timing.specs.Feed.{feedAll}
 use Rattle.timing.specs.Laws.InRange.{sound-fresh, of-sound}
 use Rattle.timing.specs.Laws.Scanning.{numbers-length, scan-runs}
-use Rattle.record.specs.declared.Numbers.{Numbers}
+use Rattle.limits.specs.declared.Parameters.{Parameters}
 use Rattle.record.specs.Paper.{File, file, refused, fileOf}
 use Rattle.record.specs.Walk.{asChecked, checkedOf, checkedNumber, checkedOffset}
-use Rattle.record.specs.Layout.{NumbersHeld}
+use Rattle.limits.specs.Steps.{ParametersHeld}
 use Rattle.record.specs.Write.{fileLength}
 use Rattle.record.proofs.Fields.{bytes-all}
 use Rattle.record.proofs.ReadWrite.{file-holds}
 use Rattle.record.proofs.RoundTrip.{written-accepted}
-use Rattle.report.specs.Paper.{streamOf, stateOf, rowsOf, reportOf, encoded, bytesFor, answer, answered, answerOf, roomFor, roomOf}
+use Rattle.report.specs.Paper.{stateOf, rowsOf, reportOf, encoded, bytesFor, answer, answered, answerOf, roomFor, roomOf}
 use Rattle.report.specs.Paper.{filled, filledBy}
 use Rattle.report.specs.Step.{Writes}
 use Rattle.report.proofs.Calls.{written-whole}
@@ -58,7 +58,7 @@ module _ (s : List ℕ) where
   unfolding roomOf
   refused-room number offset e = ap roomFor e
 
-  module _ (w : Numbers) (ps : List Packet) (e : fileOf s ≡ file w ps) where
+  module _ (w : Parameters) (ps : List Packet) (e : fileOf s ≡ file w ps) where
     pub too-few-bytes : (room : ℕ) → room < length (bytesFor w ps) → answerOf s room ≡ answer 15 (length s)
     unfolding answerOf
     too-few-bytes room h = ap (answered (length s) room) e ∙ rw (lt-leb (length (bytesFor w ps)) room h)
@@ -101,7 +101,7 @@ module _ (s : List ℕ) where
 
 -- what the writer writes is accepted: the bytes of its file, with the room that is told of them. The hypotheses are what the numbers'
 -- types and slices always hold.
-pub written-measured : (w : Numbers) (ts ss ms out after : List ℕ) → NumbersHeld w
+pub written-measured : (w : Parameters) (ts ss ms out after : List ℕ) → ParametersHeld w
     → ((i : ℕ) → getD ts i 0 < 18446744073709551616) → ((i : ℕ) → getD ss i 0 < 4294967296)
     → Writes w ts ss ms out 0 after → (room : ℕ) → roomOf (take (fileLength (length ts)) after) ≤ room
     → answerOf (take (fileLength (length ts)) after) room ≡ answer 0 0
@@ -112,14 +112,14 @@ written-measured w ts ss ms out after hw ht hs h room enough =
 
 -- the numbers are those of the measurement: one call of `feed` with the file's packets, from the fresh state and with just enough row
 -- numbers lent, is accepted, and the bytes are the nine numbers of its state and the row numbers that it wrote
-pub as-fed : (s : List ℕ) (w : Numbers) (ps : List Packet) → fileOf s ≡ file w ps → (rows : List ℤ)
-    → length rows ≡ length (numbers (rowsOf (streamOf w) ps))
+pub as-fed : (s : List ℕ) (w : Parameters) (ps : List Packet) → fileOf s ≡ file w ps → (rows : List ℤ)
+    → length rows ≡ length (numbers (rowsOf (ofParameters w) ps))
     → (state : State) × (written : List ℤ)
-    × (feedAll (freshOf (streamOf w)) rows ps ≡ record { answer = Accepted state; rows = written })
+    × (feedAll (freshOf (ofParameters w)) rows ps ≡ record { answer = Accepted state; rows = written })
     × (bytesFor w ps ≡ encoded (map pos (summaryOf state) ++ written))
 unfolding feedAll
 as-fed s w ps e rows same =
-    let x = streamOf w in
+    let x = ofParameters w in
     let all = numbers (rowsOf x ps) in
     let holds = file-holds s w ps e in
     let counted = scan-runs ps (rulesOf x) (freshOf x) 0 (holds .closed) (holds .scan-fine) .1 in
@@ -135,7 +135,7 @@ as-fed s w ps e rows same =
 
 -- "Each number is 8 bytes, signed, big-endian": of an accepted file, number k of the report is what its 8 bytes are, read as a signed
 -- number. The bytes of a file are below 256, as a u8 is.
-pub reads-back : (s : List ℕ) → ((i : ℕ) → getD s i 0 < 256) → (w : Numbers) (ps : List Packet) → fileOf s ≡ file w ps
-    → (k : ℕ) → k < length (reportOf (streamOf w) ps)
-    → toZ w64 (numberOf (take 8 (drop (8 * k) (bytesFor w ps)))) ≡ getD (reportOf (streamOf w) ps) k (pos 0)
-reads-back s b w ps e k h = number-back (reportOf (streamOf w) ps) k (report-fits s w ps (bytes-all s b) e) h
+pub reads-back : (s : List ℕ) → ((i : ℕ) → getD s i 0 < 256) → (w : Parameters) (ps : List Packet) → fileOf s ≡ file w ps
+    → (k : ℕ) → k < length (reportOf (ofParameters w) ps)
+    → toZ w64 (numberOf (take 8 (drop (8 * k) (bytesFor w ps)))) ≡ getD (reportOf (ofParameters w) ps) k (pos 0)
+reads-back s b w ps e k h = number-back (reportOf (ofParameters w) ps) k (report-fits s w ps (bytes-all s b) e) h

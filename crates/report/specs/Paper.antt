@@ -12,23 +12,11 @@ use Rattle.endian.specs.Number.{bytesOf}
 use Rattle.packet.specs.Paper.{Packet}
 use Rattle.timing.specs.declared.StreamNumbers.{StreamNumbers}
 use Rattle.timing.specs.declared.State.{State}
-use Rattle.timing.specs.Step.{rulesOf, freshOf, stateAfter, rowsAfter, numbers}
+use Rattle.timing.specs.Step.{ofParameters, rulesOf, freshOf, stateAfter, rowsAfter, numbers}
 use Rattle.timing.specs.Answers.{summaryOf, setUpAs, setUpNumber}
 use Rattle.frame.specs.declared.Row.{Row}
-use Rattle.record.specs.declared.Numbers.{Numbers}
+use Rattle.limits.specs.declared.Parameters.{Parameters}
 use Rattle.record.specs.Paper.{File, file, refused, fileOf}
-
--- a record's stream numbers, as the measurement takes them
-abbrev pub streamOf : Numbers → StreamNumbers
-streamOf s = record {
-  rate = s .rate;
-  schedule = s .schedule;
-  class = s .class;
-  height = s .height;
-  n = s .n;
-  maxudp = s .maxudp;
-  tro = s .tro;
-}
 
 -- the state after the packets of a stream, and the rows of the frames that they close
 abbrev pub stateOf : StreamNumbers → List Packet → State
@@ -53,8 +41,8 @@ abbrev pub encoded : List ℤ → List ℕ
 encoded zs = inBytes (map signed zs)
 
 -- the bytes of a file's report
-abbrev pub bytesFor : Numbers → List Packet → List ℕ
-bytesFor s ps = encoded (reportOf (streamOf s) ps)
+abbrev pub bytesFor : Parameters → List Packet → List ℕ
+bytesFor s ps = encoded (reportOf (ofParameters s) ps)
 
 -- the refusal number and the offset: "both are 0 when accepted"
 pub record Answer : Type 0 where

@@ -15,10 +15,10 @@ use Rattle.timing.specs.declared.Rules.{Rules}
 use Rattle.timing.specs.declared.State.{State}
 use Rattle.timing.specs.declared.Drawn.{Drawn}
 use Rattle.timing.specs.declared.Drawn.the-variants.{Figures, Refused as Not-Drawn}
-use Rattle.timing.specs.Step.{setUpOf, numbers}
+use Rattle.timing.specs.Step.{ofParameters, setUpOf, numbers}
 use Rattle.timing.specs.Answers.{graphOf, drawnNumber}
 use Rattle.timing.specs.Feed.{closing}
-use Rattle.record.specs.declared.Numbers.{Numbers}
+use Rattle.limits.specs.declared.Parameters.{Parameters}
 use Rattle.record.specs.declared.Checked.{Checked}
 use Rattle.record.specs.declared.Checked.the-variants as checked
 use Rattle.record.specs.Paper.{done, packetsIn, File, file, refused, fileOf}
@@ -26,7 +26,7 @@ use Rattle.record.specs.Layout.{bytesIn}
 use Rattle.record.specs.Write.{writtenOf, writtenNumber, leftBy}
 use Rattle.report.specs.declared.Asked.{Asked}
 use Rattle.report.specs.declared.Asked.the-variants.{Fine, Refused}
-use Rattle.report.specs.Paper.{streamOf, stateOf, rowsOf, encoded, bytesFor, answerOf, filledBy, limitsNumber, limitsLeft}
+use Rattle.report.specs.Paper.{stateOf, rowsOf, encoded, bytesFor, answerOf, filledBy, limitsNumber, limitsLeft}
 
 -- the bytes of nine numbers, and of ten for each frame closed
 abbrev pub needed : ℕ → ℕ
@@ -34,7 +34,7 @@ needed closed = 8 * (9 + closed * 10)
 
 -- a file and the room for its report
 abbrev pub asAsked : ℕ → ℕ → File → Asked
-asAsked size room (file s ps) = pick (leb (length (bytesFor s ps)) room) (Fine (streamOf s)) (Refused 15 size)
+asAsked size room (file s ps) = pick (leb (length (bytesFor s ps)) room) (Fine (ofParameters s)) (Refused 15 size)
 asAsked size room (refused number offset) = Refused number offset
 
 unfoldable pub askedOf : List ℕ → ℕ → Asked
@@ -79,7 +79,7 @@ pub record Measures (s out : List ℕ) (number : ℕ) (after : List ℕ) : Type 
   pub number-is : number ≡ answerOf s (length out) .number
   pub bytes-are : after ≡ filledBy s out
 
-pub record Writes (s : Numbers) (ts ss ms out : List ℕ) (number : ℕ) (after : List ℕ) : Type 0 where
+pub record Writes (s : Parameters) (ts ss ms out : List ℕ) (number : ℕ) (after : List ℕ) : Type 0 where
   pub number-is : number ≡ writtenNumber (writtenOf s ts ss ms (length out))
   pub bytes-are : after ≡ leftBy (writtenOf s ts ss ms (length out)) (bytesIn s (packets ts ss ms)) out
 

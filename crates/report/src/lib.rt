@@ -5,8 +5,8 @@ use endian::read32;
 use endian::read64;
 use endian::write64;
 use frame::Row;
+use limits::Parameters;
 use record::Checked;
-use record::Numbers;
 use record::Written;
 use timing::Drawn;
 use timing::Judged;
@@ -24,31 +24,16 @@ ghost use Rattle.frame.specs.Step.{numbersOf};
 ghost use Rattle.timing.specs.Answers.{summaryOf};
 ghost use Rattle.timing.specs.Feed.{Lays};
 ghost use Rattle.timing.specs.Range.{inRange};
-ghost use Rattle.timing.specs.Step.{streamWith};
-ghost use Rattle.record.specs.Paper.{numbersWith};
+ghost use Rattle.timing.specs.Step.{ofParameters};
+ghost use Rattle.limits.specs.Paper.{given};
 ghost use Rattle.record.specs.Write.{writtenOf, writtenPlace};
-ghost use Rattle.report.specs.Paper.{streamOf, inBytes, encoded, answerOf, roomOf};
+ghost use Rattle.report.specs.Paper.{inBytes, encoded, answerOf, roomOf};
 ghost use Rattle.report.specs.Step.{refusedBy, needed, askedOf, Closed, Measurable, Measured, Measures, Writes, Limits, Draws};
 
 // What is lent for a file: fine with its stream numbers, or the number and the offset of the refusal.
 enum Asked {
     Fine(StreamNumbers),
     Refused { number: u8, offset: u64 },
-}
-
-// The record's stream numbers as the measurement takes them.
-pub fn stream(numbers: Numbers) -> StreamNumbers
-    ensures { λ r. ⌜ r ≡ streamOf numbers ⌝ }
-{
-    StreamNumbers {
-        rate: numbers.rate,
-        schedule: numbers.schedule,
-        class: numbers.class,
-        height: numbers.height,
-        n: numbers.n,
-        maxudp: numbers.maxudp,
-        tro: numbers.tro,
-    }
 }
 
 // The refusal of a file; a file that is fine does not come here.
@@ -93,7 +78,9 @@ fn ask(file: &[u8], room: usize) -> Asked
         return refused_by(checked);
     };
     if fits(closed, room) {
-        return Asked::Fine(stream(numbers));
+        return Asked::Fine(StreamNumbers {
+            parameters: numbers,
+        });
     }
     Asked::Refused {
         number: 15,
@@ -238,10 +225,10 @@ pub extern "C" fn vtiming_write(
     markers: &[u8],
     out: &mut [u8],
 ) -> u32
-    ensures { λ r. ⌜ Writes (numbersWith rate schedule class height n maxudp tro)
+    ensures { λ r. ⌜ Writes (given rate schedule class height n maxudp tro)
         (now (arrivals .entry)) (now (stamps .entry)) (now (markers .entry)) (now (out .entry)) r (now (out .exit)) ⌝ }
 {
-    let numbers = Numbers {
+    let numbers = Parameters {
         rate,
         schedule,
         class,
@@ -272,10 +259,10 @@ pub extern "C" fn vtiming_write_place(
     markers: &[u8],
     room: usize,
 ) -> u64
-    ensures { λ r. ⌜ r ≡ writtenPlace (writtenOf (numbersWith rate schedule class height n maxudp tro)
+    ensures { λ r. ⌜ r ≡ writtenPlace (writtenOf (given rate schedule class height n maxudp tro)
         (now (arrivals .entry)) (now (stamps .entry)) (now (markers .entry)) room) ⌝ }
 {
-    let numbers = Numbers {
+    let numbers = Parameters {
         rate,
         schedule,
         class,
@@ -303,9 +290,9 @@ pub extern "C" fn vtiming_limits(
     tro: u32,
     out: &mut [u64],
 ) -> u32
-    ensures { λ r. ⌜ Limits (streamWith rate schedule class height n maxudp tro) (now (out .entry)) r (now (out .exit)) ⌝ }
+    ensures { λ r. ⌜ Limits (ofParameters (given rate schedule class height n maxudp tro)) (now (out .entry)) r (now (out .exit)) ⌝ }
 {
-    let numbers = StreamNumbers {
+    let told = Parameters {
         rate,
         schedule,
         class,
@@ -314,6 +301,7 @@ pub extern "C" fn vtiming_limits(
         maxudp,
         tro,
     };
+    let numbers = StreamNumbers { parameters: told };
     let number = numbers.refusal();
     if number != 0 {
         return number as u32;

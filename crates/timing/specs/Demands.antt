@@ -147,17 +147,17 @@ module _ (x : StreamNumbers) (set-up : setUpOf x ≡ 0) (l : List Packet) (close
 
   -- C_MAX and VRX_FULL are the largest whole numbers not greater than the paper's fractions, a TRO is as given or all of its fraction, and
   -- the reads lie exactly R·F/n apart
-  pub limits-are : CMaxIs (classOf (x .class)) (x .schedule) (frameOf x) (x .n) (rulesOf x .limit)
-      × VrxFullIs (classOf (x .class)) (x .maxudp) (frameOf x) (x .n) (rulesOf x .plan .full)
-      × TroIs (frameOf x) (x .height) (x .tro) (rulesOf x .plan .tro)
-      × Same (record { num = rulesOf x .plan .num; den = rulesOf x .plan .den }) (readSpacing (x .schedule) (frameOf x) (x .n))
+  pub limits-are : CMaxIs (classOf (x .parameters .class)) (x .parameters .schedule) (frameOf x) (x .parameters .n) (rulesOf x .limit)
+      × VrxFullIs (classOf (x .parameters .class)) (x .parameters .maxudp) (frameOf x) (x .parameters .n) (rulesOf x .plan .full)
+      × TroIs (frameOf x) (x .parameters .height) (x .parameters .tro) (rulesOf x .plan .tro)
+      × Same (record { num = rulesOf x .plan .num; den = rulesOf x .plan .den }) (readSpacing (x .parameters .schedule) (frameOf x) (x .parameters .n))
   limits-are = (limit-exact x set-up, full-exact x set-up, tro-exact x set-up, spacing-exact x set-up)
 
   -- "Drain instants lie k·10F/(11n) grains after the first packet of the history, k = 1, 2, and so on (β = 1.10).": k of them are up to
   -- packet i's arrival exactly when the k-th is; and those of a run, counted one by one among any number of instants that reaches its
   -- end, are a difference of two such counts
   pub drains-exact : (k i : ℕ) → k ≤ bucket.drains (bucketHistory x l) i
-      ↔ InstantBy (10 * frameOf x) (11 * x .n) k (bucket.elapsed (bucketHistory x l) i)
+      ↔ InstantBy (10 * frameOf x) (11 * x .parameters .n) k (bucket.elapsed (bucketHistory x l) i)
   drains-exact = proved-bucket.drain-instants (bucketHistory x l) (long x set-up) (in-grains x set-up l closed accepted)
 
   pub drains-counted : (a b most : ℕ) → bucket.IsRun (bucketHistory x l) a b → bucket.drains (bucketHistory x l) b ≤ most
@@ -213,8 +213,8 @@ module _ (x : StreamNumbers) (set-up : setUpOf x ≡ 0) (l : List Packet) (close
   -- "A whole frame runs dry exactly when one of its packets comes after its read time."
   pub dry-exactly : (i : ℕ) → i < length l → frame.kindAt (rulesOf x .plan) (frameHistory x l) i ≡ 0
       → (frame.Dry (rulesOf x .plan) (frameHistory x l) (frame.since (frameHistory x l) i)
-      → (j : ℕ) × (j < x .n) × (frame.late (rulesOf x .plan) (frameHistory x l) (frame.since (frameHistory x l) i) j ≡ true))
-      × ((j : ℕ) → j < x .n → frame.late (rulesOf x .plan) (frameHistory x l) (frame.since (frameHistory x l) i) j ≡ true
+      → (j : ℕ) × (j < x .parameters .n) × (frame.late (rulesOf x .plan) (frameHistory x l) (frame.since (frameHistory x l) i) j ≡ true))
+      × ((j : ℕ) → j < x .parameters .n → frame.late (rulesOf x .plan) (frameHistory x l) (frame.since (frameHistory x l) i) j ≡ true
       → frame.Dry (rulesOf x .plan) (frameHistory x l) (frame.since (frameHistory x l) i))
   unfolding rulesOf
   dry-exactly i h k = (

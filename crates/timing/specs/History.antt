@@ -16,7 +16,7 @@ use Rattle.timing.specs.Step.{frameOf, rulesOf}
 module _ (x : StreamNumbers) (l : List Packet) where
   -- the history as the bucket sees it, in grains, and as the frames see it, in nanoseconds
   abbrev pub bucketHistory : BP.History
-  bucketHistory = record { frame = frameOf x; perFrame = x .n; packets = length l; arrival = λ i. grains (at l i .time) }
+  bucketHistory = record { frame = frameOf x; perFrame = x .parameters .n; packets = length l; arrival = λ i. grains (at l i .time) }
 
   abbrev pub frameHistory : FP.History
   frameHistory = record { packets = length l; time = λ i. at l i .time; stamp = λ i. at l i .stamp; marked = λ i. marked (at l i) }

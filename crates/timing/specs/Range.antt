@@ -55,7 +55,7 @@ module _ (s : State) where
       ∷ implies (ltb 0 (s .frames .current .held)) (leb (s .frames .marked) (s .frames .current .first))
       ∷ implies (ltb 0 (s .frames .current .held)) (leb (s .frames .current .first) (s .past .last))
       ∷ leb (s .frames .current .phase) (2 * frameOf (s .numbers))
-      ∷ leb (s .frames .current .reads) (s .numbers .n)
+      ∷ leb (s .frames .current .reads) (s .numbers .parameters .n)
       ∷ []
 
   -- what is kept of its packets, and the buffer answer
@@ -64,7 +64,7 @@ module _ (s : State) where
       leb (s .frames .current .differs) (s .frames .current .held)
       ∷ leb (s .frames .current .top) (s .frames .current .held)
       ∷ leb (s .frames .current .late) (s .frames .current .held)
-      ∷ leb (s .frames .current .deficit) (s .numbers .n)
+      ∷ leb (s .frames .current .deficit) (s .numbers .parameters .n)
       ∷ (leb (bufferFrame (s .frames .buffer)) (s .past .packets) && leb (bufferPlace (s .frames .buffer)) (s .past .packets))
       ∷ []
 

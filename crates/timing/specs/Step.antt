@@ -6,6 +6,7 @@ use Rattle.laws.specs.Choose.{pick}
 use Rattle.laws.specs.Fold.{fold}
 use Rattle.grain.specs.Paper.{grains, instants}
 use Rattle.limits.specs.Paper.{frameLength, classOf, cMax, vrxFull, troGrains, readNum, readDen, setUpRefusal}
+use Rattle.limits.specs.declared.Parameters.{Parameters}
 use Rattle.packet.specs.declared.Past.{Past}
 use Rattle.packet.specs.Paper.{Packet, marked}
 use Rattle.packet.specs.Step.{nothing, elapsedOf, nextOf}
@@ -18,38 +19,30 @@ use Rattle.timing.specs.declared.State.{State}
 
 -- ---- what follows from the stream numbers
 
+-- the stream numbers of parameters, where set-up is told nothing else
+abbrev pub ofParameters : Parameters → StreamNumbers
+ofParameters p = record { parameters = p }
+
 -- the refusals 1 to 7 of set-up, 0 where there is none
 abbrev pub setUpOf : StreamNumbers → ℕ
-setUpOf x = setUpRefusal (x .rate) (x .schedule) (x .class) (x .height) (x .n) (x .maxudp) (x .tro)
-
--- the seven numbers put together
-abbrev pub streamWith : (rate schedule class height n maxudp tro : ℕ) → StreamNumbers
-streamWith rate schedule class height n maxudp tro = record {
-  rate = rate;
-  schedule = schedule;
-  class = class;
-  height = height;
-  n = n;
-  maxudp = maxudp;
-  tro = tro;
-}
+setUpOf x = setUpRefusal (x .parameters)
 
 abbrev pub frameOf : StreamNumbers → ℕ
-frameOf x = frameLength (x .rate)
+frameOf x = frameLength (x .parameters .rate)
 
 unfoldable pub rulesOf : StreamNumbers → Rules
 rulesOf x = record {
   plan = record {
     period = frameOf x;
-    packets = x .n;
-    tro = troGrains (frameOf x) (x .height) (x .tro);
-    num = readNum (x .schedule) (frameOf x);
-    den = readDen (x .schedule) (x .n);
-    full = vrxFull (classOf (x .class)) (x .maxudp) (frameOf x) (x .n);
+    packets = x .parameters .n;
+    tro = troGrains (frameOf x) (x .parameters .height) (x .parameters .tro);
+    num = readNum (x .parameters .schedule) (frameOf x);
+    den = readDen (x .parameters .schedule) (x .parameters .n);
+    full = vrxFull (classOf (x .parameters .class)) (x .parameters .maxudp) (frameOf x) (x .parameters .n);
   };
   spacing = 10 * frameOf x;
-  share = 11 * x .n;
-  limit = cMax (classOf (x .class)) (x .schedule) (frameOf x) (x .n);
+  share = 11 * x .parameters .n;
+  limit = cMax (classOf (x .parameters .class)) (x .parameters .schedule) (frameOf x) (x .parameters .n);
 }
 
 abbrev pub freshOf : StreamNumbers → State

@@ -22,21 +22,16 @@ use bucket::Network;
 use frame::Buffer;
 use frame::Frames;
 use frame::Plan;
+use limits::Parameters;
 use packet::Past;
 use packet::Scanned;
 
 // How many numbers sum up a measurement.
 pub const SUMMARY: usize = 9;
 
-// The seven numbers that a stream is set up with, as a record file holds them.
+// What a stream is set up with: its parameters, and beside them what else set-up is told.
 pub struct StreamNumbers {
-    pub rate: u8,
-    pub schedule: u8,
-    pub class: u8,
-    pub height: u16,
-    pub n: u32,
-    pub maxudp: u16,
-    pub tro: u32,
+    pub parameters: Parameters,
 }
 
 // What follows from them: the plan of the frames, the drain instants, which lie spacing/share grains
@@ -117,40 +112,34 @@ impl StreamNumbers {
     pub fn refusal(self) -> u8
         ensures { λ r. ⌜ r ≡ setUpOf self ⌝ }
     {
-        limits::refusal(
-            self.rate,
-            self.schedule,
-            self.class,
-            self.height,
-            self.n,
-            self.maxudp,
-            self.tro,
-        )
+        let told = self.parameters;
+        told.refusal()
     }
 
     pub fn frame_length(self) -> u64
         ensures { λ r. ⌜ r ≡ frameOf self ⌝ }
     {
-        limits::frame_length(self.rate)
+        limits::frame_length(self.parameters.rate)
     }
 
     pub fn rules(self) -> Rules
         ensures { λ r. ⌜ r ≡ rulesOf self ⌝ }
     {
         let frame = self.frame_length();
+        let p = self.parameters;
         let plan = Plan {
             period: frame,
-            packets: self.n as u64,
-            tro: limits::tro_grains(frame, self.height, self.tro),
-            num: limits::read_num(self.schedule, frame),
-            den: limits::read_den(self.schedule, self.n),
-            full: limits::vrx_full(self.class, self.maxudp, frame, self.n),
+            packets: p.n as u64,
+            tro: limits::tro_grains(frame, p.height, p.tro),
+            num: limits::read_num(p.schedule, frame),
+            den: limits::read_den(p.schedule, p.n),
+            full: limits::vrx_full(p.class, p.maxudp, frame, p.n),
         };
         Rules {
             plan,
             spacing: 10 * frame,
-            share: 11 * (self.n as u64),
-            limit: limits::c_max(self.class, self.schedule, frame, self.n),
+            share: 11 * (p.n as u64),
+            limit: limits::c_max(p.class, p.schedule, frame, p.n),
         }
     }
 
@@ -263,7 +252,7 @@ impl State {
             implies(0 < open.held, self.frames.marked <= open.first),
             implies(0 < open.held, open.first <= self.past.last),
             open.phase <= 2 * frame,
-            open.reads <= (numbers.n as u64),
+            open.reads <= (numbers.parameters.n as u64),
         )
     }
 
@@ -279,7 +268,7 @@ impl State {
             open.differs <= open.held,
             open.top <= open.held,
             open.late <= open.held,
-            open.deficit <= (numbers.n as u64),
+            open.deficit <= (numbers.parameters.n as u64),
             both(buffer.frame() <= packets, buffer.place() <= packets),
         )
     }

@@ -4,9 +4,6 @@ use borrow.Author.Needs.{needs}
 use Rattle.printer.proofs.ready.Statement.{statement}
 use Rattle.printer.proofs.ready.Tie as tie
 
-stream-requires : tie.Need-stream-requires
-stream-requires c κs = search needs
-
 set-up-requires : tie.Need-set-up-requires
 set-up-requires c κs = search needs
 
@@ -19,14 +16,14 @@ enum-known-number c = search needs
 returns : tie.Need-returns
 unfolding readyOf
 returns c = let u = c .before .before .before in
-    rw (← u .before .stream .ensures, ← u .set-up .ensures, c .before .state .given .1)
+    rw (← u .set-up .ensures, c .before .state .given .1)
 
 returns-2 : tie.Need-returns-2
 unfolding readyOf
 returns-2 c = let u = c .before .before .before in
-    rw (← u .before .stream .ensures, ← u .set-up .ensures, c .before .number .given .1)
+    rw (← u .set-up .ensures, c .before .number .given .1)
 
 pub ready-spec : {M : Type 1} → statement M
 ready-spec =
     tie.close
-    (tie.spec stream-requires set-up-requires enum-known-state enum-known-number returns returns-2)
+    (tie.spec set-up-requires enum-known-state enum-known-number returns returns-2)

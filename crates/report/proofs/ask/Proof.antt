@@ -28,16 +28,12 @@ returns c =
 fits-requires : tie.Need-fits-requires
 fits-requires c κs = search needs
 
-stream-requires : tie.Need-stream-requires
-stream-requires c κs = search needs
-
 returns-2 : tie.Need-returns-2
 returns-2 c =
-    let after-fits = c .before .before in
+    let after-fits = c .before in
     let told = after-fits .before .before in
-    rw (c .stream .ensures)
-    (asked-room _ _ _ _ _ (sym (told .before .before .check .ensures) ∙ told .checked .given .1)
-    (sym (after-fits .fits2 .ensures) ∙ c .before .if1 .taken))
+    asked-room _ _ _ _ _ (sym (told .before .before .check .ensures) ∙ told .checked .given .1)
+    (sym (after-fits .fits2 .ensures) ∙ c .if1 .taken)
 
 returns-3 : tie.Need-returns-3
 returns-3 c =
@@ -56,6 +52,5 @@ ask-spec =
     refused-by-requires
     returns
     fits-requires
-    stream-requires
     returns-2
     returns-3)

@@ -33,31 +33,31 @@ use Rattle.timing.specs.Laws.Dealing.{accepts}
 use Rattle.timing.specs.Laws.Stopping.{passes}
 
 module _ (x : StreamNumbers) (set-up : setUpOf x ≡ 0) where
-  is-accepted : Accepted (x .rate) (x .schedule) (x .class) (x .height) (x .n) (x .maxudp) (x .tro)
-  is-accepted = accepted (x .rate) (x .schedule) (x .class) (x .height) (x .n) (x .maxudp) (x .tro) set-up
+  is-accepted : Accepted (x .parameters)
+  is-accepted = accepted (x .parameters) set-up
 
   pub long : 0 < frameOf x
   long = omega (arith, frame-long x set-up)
 
-  pub limit-exact : CMaxIs (classOf (x .class)) (x .schedule) (frameOf x) (x .n) (rulesOf x .limit)
+  pub limit-exact : CMaxIs (classOf (x .parameters .class)) (x .parameters .schedule) (frameOf x) (x .parameters .n) (rulesOf x .limit)
   unfolding rulesOf
-  limit-exact = c-max-is (frameOf x) (x .n) long (classOf (x .class)) (x .schedule) (is-accepted .class-fits)
+  limit-exact = c-max-is (frameOf x) (x .parameters .n) long (classOf (x .parameters .class)) (x .parameters .schedule) (is-accepted .class-fits)
 
-  pub full-exact : VrxFullIs (classOf (x .class)) (x .maxudp) (frameOf x) (x .n) (rulesOf x .plan .full)
+  pub full-exact : VrxFullIs (classOf (x .parameters .class)) (x .parameters .maxudp) (frameOf x) (x .parameters .n) (rulesOf x .plan .full)
   unfolding rulesOf
-  full-exact = vrx-full-is (frameOf x) (x .n) long (classOf (x .class)) (x .schedule) (x .maxudp) (is-accepted .class-fits) some
+  full-exact = vrx-full-is (frameOf x) (x .parameters .n) long (classOf (x .parameters .class)) (x .parameters .schedule) (x .parameters .maxudp) (is-accepted .class-fits) some
     where
-      some : 0 < x .maxudp
+      some : 0 < x .parameters .maxudp
       some = ⊎-elim (λ e. omega arith) (λ e. omega arith) (is-accepted .maxudp-known)
 
-  pub tro-exact : TroIs (frameOf x) (x .height) (x .tro) (rulesOf x .plan .tro)
+  pub tro-exact : TroIs (frameOf x) (x .parameters .height) (x .parameters .tro) (rulesOf x .plan .tro)
   unfolding rulesOf
-  tro-exact = tro-is (x .rate) (x .height) (x .tro)
+  tro-exact = tro-is (x .parameters .rate) (x .parameters .height) (x .parameters .tro)
 
   pub spacing-exact : Same (record { num = rulesOf x .plan .num; den = rulesOf x .plan .den })
-      (readSpacing (x .schedule) (frameOf x) (x .n))
+      (readSpacing (x .parameters .schedule) (frameOf x) (x .parameters .n))
   unfolding rulesOf
-  spacing-exact = spacing (x .schedule) (frameOf x) (x .n)
+  spacing-exact = spacing (x .parameters .schedule) (frameOf x) (x .parameters .n)
 
   module _ (l : List Packet) (closed : ℕ) (fine : declared l ≡ Fine closed) where
     pub in-order : Climbs (λ i. at l i .time) (length l)

@@ -66,7 +66,7 @@ module _ (x : StreamNumbers) (l : List Packet) where
 
   drained-is : (i : ℕ) → drainedOf (rulesOf x) (pastAt l i) (at l i .time) ≡ BP.drains (bucketHistory x l) i
   unfolding rulesOf
-  drained-is i = ap (λ (e : ℕ). instants e (10 * frameOf x) (11 * x .n)) (elapsed-is i)
+  drained-is i = ap (λ (e : ℕ). instants e (10 * frameOf x) (11 * x .parameters .n)) (elapsed-is i)
 
   drains-since : (i : ℕ) → BP.drains (bucketHistory x l) i - drainedAt x l i ≡ B.drainsSince (BP.drains (bucketHistory x l)) i
   drains-since zero = sub-zero (BP.drains (bucketHistory x l) 0)

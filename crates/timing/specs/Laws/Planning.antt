@@ -29,23 +29,23 @@ den-most zero n h = omega arith
 den-most (suc schedule) n h = omega arith
 
 module _ (x : StreamNumbers) (e : setUpOf x ≡ 0) where
-  fine : Accepted (x .rate) (x .schedule) (x .class) (x .height) (x .n) (x .maxudp) (x .tro)
-  fine = accepted (x .rate) (x .schedule) (x .class) (x .height) (x .n) (x .maxudp) (x .tro) e
+  fine : Accepted (x .parameters)
+  fine = accepted (x .parameters) e
 
   pub frame-long : 450000000 ≤ frameOf x
-  frame-long = frame-least (x .rate) (fine .rate-known .0) (fine .rate-known .1)
+  frame-long = frame-least (x .parameters .rate) (fine .rate-known .0) (fine .rate-known .1)
 
   pub planned : Planned (rulesOf x .plan)
   unfolding rulesOf
   planned = record {
     long = omega (arith, frame-long);
-    short = omega (arith, frame-most (x .rate));
+    short = omega (arith, frame-most (x .parameters .rate));
     some = fine .n-fits .0;
     few = fine .n-fits .1;
     early = tro-below fine;
-    apart = num-some (x .schedule) (frameOf x) (omega (arith, frame-long));
-    near = num-most (x .schedule) (frameOf x);
-    divided = den-most (x .schedule) (x .n) (fine .n-fits .1);
+    apart = num-some (x .parameters .schedule) (frameOf x) (omega (arith, frame-long));
+    near = num-most (x .parameters .schedule) (frameOf x);
+    divided = den-most (x .parameters .schedule) (x .parameters .n) (fine .n-fits .1);
   }
 
   -- the drain instants of 600 s are fewer than a billion, and their products fit
@@ -54,7 +54,7 @@ module _ (x : StreamNumbers) (e : setUpOf x ≡ 0) where
     unfolding rulesOf
     reach-fits =
         let long : 27 * ns ≤ 16200000000000 = omega arith in
-        let many : 11 * x .n ≤ 220000 = omega (arith, fine .n-fits .1) in
+        let many : 11 * x .parameters .n ≤ 220000 = omega (arith, fine .n-fits .1) in
         omega (arith, mul-le-mul long many)
 
     pub drains-few : instants (27 * ns) (rulesOf x .spacing) (rulesOf x .share) ≤ 1000000000
@@ -62,7 +62,7 @@ module _ (x : StreamNumbers) (e : setUpOf x ≡ 0) where
     drains-few =
         let d = instants (27 * ns) (rulesOf x .spacing) (rulesOf x .share) in
         let far : 4500000000 ≤ 10 * frameOf x = omega (arith, frame-long) in
-        omega (arith, div-mul-le-self (27 * ns * (11 * x .n)) (10 * frameOf x), mul-le-mul-left d far, reach-fits)
+        omega (arith, div-mul-le-self (27 * ns * (11 * x .parameters .n)) (10 * frameOf x), mul-le-mul-left d far, reach-fits)
 
   pub spacing-some : 0 < rulesOf x .spacing
   unfolding rulesOf
@@ -72,5 +72,5 @@ module _ (x : StreamNumbers) (e : setUpOf x ≡ 0) where
   pub guess-fits : (d : ℕ) → d ≤ 1000000000 → d * rulesOf x .spacing < 18446744073709551616
   unfolding rulesOf
   guess-fits d h =
-      let near : 10 * frameOf x ≤ 11261250000 = omega (arith, frame-most (x .rate)) in
+      let near : 10 * frameOf x ≤ 11261250000 = omega (arith, frame-most (x .parameters .rate)) in
       omega (arith, mul-le-mul h near)

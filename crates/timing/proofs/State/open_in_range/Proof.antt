@@ -17,7 +17,7 @@ implies-requires-2 c κs = search needs
 
 mul-all : tie.Need-mul-all
 mul-all c = let f = c .before .before .before .before .before .before .before .before .before .before in
-    omega (arith, f .frame-length .ensures, frame-most (f .before .before .before .args .self .numbers .rate))
+    omega (arith, f .frame-length .ensures, frame-most (f .before .before .before .args .self .numbers .parameters .rate))
 
 cast-all : tie.Need-cast-all
 cast-all c = search needs

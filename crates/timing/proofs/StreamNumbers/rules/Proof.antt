@@ -9,14 +9,14 @@ use Rattle.timing.proofs.StreamNumbers.rules.Tie as tie
 frame-length-requires : tie.Need-frame-length-requires
 frame-length-requires c κs = search needs
 
-cast-t4 : tie.Need-cast-t4
-cast-t4 c = search needs
+cast-t5 : tie.Need-cast-t5
+cast-t5 c = search needs
 
 tro-grains-requires : tie.Need-tro-grains-requires
-tro-grains-requires c κs = omega (arith, frame-most (c .before .before .args .self .rate))
+tro-grains-requires c κs = omega (arith, frame-most (c .before .before .before .args .self .parameters .rate))
 
 read-num-requires : tie.Need-read-num-requires
-read-num-requires c κs = omega (arith, frame-most (c .before .before .before .args .self .rate))
+read-num-requires c κs = omega (arith, frame-most (c .before .before .before .before .args .self .parameters .rate))
 
 read-den-requires : tie.Need-read-den-requires
 read-den-requires c κs = search needs
@@ -24,14 +24,14 @@ read-den-requires c κs = search needs
 vrx-full-requires : tie.Need-vrx-full-requires
 vrx-full-requires c κs = search needs
 
-mul-t4 : tie.Need-mul-t4
-mul-t4 c = omega (arith, frame-most (c .before .before .before .before .before .before .args .self .rate))
+mul-t5 : tie.Need-mul-t5
+mul-t5 c = omega (arith, frame-most (c .before .before .before .before .before .before .before .args .self .parameters .rate))
 
-cast-t8 : tie.Need-cast-t8
-cast-t8 c = search needs
+cast-t9 : tie.Need-cast-t9
+cast-t9 c = search needs
 
-mul-t7 : tie.Need-mul-t7
-mul-t7 c = search needs
+mul-t8 : tie.Need-mul-t8
+mul-t8 c = search needs
 
 c-max-requires : tie.Need-c-max-requires
 c-max-requires c κs = search needs
@@ -45,13 +45,13 @@ rules-spec =
     tie.close
     (tie.spec
     frame-length-requires
-    cast-t4
+    cast-t5
     tro-grains-requires
     read-num-requires
     read-den-requires
     vrx-full-requires
-    mul-t4
-    cast-t8
-    mul-t7
+    mul-t5
+    cast-t9
+    mul-t8
     c-max-requires
     returns)
