@@ -10,7 +10,7 @@ use Rattle.laws.specs.Fold.{fold}
 use Rattle.grain.specs.Paper.{grains, nearest, phase, firstPacketTime, encoded, latency}
 use Rattle.limits.specs.Fraction.{int}
 use Rattle.limits.specs.Paper.{frameLength, activeRatio, classOf, cMax, vrxFull, defaultTro, troGrains, troFits, firstNo, setUpRefusal, given}
-use Rattle.packet.specs.Paper.{Packet}
+use Rattle.packet.specs.declared.Packet.{Packet}
 use Rattle.packet.specs.Step.{refusalOf}
 use Rattle.bucket.specs.Paper.{networkNumber, networkFirst, networkLast}
 use Rattle.bucket.specs.Step as B

@@ -6,7 +6,7 @@ use lib.Dec.{ltb, leb, eqb}
 use lib.IntN.{ℤ, pos, subℕ, _-ℤ_}
 use lib.Signed.{_≤ℤ_, _<ℤ_}
 use Rattle.laws.specs.Choose.{pick}
-use Rattle.laws.specs.Count.{count}
+use Rattle.laws.specs.Count.{count, begun, again}
 use Rattle.laws.specs.Seek.{seek, Lowest}
 use Rattle.grain.specs.Paper.{grains, frameTime, firstPacketTime, rtpOffset, latency, readsBefore}
 use Rattle.frame.specs.declared.Plan.{Plan}
@@ -27,11 +27,11 @@ pub record History : Type 0 where
 module _ (h : History) where
   -- "Packets up to and including the first marker are the lead-in: [..] in no frame.": it is over before packet i
   abbrev pub begunAt : ℕ → Bool
-  begunAt i = ltb 0 (count (h .marked) i)
+  begunAt = begun (h .marked)
 
   -- "After that each marker closes a frame."
   abbrev pub closesAt : ℕ → Bool
-  closesAt i = h .marked i && begunAt i
+  closesAt = again (h .marked)
 
   -- "frame number from 0": how many frames are closed before packet i
   abbrev pub numberAt : ℕ → ℕ

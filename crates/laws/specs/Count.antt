@@ -1,15 +1,23 @@
 -- How many of 0 .. m - 1 pass a test; and that a test which passes exactly up to a place, or between two, has that many.
 use mathlib.Core.Path.{_≡_, refl, sym, _∙_}
-use mathlib.Core.Bool.{Bool, true, false}
+use mathlib.Core.Bool.{Bool, true, false, _&&_}
 use Prim.Native.Nat.{ℕ, zero, suc, _+_, _-_, _≤_, _<_, min}
 use native.Mathlib.Omega.{arith}
 use native.Mathlib.Nat.{not-suc-le-zero}
 use native.Mathlib.Decide.{decLe}
+use lib.Dec.{ltb}
 use Rattle.laws.specs.Choose.{pick, false-true, up-to}
 
 unfoldable pub count : (ℕ → Bool) → ℕ → ℕ
 count p zero = 0
 count p (suc m) = count p m + pick (p m) 1 0
+
+-- one before m passes; and m passes, not as the first
+abbrev pub begun : (ℕ → Bool) → ℕ → Bool
+begun p m = ltb 0 (count p m)
+
+abbrev pub again : (ℕ → Bool) → ℕ → Bool
+again p m = p m && begun p m
 
 pub count-le : (p : ℕ → Bool) (m : ℕ) → count p m ≤ m
 unfolding count

@@ -10,7 +10,8 @@ use Rattle.packet.specs.declared.Past.{Past}
 use Rattle.packet.specs.declared.Refusal.{Refusal}
 use Rattle.packet.specs.declared.Scanned.{Scanned}
 use Rattle.packet.specs.declared.Scanned.the-variants.{Refused}
-use Rattle.packet.specs.Paper.{Packet, marked}
+use Rattle.packet.specs.declared.Packet.{Packet}
+use Rattle.packet.specs.Paper.{marked}
 use Rattle.packet.specs.Step.{numberOf, nextOf, closes, scanOf}
 use Rattle.packet.specs.Calls.{pastAfter, begunAfter, andThen, more}
 use Rattle.packet.proofs.Turn.{scan-goes, scan-stops}

@@ -16,10 +16,12 @@ use Rattle.laws.specs.Choose.{pick, pick-either}
 use Rattle.laws.specs.Count.{count}
 use Rattle.laws.specs.Seek.{seek-is, Lowest}
 use Rattle.laws.specs.Fold.{fold-states}
+use Rattle.packet.specs.declared.Tally.{Tally}
 use Rattle.packet.specs.declared.Scanned.the-variants.{Fine, Refused}
-use Rattle.packet.specs.Paper.{Packet, nought, marked, at, refusalAt, refusedAt, markedAt, begunAt, closesAt}
+use Rattle.packet.specs.declared.Packet.{Packet}
+use Rattle.packet.specs.Paper.{nought, marked, at, refusalAt, refusedAt, markedAt, begunAt, closesAt}
 use Rattle.packet.specs.Paper.{firstRefused, declared, pastAt}
-use Rattle.packet.specs.Step.{nothing, refusalOf, nextOf, scanOf}
+use Rattle.packet.specs.Step.{nothing, refusalOf, nextOf, noPackets, tallied, tallyOf, scanOf}
 use Rattle.packet.specs.Calls.{pastAfter, begunAfter}
 use Rattle.packet.proofs.Refusals.{accepted}
 use Rattle.packet.proofs.Turn.{fine-refused, scan-ends, scan-goes, scan-stops}
@@ -51,6 +53,14 @@ module _ (l : List Packet) where
   pub begun-after : begunAfter false l ≡ begunAt l (length l)
   unfolding count
   begun-after = fold-states (λ begun p. begun || marked p) l nought (begunAt l) (λ i h. begun-at i)
+
+  -- the tally before packet i, and that it is the tally of the packets up to there
+  abbrev pub tallyAt : ℕ → Tally
+  tallyAt i = record { past = pastAt l i; begun = begunAt l i; closed = count (closesAt l) i }
+
+  pub tally-declared : tallyOf noPackets l ≡ tallyAt (length l)
+  unfolding count tallied
+  tally-declared = fold-states tallied l nought tallyAt (λ i h. rw (next-at i, begun-at i))
 
   -- where no packet before i is refused, the scan comes to i
   scan-reaches : (i : ℕ) → i ≤ length l → ((k : ℕ) → k < i → refusalAt l k ≡ 0)

@@ -7,7 +7,8 @@ use native.Mathlib.Nat.{suc-inj}
 use native.Mathlib.Numerals.{add-one}
 use lib.ListN.{length}
 use lib.Seq.{drop-cons, drop-length}
-use Rattle.packet.specs.Paper.{Packet, packets, OneLength, lent, packetsFrom, at}
+use Rattle.packet.specs.declared.Packet.{Packet}
+use Rattle.packet.specs.Paper.{packets, OneLength, lent, packetsFrom, at}
 
 module _ {ts ss ms : List ℕ} (same : OneLength ts ss ms) (i : ℕ) where
   -- there is a packet i, and then the others; or there is none

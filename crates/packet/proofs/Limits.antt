@@ -7,7 +7,8 @@ use Rattle.laws.specs.Count.{count}
 use Rattle.laws.specs.Seek.{seek}
 use Rattle.packet.specs.declared.Past.{Past}
 use Rattle.packet.specs.declared.Scanned.the-variants.{Fine, Refused}
-use Rattle.packet.specs.Paper.{Packet, refusalAt, declared}
+use Rattle.packet.specs.declared.Packet.{Packet}
+use Rattle.packet.specs.Paper.{refusalAt, declared}
 use Rattle.packet.specs.Step.{nothing, refusalOf}
 use Rattle.packet.proofs.Refusals.{refused-11, refused-12, refused-13, refused-14, accepted-0}
 

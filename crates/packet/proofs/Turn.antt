@@ -1,7 +1,7 @@
 -- One packet of a scan: where the scan goes after it, what an answer of the scan says of it, and what there is room for.
 -- By the test on its refusal.
 use mathlib.Core.Path.{_≡_, refl, sym, ap, subst, _∙_}
-use mathlib.Core.Bool.{Bool, true, false, _&&_, _||_, and-false, or-false}
+use mathlib.Core.Bool.{Bool, true, false, _&&_, _||_, or-false}
 use mathlib.Core.List.{List, [], _∷_}
 use Prim.Native.Nat.{ℕ, _+_, _≤_}
 use native.Mathlib.Omega.{arith}
@@ -12,10 +12,12 @@ use borrow.Author.Tests.{eq-eqb, ne-eqb, eqb-true, eqb-false}
 use Rattle.laws.specs.Choose.{pick, pick-either}
 use Rattle.packet.specs.declared.Past.{Past}
 use Rattle.packet.specs.declared.Refusal.{Refusal}
+use Rattle.packet.specs.declared.Tally.{Tally}
 use Rattle.packet.specs.declared.Scanned.{Scanned}
 use Rattle.packet.specs.declared.Scanned.the-variants.{Fine, Refused}
-use Rattle.packet.specs.Paper.{Packet, marked, packets, OneLength}
-use Rattle.packet.specs.Step.{numberOf, nextOf, closes, scanOf, unequal, scannedOf, Ready, scannedNumber}
+use Rattle.packet.specs.declared.Packet.{Packet}
+use Rattle.packet.specs.Paper.{marked, packets, OneLength}
+use Rattle.packet.specs.Step.{numberOf, nextOf, closes, tallied, scanOf, unequal, scannedOf, Ready, scannedNumber}
 
 pub fine-refused : (n : ℕ) (r : Refusal) → Fine n ≡ Refused r → ⊥
 fine-refused n r e = let z : _≡_ {A = ℕ} 0 1 = cc in omega arith
@@ -23,6 +25,26 @@ fine-refused n r e = let z : _≡_ {A = ℕ} 0 1 = cc in omega arith
 pub scan-ends : (past : Past) (begun : Bool) (closed : ℕ) {l : List Packet} → l ≡ [] → scanOf past begun closed l ≡ Fine closed
 unfolding scanOf
 scan-ends past begun closed e = rw e
+
+-- the tally with one packet more: no marker, the first marker, a marker that closes a frame
+module _ (y : Tally) (p : Packet) {past : Past} (e : past ≡ nextOf (y .past) (p .time)) where
+  pub tally-passes : (p .marker ≡ 1 → ⊥) → record { past = past; begun = y .begun; closed = y .closed } ≡ tallied y p
+  unfolding tallied
+  tally-passes n = simp (e, ne-eqb (p .marker) 1 n, or-false, add-zero)
+
+  pub tally-closes : p .marker ≡ 1 → y .begun ≡ true → record { past = past; begun = true; closed = y .closed + 1 } ≡ tallied y p
+  unfolding tallied
+  tally-closes m b = rw (e, eq-eqb (p .marker) 1 m, b)
+
+  pub tally-begins : p .marker ≡ 1 → y .begun ≡ false → record { past = past; begun = true; closed = y .closed } ≡ tallied y p
+  unfolding tallied
+  tally-begins m b = rw (e, eq-eqb (p .marker) 1 m, b, add-zero)
+
+-- no more frames close than packets come
+pub tally-keeps : (y : Tally) (p : Packet) → y .closed ≤ y .past .packets → tallied y p .closed ≤ tallied y p .past .packets
+unfolding tallied
+tally-keeps y p h =
+    pick-either (λ n. y .closed + n ≤ y .past .packets + 1) (marked p && y .begun) (λ e. omega arith) (λ e. omega arith)
 
 module _ (past : Past) (begun : Bool) (closed : ℕ) {p : Packet} {l ps : List Packet} (c : l ≡ p ∷ ps) where
   -- an accepted packet: the scan goes on
@@ -37,19 +59,6 @@ module _ (past : Past) (begun : Bool) (closed : ℕ) {p : Packet} {l ps : List P
   unfolding scanOf
   scan-stops n = rw (c, ne-eqb (numberOf past p) 0 n)
 
-  -- an accepted packet closes a frame, or is the first marker, or is no marker
-  pub scan-closes : numberOf past p ≡ 0 → p .marker ≡ 1 → begun ≡ true
-      → scanOf past begun closed l ≡ scanOf (nextOf past (p .time)) true (closed + 1) ps
-  scan-closes e m b = scan-goes e ∙ rw (eq-eqb (p .marker) 1 m, b)
-
-  pub scan-begins : numberOf past p ≡ 0 → p .marker ≡ 1 → begun ≡ false
-      → scanOf past begun closed l ≡ scanOf (nextOf past (p .time)) true closed ps
-  scan-begins e m b = scan-goes e ∙ rw (eq-eqb (p .marker) 1 m, b, add-zero)
-
-  pub scan-passes : numberOf past p ≡ 0 → (p .marker ≡ 1 → ⊥)
-      → scanOf past begun closed l ≡ scanOf (nextOf past (p .time)) begun closed ps
-  scan-passes e n = scan-goes e ∙ simp (ne-eqb (p .marker) 1 n, or-false, and-false, add-zero)
-
   -- where a scan is ready, this packet is accepted, and the scan after it is ready
   pub ready-accepted : (room : ℕ) → Ready (scanOf past begun closed l) room → numberOf past p ≡ 0
   unfolding scanOf
@@ -57,6 +66,12 @@ module _ (past : Past) (begun : Bool) (closed : ℕ) {p : Packet} {l ps : List P
       pick-either (λ (s : Scanned). Ready s room → numberOf past p ≡ 0) (eqb (numberOf past p) 0)
       (λ e x. eqb-true _ 0 e) (λ e x. absurd x)
       (subst (λ (l : List Packet). Ready (scanOf past begun closed l) room) c r)
+
+-- the same from a tally
+pub scan-tallied : (y : Tally) {p : Packet} {l ps : List Packet} → l ≡ p ∷ ps → numberOf (y .past) p ≡ 0
+    → scanOf (tallied y p .past) (tallied y p .begun) (tallied y p .closed) ps ≡ scanOf (y .past) (y .begun) (y .closed) l
+unfolding tallied
+scan-tallied y c e = sym (scan-goes (y .past) (y .begun) (y .closed) c e)
 
 pub fine-ready : (s : Scanned) (n room : ℕ) → s ≡ Fine n → n ≤ room → Ready s room
 fine-ready s n room e h = rw e h

@@ -6,17 +6,12 @@ use Prim.Native.Nat.{ℕ, zero, suc, _-_}
 use lib.Dec.{ltb, leb, eqb}
 use lib.ListN.{length, drop, getD}
 use Rattle.laws.specs.Choose.{pick}
-use Rattle.laws.specs.Count.{count}
+use Rattle.laws.specs.Count.{count, begun, again}
 use Rattle.laws.specs.Seek.{seek}
+use Rattle.packet.specs.declared.Packet.{Packet}
 use Rattle.packet.specs.declared.Past.{Past}
 use Rattle.packet.specs.declared.Scanned.{Scanned}
 use Rattle.packet.specs.declared.Scanned.the-variants.{Fine, Refused}
-
--- "A packet is an arrival t (u64, nanoseconds since the SMPTE epoch), an RTP timestamp (u32) and a marker (0 or 1)."
-pub record Packet : Type 0 where
-  pub time : ℕ
-  pub stamp : ℕ
-  pub marker : ℕ
 
 -- what stands past the end of a history
 abbrev pub nought : Packet
@@ -72,11 +67,11 @@ module _ (l : List Packet) where
 
   -- a marker came before packet i
   abbrev pub begunAt : ℕ → Bool
-  begunAt i = ltb 0 (count markedAt i)
+  begunAt = begun markedAt
 
   -- "Packets up to and including the first marker are the lead-in: in the bucket, in no frame. After that each marker closes a frame."
   abbrev pub closesAt : ℕ → Bool
-  closesAt i = begunAt i && markedAt i
+  closesAt = again markedAt
 
   -- the lowest place that is refused; the length where none is
   abbrev pub firstRefused : ℕ

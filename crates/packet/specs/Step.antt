@@ -1,14 +1,17 @@
 -- A packet against what came before it, and the scan packet by packet: what the contracts cite.
-use mathlib.Core.Bool.{Bool, _&&_, _||_}
+use mathlib.Core.Bool.{Bool, false, _&&_, _||_}
 use mathlib.Core.List.{List, [], _∷_}
-use Prim.Native.Nat.{ℕ, _+_, _-_, _≤_}
+use Prim.Native.Nat.{ℕ, _+_, _-_, _≤_, _<_}
 use lib.Dec.{ltb, leb, eqb}
 use lib.ListN.{length}
 use Rattle.laws.specs.Choose.{pick}
+use Rattle.laws.specs.Fold.{fold}
 use Rattle.packet.specs.declared.Past.{Past}
+use Rattle.packet.specs.declared.Tally.{Tally}
 use Rattle.packet.specs.declared.Scanned.{Scanned}
 use Rattle.packet.specs.declared.Scanned.the-variants.{Fine, Refused}
-use Rattle.packet.specs.Paper.{Packet, marked, packets}
+use Rattle.packet.specs.declared.Packet.{Packet}
+use Rattle.packet.specs.Paper.{marked, packets}
 
 -- before the first packet
 abbrev pub nothing : Past
@@ -40,7 +43,26 @@ nextOf past t = record { packets = past .packets + 1; first = firstOf past t; la
 
 -- how many frames a packet closes, by whether a marker came before it
 abbrev pub closes : Bool → Packet → ℕ
-closes begun p = pick (begun && marked p) 1 0
+closes begun p = pick (marked p && begun) 1 0
+
+-- the packets so far: before the first, and after one more
+abbrev pub noPackets : Tally
+noPackets = record { past = nothing; begun = false; closed = 0 }
+
+unfoldable pub tallied : Tally → Packet → Tally
+tallied y p = record {
+  past = nextOf (y .past) (p .time);
+  begun = y .begun || marked p;
+  closed = y .closed + closes (y .begun) p;
+}
+
+abbrev pub tallyOf : Tally → List Packet → Tally
+tallyOf = fold tallied
+
+-- another packet may be counted: no more frames closed than packets came
+pub record Countable (y : Tally) : Type 0 where
+  pub few : y .past .packets < 1000000000
+  pub no-more : y .closed ≤ y .past .packets
 
 -- so many frames closed before, then packet by packet up to the first that is refused
 unfoldable pub scanOf : Past → Bool → ℕ → List Packet → Scanned

@@ -2,15 +2,29 @@
 // the first refused packet's number and place, or how many frames close. The scan writes nothing.
 // It knows arrivals, markers and how many packets there were. It must never know a rate, a frame length or a bucket.
 ghost use mathlib.Core.Path.{_≡_};
-ghost use Prim.Native.Nat.{_<_};
+ghost use Prim.Native.Nat.{_≤_, _<_};
 ghost use Rattle.packet.specs.Paper.{OneLength, packets};
-ghost use Rattle.packet.specs.Step.{nothing, firstOf, elapsedOf, refusalOf, nextOf, scanOf, scannedOf};
+ghost use Rattle.packet.specs.Step.{nothing, firstOf, elapsedOf, numberOf, nextOf, noPackets, tallied, Countable, scanOf, scannedOf};
+
+// A packet: its arrival in nanoseconds since the SMPTE epoch, its RTP timestamp, and its marker, which is 0 or 1 where it is accepted.
+pub struct Packet {
+    pub time: u64,
+    pub stamp: u32,
+    pub marker: u8,
+}
 
 // How many packets came before, and the first and the last arrival of them; all 0 where none did.
 pub struct Past {
     pub packets: u64,
     pub first: u64,
     pub last: u64,
+}
+
+// The packets so far: what came before the next, whether a marker did, and how many frames closed.
+pub struct Tally {
+    pub past: Past,
+    pub begun: bool,
+    pub closed: usize,
 }
 
 // The paper's number, and the refused packet's place in the history, from 0; place 0 for number 10.
@@ -59,16 +73,16 @@ impl Past {
     }
 
     // The number by which a packet is refused, 0 where it is not.
-    pub fn refusal(self, t: u64, marker: u8) -> u8
-        ensures { λ r. ⌜ r ≡ refusalOf self t marker ⌝ }
+    pub fn refusal(self, p: Packet) -> u8
+        ensures { λ r. ⌜ r ≡ numberOf self p ⌝ }
     {
-        if 1 < marker {
+        if 1 < p.marker {
             return 11;
         }
-        if t < self.last {
+        if p.time < self.last {
             return 12;
         }
-        if 600000000000 < self.elapsed(t) {
+        if 600000000000 < self.elapsed(p.time) {
             return 13;
         }
         if 1000000000 <= self.packets {
@@ -90,7 +104,7 @@ impl Past {
         }
     }
 
-    // `begun`: a marker came before. The timestamps are lent for their length alone: no refusal reads them.
+    // `begun`: a marker came before.
     pub fn scan(self, begun: bool, arrivals: &[u64], stamps: &[u32], markers: &[u8]) -> Scanned
         ensures { λ r. ⌜ r ≡ scannedOf self begun (now (arrivals .entry)) (now (stamps .entry)) (now (markers .entry)) ⌝ }
     {
@@ -101,37 +115,80 @@ impl Past {
                 place: 0,
             });
         }
-        self.scan_matched(begun, arrivals, stamps, markers)
+        let tally = Tally {
+            past: self,
+            begun,
+            closed: 0,
+        };
+        tally.scan(arrivals, stamps, markers)
+    }
+}
+
+impl Tally {
+    // Before the first packet.
+    pub fn none() -> Tally
+        ensures { λ r. ⌜ r ≡ noPackets ⌝ }
+    {
+        Tally {
+            past: Past::none(),
+            begun: false,
+            closed: 0,
+        }
+    }
+
+    // With one packet more.
+    pub fn with(self, p: Packet) -> Tally
+        requires { ⌜ Countable self ⌝ }
+        ensures { λ r. ⌜ r ≡ tallied self p ⌝ }
+    {
+        let past = self.past;
+        let next = past.next(p.time);
+        if p.marker != 1 {
+            return Tally {
+                past: next,
+                begun: self.begun,
+                closed: self.closed,
+            };
+        }
+        if self.begun {
+            return Tally {
+                past: next,
+                begun: true,
+                closed: self.closed + 1,
+            };
+        }
+        Tally {
+            past: next,
+            begun: true,
+            closed: self.closed,
+        }
     }
 
     // The scan of three slices of one length.
-    fn scan_matched(self, begun: bool, arrivals: &[u64], stamps: &[u32], markers: &[u8]) -> Scanned
-        requires { ⌜ OneLength (now arrivals) (now stamps) (now markers) ⌝ }
-        ensures { λ r. ⌜ r ≡ scanOf self begun 0 (packets (now (arrivals .entry)) (now (stamps .entry)) (now (markers .entry))) ⌝ }
+    fn scan(self, arrivals: &[u64], stamps: &[u32], markers: &[u8]) -> Scanned
+        requires { ⌜ OneLength (now arrivals) (now stamps) (now markers) × (self .closed ≤ self .past .packets) ⌝ }
+        ensures { λ r. ⌜ r ≡ scanOf (self .past) (self .begun) (self .closed)
+            (packets (now (arrivals .entry)) (now (stamps .entry)) (now (markers .entry))) ⌝ }
     {
-        let mut past = self;
-        let mut started = begun;
-        let mut closed = 0;
+        let mut tally = self;
         let mut i = 0;
         while i < arrivals.len() {
-            let t = arrivals[i];
-            let marker = markers[i];
-            let number = past.refusal(t, marker);
+            let p = Packet {
+                time: arrivals[i],
+                stamp: stamps[i],
+                marker: markers[i],
+            };
+            let past = tally.past;
+            let number = past.refusal(p);
             if number != 0 {
                 return Scanned::Refused(Refusal {
                     number: number,
                     place: past.packets,
                 });
             }
-            past = past.next(t);
-            if marker == 1 {
-                if started {
-                    closed += 1;
-                }
-                started = true;
-            }
+            tally = tally.with(p);
             i += 1;
         }
-        Scanned::Fine(closed)
+        Scanned::Fine(tally.closed)
     }
 }

@@ -13,7 +13,7 @@ use borrow.Author.Tests.{eqb-true, eqb-false}
 use Rattle.laws.specs.Choose.{pick, pick-either}
 use Rattle.laws.specs.Fold.{fold}
 use Rattle.packet.specs.declared.Past.{Past}
-use Rattle.packet.specs.Paper as P
+use Rattle.packet.specs.declared.Packet as packet
 use Rattle.packet.specs.Step.{refusalOf, numberOf, nextOf}
 use Rattle.packet.proofs.Refusals.{accepted}
 use Rattle.frame.specs.declared.Row.{Row}
@@ -48,7 +48,7 @@ rows-append (r ∷ l) m = ap (λ (x : List ℕ). rowLine r ++ x) (rows-append l 
 
 module _ (rules : Rules) (s : State) where
   -- one packet's lines, and then those of the others
-  lines-more : (p : P.Packet) (r : Packets) → linesOf rules s (more p r) ≡ rowLines (rowsOf rules s p) ++ linesOf rules (stepOf rules s p) r
+  lines-more : (p : packet.Packet) (r : Packets) → linesOf rules s (more p r) ≡ rowLines (rowsOf rules s p) ++ linesOf rules (stepOf rules s p) r
   unfolding rowsAfter fold
   lines-more p r =
       let here = rowsOf rules s p in
@@ -65,13 +65,13 @@ module _ (rules : Rules) (s : State) where
     unfolding restOf rowsAfter fold rowLines
     rest-stop n some e p = rw (packets-stop (s .past) at l n some e p)
 
-    rest-go : (p : P.Packet) → packetAt l ≡ p → packetRefusal (s .past) at l ≡ 0
+    rest-go : (p : packet.Packet) → packetAt l ≡ p → packetRefusal (s .past) at l ≡ 0
         → restOf rules s at l ≡ rowLines (rowsOf rules s p) ++ restOf rules (stepOf rules s p) (at + 16) (drop 16 l)
     unfolding restOf
     rest-go p same e =
         let tail = packetsIn (nextOf (s .past) (p .time)) (at + 16) (drop 16 l) in
         let split : packetsIn (s .past) at l ≡ more p tail = packets-go (s .past) at l h e
-        ∙ ap (λ (x : P.Packet). more x (packetsIn (nextOf (s .past) (x .time)) (at + 16) (drop 16 l))) same in
+        ∙ ap (λ (x : packet.Packet). more x (packetsIn (nextOf (s .past) (x .time)) (at + 16) (drop 16 l))) same in
         ap (linesOf rules s) split ∙ lines-more p tail
         ∙ ap (λ (x : Past). rowLines (rowsOf rules s p) ++ linesOf rules (stepOf rules s p) (packetsIn x (at + 16) (drop 16 l)))
         (sym (step-past rules s p))

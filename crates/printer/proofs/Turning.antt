@@ -12,6 +12,7 @@ use borrow.Author.Tests.{eq-eqb, ne-eqb, lt-ltb, le-ltb}
 use types.Run.{OneOf, miss}
 use denote.Enum.Declared.{tagOf}
 use Rattle.laws.specs.Lay.{laid, laid-length, laid-more}
+use Rattle.packet.specs.declared.Packet as packet
 use Rattle.packet.specs.Paper as P
 use Rattle.packet.specs.Step.{refusalOf}
 use Rattle.frame.specs.Step as F
@@ -93,7 +94,7 @@ module _ (rules : Rules) (walk : Walk) (w : List ℕ) (last : Bool) (room : ℕ)
 
 -- ---- what the code asks of a packet
 
-module _ {rules : Rules} {walk : Walk} (r : Ready rules walk) (p : P.Packet)
+module _ {rules : Rules} {walk : Walk} (r : Ready rules walk) (p : packet.Packet)
     (e : 0 ≡ refusalOf (walk .state .past) (p .time) (p .marker)) where
   arrived : Rules → State
   arrived q = arriveOf q (walk .state) (p .time) (p .stamp)
@@ -127,11 +128,11 @@ module _ {rules : Rules} {walk : Walk} (r : Ready rules walk) (p : P.Packet)
 
 -- ---- one turn of the code
 
-pub record Turn (rules : Rules) (s : State) (p : P.Packet) (at : ℕ) (out : List ℕ) (s′ : State) (at′ : ℕ) (out′ : List ℕ) : Type 0 where
+pub record Turn (rules : Rules) (s : State) (p : packet.Packet) (at : ℕ) (out : List ℕ) (s′ : State) (at′ : ℕ) (out′ : List ℕ) : Type 0 where
   pub state : s′ ≡ stepOf rules s p
   pub lines : Put (rowLines (rowsOf rules s p)) at out at′ out′
 
-module _ (rules : Rules) (s : State) (p : P.Packet) (at : ℕ) (out : List ℕ) {a : State} (ea : a ≡ arriveOf rules s (p .time) (p .stamp))
+module _ (rules : Rules) (s : State) (p : packet.Packet) (at : ℕ) (out : List ℕ) {a : State} (ea : a ≡ arriveOf rules s (p .time) (p .stamp))
   where
     pub turn-marked : {s′ : State} {at′ : ℕ} {out′ : List ℕ} → p .marker ≡ 1 → s′ ≡ markOf rules a (p .time)
         → Put (rowLines (closing rules a)) at out at′ out′ → Turn rules s p at out s′ at′ out′
@@ -147,7 +148,7 @@ module _ (rules : Rules) (s : State) (p : P.Packet) (at : ℕ) (out : List ℕ) 
         let e : P.marked p ≡ false = ne-eqb (p .marker) 1 m in
         record { state = ea ∙ rw e; lines = rw e (record { next = sym (add-zero at); bytes = refl; short = omega arith }) }
 
-pub turn-length : {rules : Rules} {s : State} {p : P.Packet} {at : ℕ} {out : List ℕ} {s′ : State} {at′ : ℕ} {out′ : List ℕ}
+pub turn-length : {rules : Rules} {s : State} {p : packet.Packet} {at : ℕ} {out : List ℕ} {s′ : State} {at′ : ℕ} {out′ : List ℕ}
     → Turn rules s p at out s′ at′ out′ → length out′ ≡ length out
 turn-length {rules} {s} {p} {at} {out} q = ap length (q .lines .bytes) ∙ laid-length at (rowLines (rowsOf rules s p)) out
 

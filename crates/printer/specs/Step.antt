@@ -7,7 +7,7 @@ use lib.Dec.{ltb, eqb}
 use lib.ListN.{length, drop}
 use Rattle.laws.specs.Choose.{pick}
 use Rattle.laws.specs.Lay.{laid}
-use Rattle.packet.specs.Paper as P
+use Rattle.packet.specs.declared.Packet as packet
 use Rattle.packet.specs.Step.{refusalOf}
 use Rattle.frame.specs.Range.{Planned, Rowable}
 use Rattle.text.specs.Lines.{refusalLine}
@@ -112,19 +112,19 @@ stopsAt item walk = record { walk = walk; used = 0; text = lineOf item (walk .st
 abbrev pub andThen : ℕ → List ℕ → Took → Took
 andThen bytes lines k = record { walk = k .walk; used = bytes + k .used; text = lines ++ k .text; ended = k .ended }
 
-abbrev pub packetOf : ℕ → ℕ → ℕ → P.Packet
+abbrev pub packetOf : ℕ → ℕ → ℕ → packet.Packet
 packetOf t stamp marker = record { time = t; stamp = stamp; marker = marker }
 
 -- the walk after a packet
-abbrev pub stepped : Rules → Walk → P.Packet → Cursor → Walk
+abbrev pub stepped : Rules → Walk → packet.Packet → Cursor → Walk
 stepped rules walk p c = record { at = c; state = stepOf rules (walk .state) p }
 
 -- the lines of the row that a packet closes
-abbrev pub linesAt : Rules → Walk → P.Packet → List ℕ
+abbrev pub linesAt : Rules → Walk → packet.Packet → List ℕ
 linesAt rules walk p = rowLines (rowsOf rules (walk .state) p)
 
 -- a packet that is refused ends the walk before it is counted; `on` is what follows one that is not
-abbrev pub packetBy : Rules → Walk → ℕ → (Walk → ℕ → Took) → P.Packet → Cursor → Took
+abbrev pub packetBy : Rules → Walk → ℕ → (Walk → ℕ → Took) → packet.Packet → Cursor → Took
 packetBy rules walk room on p c =
     pick (eqb (refusalOf (walk .state .past) (p .time) (p .marker)) 0)
     (andThen 16 (linesAt rules walk p) (on (stepped rules walk p c) (room - length (linesAt rules walk p))))

@@ -12,6 +12,7 @@ ghost use Rattle.timing.specs.Feed.{closing};
 ghost use Rattle.printer.specs.Paper.{rowLines, sumLine};
 ghost use Rattle.printer.specs.Step.{unopenedOf, readyOf, beginOf, lineOf, stopsAt, walkOf, takeOf, Closes, Ready, Takes};
 use limits::Parameters;
+use packet::Packet;
 use record::Cursor;
 use record::Read;
 use text::LINE;
@@ -218,8 +219,13 @@ impl Walk {
                 let walk = Walk { at: at, state: s };
                 return walk.stop(item, used, out, written);
             };
+            let packet = Packet {
+                time: t,
+                stamp,
+                marker,
+            };
             let past = s.past;
-            let number = past.refusal(t, marker);
+            let number = past.refusal(packet);
             if number != 0 {
                 let walk = Walk { at: at, state: s };
                 return walk.stop(refused(number, at), used, out, written);

@@ -15,7 +15,8 @@ use Rattle.laws.specs.Choose.{pick}
 use Rattle.packet.specs.declared.Refusal.{Refusal}
 use Rattle.packet.specs.declared.Scanned.{Scanned}
 use Rattle.packet.specs.declared.Scanned.the-variants.{Fine, Refused}
-use Rattle.packet.specs.Paper.{Packet, packets}
+use Rattle.packet.specs.declared.Packet.{Packet}
+use Rattle.packet.specs.Paper.{packets}
 use Rattle.packet.specs.Step.{scannedOf}
 use Rattle.timing.specs.declared.State.{State}
 use Rattle.timing.specs.Step.{rulesOf, stateAfter}

@@ -11,7 +11,8 @@ use lib.Seq.{take-at}
 use Rattle.laws.specs.Choose.{pick}
 use Rattle.laws.specs.Fold.{fold}
 use Rattle.laws.specs.Lay.{laid, laid-is}
-use Rattle.packet.specs.Paper.{Packet, marked}
+use Rattle.packet.specs.declared.Packet.{Packet}
+use Rattle.packet.specs.Paper.{marked}
 use Rattle.frame.specs.Step as F
 use Rattle.timing.specs.declared.StreamNumbers.{StreamNumbers}
 use Rattle.limits.specs.Steps.{ParametersHeld}

@@ -12,7 +12,8 @@ use borrow.Author.Tests.{eq-eqb, le-leb}
 use Rattle.laws.specs.Choose.{pick}
 use Rattle.laws.specs.Lay.{laid}
 use Rattle.packet.specs.declared.Scanned.the-variants.{Fine}
-use Rattle.packet.specs.Paper.{Packet, OneLength, packets, declared}
+use Rattle.packet.specs.declared.Packet.{Packet}
+use Rattle.packet.specs.Paper.{OneLength, packets, declared}
 use Rattle.limits.specs.Steps.{ParametersHeld}
 use Rattle.timing.specs.declared.StreamNumbers.{StreamNumbers}
 use Rattle.timing.specs.declared.State.{State}

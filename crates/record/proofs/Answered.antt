@@ -13,7 +13,7 @@ use borrow.Author.Tests.{eqb-true, eqb-false}
 use Rattle.laws.specs.Choose.{pick, pick-either, false-true}
 use Rattle.laws.specs.Fold.{fold}
 use Rattle.packet.specs.declared.Past.{Past}
-use Rattle.packet.specs.Paper as Paper
+use Rattle.packet.specs.declared.Packet as packet
 use Rattle.packet.specs.Step.{nothing, nextOf, numberOf}
 use Rattle.packet.specs.Calls.{pastAfter}
 use Rattle.limits.specs.declared.Parameters as limits
@@ -37,13 +37,13 @@ unfolding answers
 one-answer k at l e = rw e
 
 -- the packets from an offset on
-abbrev Tells : Past → ℕ → List Paper.Packet → Ending → List Read → Type 0
+abbrev Tells : Past → ℕ → List packet.Packet → Ending → List Read → Type 0
 Tells past at ps done l = l ≡ toldPackets at ps ++ (End ∷ [])
 Tells past at ps (stopped number offset) l =
     Then (toldPackets at ps) (StopsAt (pastAfter past ps) (at + 16 * length ps) number offset) l
 
 -- one packet more in front
-tells-more : (past : Past) (at : ℕ) (p : Paper.Packet) (ps : List Paper.Packet) (e : Ending) (l : List Read)
+tells-more : (past : Past) (at : ℕ) (p : packet.Packet) (ps : List packet.Packet) (e : Ending) (l : List Read)
     → Tells (nextOf past (p .time)) (at + 16) ps e l
     → Tells past at (p ∷ ps) e (Packet (p .time) (p .stamp) (p .marker) (cursor (at + 16)) ∷ l)
 unfolding toldPackets fold
@@ -133,7 +133,7 @@ packets-told (suc j) past at l b o w =
 -- ---- from the first byte
 
 -- version and parameters in front of the packets
-told-from : (numbers : limits.Parameters) (ps : List Paper.Packet) (e : Ending) (l : List Read) → Tells nothing 19 ps e l
+told-from : (numbers : limits.Parameters) (ps : List packet.Packet) (e : Ending) (l : List Read) → Tells nothing 19 ps e l
     → AnsweredBy numbers ps e (Version (cursor 1) ∷ Parameters numbers (cursor 19) ∷ l)
 told-from numbers ps done l t = ap (λ (r : List Read). Version (cursor 1) ∷ Parameters numbers (cursor 19) ∷ r) t
 told-from numbers ps (stopped n o) l t =
@@ -246,7 +246,7 @@ pub reader-answers : (s : List ℕ) (j : ℕ) → length s < 2 ^ 64 → length s
 reader-answers s j w h = subst (Answered (readingOf s)) (sym (calls-along (suc (suc j)) 0 s (omega arith) w)) (rest-answers s j w h)
 
 -- of an accepted file there is nothing but the records and the end
-pub answered-file : (r : Reading) (l : List Read) (s : limits.Parameters) (ps : List Paper.Packet) → asFile r ≡ file s ps → Answered r l
+pub answered-file : (r : Reading) (l : List Read) (s : limits.Parameters) (ps : List packet.Packet) → asFile r ≡ file s ps → Answered r l
     → l ≡ told s ps ++ (End ∷ [])
 answered-file (unread n zero) l s ps e a = absurd (refused-file n 0 s ps e)
 answered-file (unread n (suc o)) l s ps e a = absurd (refused-file n (suc o) s ps e)

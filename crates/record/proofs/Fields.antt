@@ -7,7 +7,7 @@ use lib.ListN.{length, take, drop, getD, length-drop, take-append-drop}
 use lib.Seq.{take-at, drop-at, drop-drop, length-take-le}
 use Rattle.endian.specs.Number.{numberAt, bytesOf, Bytes}
 use Rattle.endian.proofs.Width.{length-bytes, number-bytes, bytes-number, number-byte}
-use Rattle.packet.specs.Paper.{Packet}
+use Rattle.packet.specs.declared.Packet.{Packet}
 use Rattle.limits.specs.declared.Parameters.{Parameters}
 use Rattle.record.specs.Paper.{bodyLength, kindOf, parametersAt, packetAt}
 use Rattle.record.specs.Layout.{laid, fields, total, Fit, parameterWidths, parameterFields, packetWidths, packetFields}

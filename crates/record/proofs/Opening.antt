@@ -1,5 +1,4 @@
--- The check of a whole file from its first byte: what the cursor answers at 0 and at 1, and what that makes of the file; and that the
--- tally of the packets is what the paper declares of them, by place.
+-- The check of a whole file from its first byte: what the cursor answers at 0 and at 1, and what that makes of the file.
 use mathlib.Core.Path.{_≡_, refl, sym, ap, subst, _∙_}
 use mathlib.Core.Bool.{true, false}
 use mathlib.Core.List.{List, [], _∷_}
@@ -10,14 +9,10 @@ use lib.ListN.{length, drop}
 use types.Run.{OneOf, miss}
 use denote.Enum.Declared.{tagOf}
 use Rattle.laws.specs.Choose.{pick-either}
-use Rattle.laws.specs.Count.{count}
-use Rattle.laws.specs.Fold.{fold-states}
-use Rattle.packet.specs.Paper as Paper
-use Rattle.packet.specs.Step.{nothing}
-use Rattle.packet.proofs.Declared.{next-at, begun-at}
+use Rattle.packet.specs.Step.{nothing, noPackets}
+use Rattle.packet.proofs.Declared.{tally-declared}
 use Rattle.limits.specs.declared.Parameters as limits
 use Rattle.record.specs.declared.Cursor.{Cursor}
-use Rattle.record.specs.declared.Tally.{Tally}
 use Rattle.record.specs.declared.Read.{Read}
 use Rattle.record.specs.declared.Read.the-variants.{Version, Parameters, Packet, End, More, Refused}
 use Rattle.record.specs.declared.Checked.the-variants as answer
@@ -25,27 +20,17 @@ use Rattle.limits.specs.Paper.{setUpRefusal}
 use Rattle.record.specs.Paper.{versionFits, parametersAt, formatRefusal}
 use Rattle.record.specs.Paper.{Ending, done, stopped, Packets, packetsIn, endedFile}
 use Rattle.record.specs.Step.{itemOf}
-use Rattle.record.specs.Walk.{asChecked, checkedOf, fresh, tallied, tallyOf, finishBy, finish, refusedBy}
+use Rattle.record.specs.Walk.{asChecked, checkedOf, finishBy, finish, refusedBy}
 use Rattle.record.proofs.Read.{the-type}
 use Rattle.record.proofs.Format.{lone-23}
 use Rattle.record.proofs.Items.{item-refused-1, item-parameters, item-refused}
 use Rattle.record.proofs.Reading.{second, before, reading-20, reading-stop, reading-go}
 
--- the tally at a place of a list of packets
-tallyAt : List Paper.Packet → ℕ → Tally
-tallyAt l i = record { past = Paper.pastAt l i; begun = Paper.begunAt l i; closed = count (Paper.closesAt l) i }
-
-tally-declared : (l : List Paper.Packet) → tallyOf fresh l ≡ tallyAt l (length l)
-unfolding count tallied tallyAt
-tally-declared l =
-    fold-states (λ y p. tallied y (p .time) (p .marker)) l Paper.nought (tallyAt l) (λ i h. rw (next-at l i, begun-at l i))
-
 pub finish-checked : (numbers : limits.Parameters) (r : Packets)
-    → finish numbers fresh r ≡ asChecked (endedFile numbers (r .accepted) (r .ending))
-unfolding tallyAt
+    → finish numbers noPackets r ≡ asChecked (endedFile numbers (r .accepted) (r .ending))
 finish-checked numbers r = go (r .ending)
   where
-    go : (e : Ending) → finishBy numbers fresh (r .accepted) e ≡ asChecked (endedFile numbers (r .accepted) e)
+    go : (e : Ending) → finishBy numbers noPackets (r .accepted) e ≡ asChecked (endedFile numbers (r .accepted) e)
     go done = rw (tally-declared (r .accepted))
     go (stopped n o) = refl
 
@@ -129,7 +114,7 @@ module _ (s : List ℕ) where
       unfolding checkedOf
       first-refused n f p = rw (reading-stop s n v (second _ _ (here .0) ∙ ap setUpRefusal (sym (here .1)) ∙ f) p)
 
-      pub first-fine : setUpRefusal numbers ≡ 0 → finish numbers fresh (packetsIn nothing (c .at) (drop (c .at) s)) ≡ checkedOf s
+      pub first-fine : setUpRefusal numbers ≡ 0 → finish numbers noPackets (packetsIn nothing (c .at) (drop (c .at) s)) ≡ checkedOf s
       unfolding checkedOf
       first-fine f =
           rw (reading-go s v (second _ _ (here .0) ∙ ap setUpRefusal (sym (here .1)) ∙ f), here .2, here .1)

@@ -11,7 +11,8 @@ use borrow.Author.Tests.{eqb-true}
 use Rattle.endian.specs.Number.{Bytes}
 use Rattle.packet.specs.declared.Past.{Past}
 use Rattle.packet.specs.declared.Scanned.the-variants as scan
-use Rattle.packet.specs.Paper.{Packet, marked, packets, OneLength}
+use Rattle.packet.specs.declared.Packet.{Packet}
+use Rattle.packet.specs.Paper.{marked, packets, OneLength}
 use Rattle.packet.specs.Step.{nothing, numberOf, nextOf, closes, scanOf}
 use Rattle.packet.proofs.Lent.{packets-length}
 use Rattle.packet.proofs.Turn.{scan-ends, scan-goes, lengths-same}

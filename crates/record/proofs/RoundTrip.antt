@@ -7,7 +7,8 @@ use mathlib.Core.List.{List, [], _∷_, _++_}
 use Prim.Native.Nat.{ℕ, suc, _^_, _≤_, _<_}
 use lib.ListN.{length, take, getD}
 use Rattle.packet.specs.declared.Scanned.the-variants as scan
-use Rattle.packet.specs.Paper.{Packet, packets, OneLength, declared}
+use Rattle.packet.specs.declared.Packet.{Packet}
+use Rattle.packet.specs.Paper.{packets, OneLength, declared}
 use Rattle.packet.specs.Step.{nothing}
 use Rattle.packet.proofs.Turn.{scanned-fine}
 use Rattle.packet.proofs.Declared.{scan-declared}

@@ -8,7 +8,8 @@ use lib.ListN.{length, set, length-append}
 use lib.Seq.{sets}
 use Rattle.endian.specs.Number.{bytesOf}
 use Rattle.endian.proofs.Width.{length-bytes, two-stored, sets-join}
-use Rattle.packet.specs.Paper.{Packet, OneLength, lent, packetsFrom}
+use Rattle.packet.specs.declared.Packet.{Packet}
+use Rattle.packet.specs.Paper.{OneLength, lent, packetsFrom}
 use Rattle.packet.proofs.Lent.{packets-cons, packets-none}
 use Rattle.limits.specs.declared.Parameters.{Parameters}
 use Rattle.record.specs.Layout.{laid, packetWith, packetRecord, headOf, recordsOf}

@@ -16,18 +16,18 @@ use denote.Enum.Declared.{tagOf}
 use Rattle.laws.specs.Choose.{pick-either}
 use Rattle.laws.specs.Fold.{fold}
 use Rattle.packet.specs.declared.Past.{Past}
-use Rattle.packet.specs.Step.{refusalOf, nextOf}
+use Rattle.packet.specs.Step.{numberOf, nextOf, tallied}
 use Rattle.limits.specs.declared.Parameters as limits
 use Rattle.record.specs.declared.Cursor.{Cursor}
-use Rattle.record.specs.declared.Tally.{Tally}
+use Rattle.packet.specs.declared.Tally.{Tally}
 use Rattle.record.specs.declared.Read.{Read}
 use Rattle.record.proofs.Read.{the-type}
 use Rattle.record.specs.declared.Read.the-variants.{Version, Parameters, Packet, End, More, Refused}
 use Rattle.record.specs.declared.Checked.the-variants as answer
-use Rattle.packet.specs.Paper as Paper
+use Rattle.packet.specs.declared.Packet as packet
 use Rattle.record.specs.Paper.{packetAt, formatRefusal, Ending, done, stopped, Packets, more, packetsIn}
 use Rattle.record.specs.Step.{after, packetOf, itemOf}
-use Rattle.record.specs.Walk.{tallied, fineWith, finishBy, finish, closing, refusedBy}
+use Rattle.record.specs.Walk.{fineWith, finishBy, finish, closing, refusedBy}
 use Rattle.record.proofs.Items.{item-end, item-packet, item-refused}
 use Rattle.record.proofs.Reading.{second, before, packet-here, packets-end, packets-stop, packets-go}
 
@@ -65,12 +65,12 @@ stops numbers y at l r h k e = go r k (subst (Says at l) e (item-says at l h))
     go (Refused n o) k s =
         rw (packets-stop (y .past) at l n (s .0) (before _ _ (omega arith) ∙ s .1) (s .2), s .3)
 
-finish-more : (numbers : limits.Parameters) (y : Tally) (p : Paper.Packet) (r : Packets)
-    → finish numbers y (more p r) ≡ finish numbers (tallied y (p .time) (p .marker)) r
+finish-more : (numbers : limits.Parameters) (y : Tally) (p : packet.Packet) (r : Packets)
+    → finish numbers y (more p r) ≡ finish numbers (tallied y p) r
 unfolding fold
 finish-more numbers y p r = go (r .ending)
   where
-    go : (e : Ending) → finishBy numbers y (p ∷ r .accepted) e ≡ finishBy numbers (tallied y (p .time) (p .marker)) (r .accepted) e
+    go : (e : Ending) → finishBy numbers y (p ∷ r .accepted) e ≡ finishBy numbers (tallied y p) (r .accepted) e
     go done = refl
     go (stopped n o) = refl
 
@@ -91,6 +91,9 @@ module _ (s : List ℕ) {at : ℕ} (h : 1 < at) (fits : length s < 2 ^ 64)
       let w = here .1 in
       cc
 
+  abbrev p : packet.Packet
+  p = record { time = t; stamp = stamp; marker = marker }
+
   the-time : packetAt (drop at s) .time ≡ t
   the-time = let w = here .1 in cc
 
@@ -101,42 +104,22 @@ module _ (s : List ℕ) {at : ℕ} (h : 1 < at) (fits : length s < 2 ^ 64)
   rest = drop-drop 16 at s ∙ rw next-at
 
   module _ (numbers : limits.Parameters) (y : Tally) where
-    pub goes : refusalOf (y .past) t marker ≡ 0
+    pub goes : numberOf (y .past) p ≡ 0
         → finish numbers y (packetsIn (y .past) at (drop at s))
-        ≡ finish numbers (tallied y t marker) (packetsIn (tallied y t marker .past) (next .at) (drop (next .at) s))
+        ≡ finish numbers (tallied y p) (packetsIn (tallied y p .past) (next .at) (drop (next .at) s))
     unfolding tallied fold
     goes f =
-        let p = packetAt (drop at s) in
+        let q = packetAt (drop at s) in
         ap (finish numbers y) (packets-go (y .past) at (drop at s) h (second _ _ (here .0) ∙ rw (the-time, the-marker) f))
-        ∙ finish-more numbers y p (packetsIn (nextOf (y .past) (p .time)) (at + 16) (drop 16 (drop at s)))
+        ∙ finish-more numbers y q (packetsIn (nextOf (y .past) (q .time)) (at + 16) (drop 16 (drop at s)))
         ∙ rw (the-time, the-marker, rest, next-at)
 
-    pub refuses : (n : ℕ) → refusalOf (y .past) t marker ≡ n → 0 < n
+    pub refuses : (n : ℕ) → numberOf (y .past) p ≡ n → 0 < n
         → finish numbers y (packetsIn (y .past) at (drop at s)) ≡ answer.Refused n at
-    refuses n f p =
+    refuses n f some =
         ap (finish numbers y)
         (packets-stop (y .past) at (drop at s) n (omega (arith, next-within, length-drop at s))
-        (second _ _ (here .0) ∙ rw (the-time, the-marker) f) p)
-
--- the tally with one more packet: no marker, the first marker, a marker that closes a frame
-module _ (y : Tally) (t marker : ℕ) {past : Past} (e : past ≡ nextOf (y .past) t) where
-  pub tally-passes : (marker ≡ 1 → ⊥) → record { past = past; begun = y .begun; closed = y .closed } ≡ tallied y t marker
-  unfolding tallied
-  tally-passes n = simp (e, ne-eqb marker 1 n, or-false, and-false, add-zero)
-
-  pub tally-closes : marker ≡ 1 → y .begun ≡ true → record { past = past; begun = true; closed = y .closed + 1 } ≡ tallied y t marker
-  unfolding tallied
-  tally-closes m b = rw (e, eq-eqb marker 1 m, b)
-
-  pub tally-begins : marker ≡ 1 → y .begun ≡ false → record { past = past; begun = true; closed = y .closed } ≡ tallied y t marker
-  unfolding tallied
-  tally-begins m b = rw (e, eq-eqb marker 1 m, b, add-zero)
-
--- no more frames close than packets come
-pub tally-keeps : (y : Tally) (t marker : ℕ) → y .closed ≤ y .past .packets → tallied y t marker .closed ≤ tallied y t marker .past .packets
-unfolding tallied
-tally-keeps y t marker h =
-    pick-either (λ n. y .closed + n ≤ y .past .packets + 1) (y .begun && eqb marker 1) (λ e. omega arith) (λ e. omega arith)
+        (second _ _ (here .0) ∙ rw (the-time, the-marker) f) some)
 
 -- an answer at which reading stops
 pub closing-fine : (r : Read) (numbers : limits.Parameters) (y : Tally) → OneOf (0 ∷ 1 ∷ 2 ∷ 3 ∷ 4 ∷ []) (tagOf the-type r)

@@ -8,7 +8,7 @@ use lib.ListN.{length, drop, getD}
 use Rattle.laws.specs.Choose.{pick, orElse}
 use Rattle.limits.specs.Paper.{setUpRefusal}
 use Rattle.packet.specs.declared.Past.{Past}
-use Rattle.packet.specs.Paper.{Packet}
+use Rattle.packet.specs.declared.Packet.{Packet}
 use Rattle.packet.specs.Step.{nothing, numberOf, nextOf}
 use Rattle.endian.specs.Number.{numberAt}
 use Rattle.limits.specs.declared.Parameters.{Parameters}

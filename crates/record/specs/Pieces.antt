@@ -6,7 +6,7 @@ use Prim.Native.Nat.{ℕ, zero, suc, _+_, _*_, _<_}
 use lib.ListN.{length, drop}
 use Rattle.laws.specs.Choose.{pick}
 use Rattle.packet.specs.declared.Past.{Past}
-use Rattle.packet.specs.Paper as Paper
+use Rattle.packet.specs.declared.Packet as packet
 use Rattle.packet.specs.Step.{nothing, refusalOf}
 use Rattle.packet.specs.Calls.{pastAfter}
 use Rattle.limits.specs.declared.Parameters as limits
@@ -94,12 +94,12 @@ inPieces (suc k) at held (p ∷ pieces) =
 -- ---- the records that the cursor gives, call after call, and what the file reads as
 
 -- packets from an offset on, one after the other
-unfoldable pub toldPackets : ℕ → List Paper.Packet → List Read
+unfoldable pub toldPackets : ℕ → List packet.Packet → List Read
 toldPackets at [] = []
 toldPackets at (p ∷ ps) = Packet (p .time) (p .stamp) (p .marker) (cursor (at + 16)) ∷ toldPackets (at + 16) ps
 
 -- version, parameters, each packet in order
-abbrev pub told : limits.Parameters → List Paper.Packet → List Read
+abbrev pub told : limits.Parameters → List packet.Packet → List Read
 told s ps = Version (cursor 1) ∷ Parameters s (cursor 19) ∷ toldPackets 19 ps
 
 -- the number by which the record is refused that an answer gives: the cursor's own, or set-up's or the packet's after what came before
@@ -121,7 +121,7 @@ pub record StopsAt (past : Past) (at number offset : ℕ) (r : Read) : Type 0 wh
 abbrev pub Then : List Read → (Read → Type 0) → List Read → Type 0
 Then front P l = (r : Read) × (more : List Read) × (l ≡ front ++ (r ∷ more)) × P r
 
-abbrev pub AnsweredBy : limits.Parameters → List Paper.Packet → Ending → List Read → Type 0
+abbrev pub AnsweredBy : limits.Parameters → List packet.Packet → Ending → List Read → Type 0
 AnsweredBy s ps done l = l ≡ told s ps ++ (End ∷ [])
 AnsweredBy s ps (stopped number offset) l =
     Then (told s ps) (StopsAt (pastAfter nothing ps) (19 + 16 * length ps) number offset) l

@@ -1,16 +1,13 @@
 -- A whole file gone through record by record, with what is counted on the way; and the answer to it, from what the file reads as.
-use mathlib.Core.Bool.{false, _||_, _&&_}
 use mathlib.Core.List.{List}
-use Prim.Native.Nat.{ℕ, _+_, _≤_, _<_}
-use lib.Dec.{eqb}
+use Prim.Native.Nat.{ℕ}
 use lib.ListN.{length}
-use Rattle.laws.specs.Choose.{pick}
 use Rattle.laws.specs.Count.{count}
-use Rattle.laws.specs.Fold.{fold}
-use Rattle.packet.specs.Paper.{Packet, closesAt}
-use Rattle.packet.specs.Step.{nothing, nextOf}
+use Rattle.packet.specs.declared.Packet.{Packet}
+use Rattle.packet.specs.Paper.{closesAt}
+use Rattle.packet.specs.Step.{tallyOf}
 use Rattle.limits.specs.declared.Parameters.{Parameters}
-use Rattle.record.specs.declared.Tally.{Tally}
+use Rattle.packet.specs.declared.Tally.{Tally}
 use Rattle.record.specs.declared.Read.{Read}
 use Rattle.record.specs.declared.Read.the-variants as item
 use Rattle.record.specs.declared.Checked.{Checked}
@@ -33,25 +30,6 @@ checkedNumber (Refused number offset) = number
 abbrev pub checkedOffset : Checked → ℕ
 checkedOffset (Fine numbers packets closed) = 0
 checkedOffset (Refused number offset) = offset
-
--- before the first packet, and after one more
-abbrev pub fresh : Tally
-fresh = record { past = nothing; begun = false; closed = 0 }
-
-unfoldable pub tallied : Tally → ℕ → ℕ → Tally
-tallied y t marker = record {
-  past = nextOf (y .past) t;
-  begun = y .begun || eqb marker 1;
-  closed = y .closed + pick (y .begun && eqb marker 1) 1 0;
-}
-
-abbrev pub tallyOf : Tally → List Packet → Tally
-tallyOf = fold (λ y p. tallied y (p .time) (p .marker))
-
--- another packet may be counted: no more frames closed than packets came
-pub record Countable (y : Tally) : Type 0 where
-  pub few : y .past .packets < 1000000000
-  pub no-more : y .closed ≤ y .past .packets
 
 abbrev pub fineWith : Parameters → Tally → Checked
 fineWith numbers y = Fine numbers (y .past .packets) (y .closed)

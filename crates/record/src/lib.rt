@@ -8,20 +8,22 @@ use endian::write16;
 use endian::write32;
 use endian::write64;
 use limits::Parameters;
+use packet::Packet;
 use packet::Past;
 use packet::Scanned;
+use packet::Tally;
 ghost use mathlib.Core.Path.{_≡_};
 ghost use Prim.Native.Nat.{_<_};
 ghost use lib.ListN.{drop};
 ghost use lib.Seq.{sets};
 ghost use Rattle.endian.specs.Number.{Room};
 ghost use Rattle.packet.specs.Paper.{packets};
-ghost use Rattle.packet.specs.Step.{nothing};
-ghost use Rattle.record.specs.Paper.{parametersAt, kindLength, packetsIn};
+ghost use Rattle.packet.specs.Step.{nothing, noPackets};
+ghost use Rattle.record.specs.Paper.{parametersAt, packetAt, kindLength, packetsIn};
 ghost use Rattle.record.specs.Step.{after, itemOf, pieceOf, scrapOf, Whole, standsIn, packetOf};
 ghost use Rattle.record.specs.Layout.{packetWith, packetRecord, headOf, recordsOf};
 ghost use Rattle.record.specs.Write.{scanning, writtenOf, Writes, Fitting};
-ghost use Rattle.record.specs.Walk.{Countable, fresh, tallied, closing, refusedBy, finish, checkedOf};
+ghost use Rattle.record.specs.Walk.{closing, refusedBy, finish, checkedOf};
 
 // Where the reader stands: at 0 the version byte is next, at 1 the parameters, further on a packet or the end.
 pub struct Cursor {
@@ -70,13 +72,6 @@ pub enum Written {
     Refused { number: u8, place: u64 },
 }
 
-// The packets so far: what came before the next, whether a marker did, and how many frames closed.
-struct Tally {
-    past: Past,
-    begun: bool,
-    closed: u64,
-}
-
 const PARAMETERS: u8 = 1;
 
 const PACKET: u8 = 2;
@@ -113,14 +108,26 @@ fn parameters_of(s: &[u8]) -> Parameters
 //  0        2      3         11          15       16
 //  | length | kind | arrival | timestamp | marker |
 //  | 0   14 | 2    |         |           |        |
+pub fn packet_at(s: &[u8]) -> Packet
+    requires { ⌜ Room 16 (now s) 0 ⌝ }
+    ensures { λ r. ⌜ r ≡ packetAt (now (s .entry)) ⌝ }
+{
+    Packet {
+        time: read64(s, 3),
+        stamp: read32(s, 11),
+        marker: s[15],
+    }
+}
+
 fn packet_of(s: &[u8], next: Cursor) -> Read
     requires { ⌜ Room 16 (now s) 0 ⌝ }
     ensures { λ r. ⌜ r ≡ packetOf (now (s .entry)) next ⌝ }
 {
+    let packet = packet_at(s);
     Read::Packet {
-        t: read64(s, 3),
-        stamp: read32(s, 11),
-        marker: s[15],
+        t: packet.time,
+        stamp: packet.stamp,
+        marker: packet.marker,
         next: next,
     }
 }
@@ -306,61 +313,21 @@ impl Cursor {
     }
 }
 
-impl Tally {
-    fn none() -> Tally
-        ensures { λ r. ⌜ r ≡ fresh ⌝ }
-    {
-        Tally {
-            past: Past::none(),
-            begun: false,
-            closed: 0,
-        }
-    }
-
-    // With one packet more.
-    fn with(self, t: u64, marker: u8) -> Tally
-        requires { ⌜ Countable self ⌝ }
-        ensures { λ r. ⌜ r ≡ tallied self t marker ⌝ }
-    {
-        let past = self.past;
-        let next = past.next(t);
-        if marker != 1 {
-            return Tally {
-                past: next,
-                begun: self.begun,
-                closed: self.closed,
-            };
-        }
-        if self.begun {
-            return Tally {
-                past: next,
-                begun: true,
-                closed: self.closed + 1,
-            };
-        }
-        Tally {
-            past: next,
-            begun: true,
-            closed: self.closed,
-        }
-    }
-
-    // The answer where reading stops: at a refusal, or else at the end.
-    fn close(self, item: Read, numbers: Parameters) -> Checked
-        ensures { λ r. ⌜ r ≡ closing item numbers self ⌝ }
-    {
-        let Read::Refused { number, offset } = item else {
-            let past = self.past;
-            return Checked::Fine {
-                numbers: numbers,
-                packets: past.packets,
-                closed: self.closed,
-            };
+// The answer where reading stops: at a refusal, or else at the end.
+fn closed(tally: Tally, item: Read, numbers: Parameters) -> Checked
+    ensures { λ r. ⌜ r ≡ closing item numbers tally ⌝ }
+{
+    let Read::Refused { number, offset } = item else {
+        let past = tally.past;
+        return Checked::Fine {
+            numbers: numbers,
+            packets: past.packets,
+            closed: tally.closed as u64,
         };
-        Checked::Refused {
-            number: number,
-            offset: offset,
-        }
+    };
+    Checked::Refused {
+        number: number,
+        offset: offset,
     }
 }
 
@@ -405,7 +372,7 @@ pub fn check(s: &[u8]) -> Checked
 // The packets from an offset on, after the parameters.
 fn check_packets(numbers: Parameters, from: Cursor, s: &[u8]) -> Checked
     requires { ⌜ 1 < from .at ⌝ }
-    ensures { λ r. ⌜ r ≡ finish numbers fresh (packetsIn nothing (from .at) (drop (from .at) (now (s .entry)))) ⌝ }
+    ensures { λ r. ⌜ r ≡ finish numbers noPackets (packetsIn nothing (from .at) (drop (from .at) (now (s .entry)))) ⌝ }
 {
     let mut cursor = from;
     let mut tally = Tally::none();
@@ -413,22 +380,27 @@ fn check_packets(numbers: Parameters, from: Cursor, s: &[u8]) -> Checked
         let item = cursor.read_next(s);
         let Read::Packet {
             t,
-            stamp: _,
+            stamp,
             marker,
             next,
         } = item
         else {
-            return tally.close(item, numbers);
+            return closed(tally, item, numbers);
+        };
+        let packet = Packet {
+            time: t,
+            stamp,
+            marker,
         };
         let past = tally.past;
-        let number = past.refusal(t, marker);
+        let number = past.refusal(packet);
         if number != 0 {
             return Checked::Refused {
                 number: number,
                 offset: cursor.at,
             };
         }
-        tally = tally.with(t, marker);
+        tally = tally.with(packet);
         cursor = next;
     }
 }

@@ -13,7 +13,8 @@ use borrow.Author.Tests.{le-leb, lt-leb, leb-true, leb-false}
 use Rattle.laws.specs.Choose.{pick}
 use Rattle.laws.specs.Count.{count, count-le}
 use Rattle.packet.specs.declared.Scanned.the-variants as scan
-use Rattle.packet.specs.Paper.{Packet, closesAt}
+use Rattle.packet.specs.declared.Packet.{Packet}
+use Rattle.packet.specs.Paper.{closesAt}
 use Rattle.packet.specs.Step.{nothing, scanOf}
 use Rattle.packet.proofs.Declared.{scan-declared, fine-few, fine-count}
 use Rattle.timing.specs.declared.StreamNumbers.{StreamNumbers}

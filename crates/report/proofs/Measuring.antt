@@ -3,7 +3,7 @@
 use mathlib.Core.Path.{_≡_, refl, sym, ap, subst, _∙_}
 use mathlib.Core.Bool.{true, false}
 use mathlib.Core.List.{List, [], _∷_}
-use Prim.Native.Nat.{ℕ, _+_, _*_, _/_, _≤_, _<_}
+use Prim.Native.Nat.{ℕ, _+_, _-_, _*_, _/_, _≤_, _<_}
 use native.Mathlib.Omega.{arith}
 use native.Mathlib.Nat.{add-zero}
 use lib.IntN.{ℤ}
@@ -13,7 +13,7 @@ use borrow.Author.Tests.{eq-eqb, ne-eqb}
 use Rattle.laws.specs.Fold.{fold}
 use Rattle.endian.specs.Number.{numberOf, numberAt}
 use Rattle.endian.proofs.Width.{sets-join}
-use Rattle.packet.specs.Paper.{Packet}
+use Rattle.packet.specs.declared.Packet.{Packet}
 use Rattle.packet.specs.Step.{nothing, nextOf}
 use Rattle.frame.specs.declared.Row.{Row}
 use Rattle.frame.specs.Step.{rowOf, numbersOf}
@@ -31,6 +31,7 @@ use Rattle.timing.specs.Laws.Scanning.{scan-runs}
 use Rattle.timing.specs.Laws.Running.{numbers-append, step-past, closes-rows, runs-arrives, runs-closed, runs-lays, next-runs, turn-marked}
 use Rattle.timing.specs.Laws.Running.{turn-plain}
 use Rattle.record.specs.Paper.{packetAt, done, Packets, packetRefusal, packetsIn}
+use Rattle.record.proofs.Items.{rest-all}
 use Rattle.record.proofs.Reading.{neither, packet-here, packets-end, packets-go, packets-accepted}
 use Rattle.record.proofs.ReadWrite.{packets-scan}
 use Rattle.report.specs.Paper.{inBytes, encoded, stateOf}
@@ -168,44 +169,44 @@ module _ {x : StreamNumbers} {file out₀ : List ℕ} {rules : Rules} {s : State
     unfolding numbers inBytes
     nothing-stored e = rw e
 
-    -- the packet's numbers as the code reads them
-    module _ {t stamp marker : ℕ} (et : t ≡ numberAt 8 file (from + 3)) (es : stamp ≡ numberAt 4 file (from + 11))
-        (em : marker ≡ getD file (from + 15) 0) where
-      the-time : t ≡ p .time
-      the-time = et ∙ sym (number-from 8 from 3 file)
+    -- the window that the code reads, and the packet as it reads it
+    pub there : 16 ≤ length (take (length file - from) l)
+    there = rw (rest-all file from) (omega (arith, sixteen, length-drop from file))
 
-      the-stamp : stamp ≡ p .stamp
-      the-stamp = es ∙ sym (number-from 4 from 11 file)
+    module _ {q : Packet} (read : q ≡ packetAt (take (length file - from) l)) where
+      e : q ≡ p
+      e = read ∙ ap packetAt (rest-all file from)
 
-      the-marker : marker ≡ p .marker
-      the-marker = em ∙ sym (getD-drop from file 15 0)
+      pub packet-arrives : Arrives rules s (q .time)
+      packet-arrives = subst (λ (y : Packet). Arrives rules s (y .time)) (sym e) (runs-arrives these)
 
-      pub packet-arrives : Arrives rules s t
-      packet-arrives = rw the-time (runs-arrives these)
+      the-marker : q .marker ≡ p .marker
+      the-marker = ap (λ (y : Packet). y .marker) e
 
-      module _ {a : State} (ea : a ≡ arriveOf rules s t stamp) where
+      module _ {a : State} (ea : a ≡ arriveOf rules s (q .time) (q .stamp)) where
         arrived : a ≡ arriveOf rules s (p .time) (p .stamp)
-        arrived = ea ∙ rw (the-time, the-stamp)
+        arrived = ea ∙ ap (λ (y : Packet). arriveOf rules s (y .time) (y .stamp)) e
 
-        pub packet-lays : marker ≡ 1 → Lays rules a at (length out / 8)
+        pub packet-lays : q .marker ≡ 1 → Lays rules a at (length out / 8)
         packet-lays m = rw arrived (runs-lays these (sym the-marker ∙ m))
 
         pub packet-closed : a .frames .closed ≤ 1000000000
         packet-closed = rw arrived (runs-closed these)
 
         -- no marker: nothing is stored
-        pub turn-passes : (marker ≡ 1 → ⊥) → Loop x file out₀ rules a (from + 16) at out
+        pub turn-passes : (q .marker ≡ 1 → ⊥) → Loop x file out₀ rules a (from + 16) at out
         turn-passes m =
             let turn = turn-plain rules s p at [] arrived (λ e. m (the-marker ∙ e)) in
             turns (turn .state) (turn .place) (nothing-stored (no-rows (λ e. m (the-marker ∙ e))))
 
         -- a marker: the row of the frame that it closes is stored, if there is one
-        pub turn-closes : {s′ : State} {at′ : ℕ} {out′ : List ℕ} → marker ≡ 1 → Closed rules a at out at′ out′ → s′ ≡ markOf rules a t
+        pub turn-closes : {s′ : State} {at′ : ℕ} {out′ : List ℕ} → q .marker ≡ 1 → Closed rules a at out at′ out′
+            → s′ ≡ markOf rules a (q .time)
             → Loop x file out₀ rules s′ (from + 16) at′ out′
         turn-closes m c es′ =
             let same = closes-rows rules s p (eq-eqb (p .marker) 1 (sym the-marker ∙ m)) in
             let row : closing rules a ≡ rowsOf rules s p = ap (closing rules) arrived ∙ same in
-            let laid = turn-marked rules s p at [] arrived (sym the-marker ∙ m) (es′ ∙ rw the-time) (record { next = refl; rows = refl }) in
+            let laid = turn-marked rules s p at [] arrived (sym the-marker ∙ m) (es′ ∙ ap (λ (y : Packet). markOf rules a (y .time)) e) (record { next = refl; rows = refl }) in
             turns (laid .state)
             (c .next ∙ ap (λ (r : List Row). at + length (numbers r)) row)
             (c .bytes ∙ ap (λ (r : List Row). sets out (8 * at) (encoded (numbers r))) row)

@@ -16,7 +16,8 @@ use Rattle.laws.specs.Choose.{pick-either}
 use Rattle.endian.specs.Number.{numberOf, numberAt, bytesOf, Bytes}
 use Rattle.endian.proofs.Width.{length-bytes, number-small, number-bytes}
 use Rattle.packet.specs.declared.Past.{Past}
-use Rattle.packet.specs.Paper.{Packet, at}
+use Rattle.packet.specs.declared.Packet.{Packet}
+use Rattle.packet.specs.Paper.{at}
 use Rattle.packet.specs.Step.{nothing, nextOf}
 use Rattle.frame.proofs.RowsFit.{AllFit, fit-append, fit-at}
 use Rattle.timing.specs.Step.{ofParameters, rulesOf, freshOf}

@@ -14,7 +14,8 @@ use borrow.Author.Tests.{le-leb, lt-leb}
 use Rattle.laws.specs.Choose.{pick}
 use Rattle.laws.specs.Lay.{laid, laid-is}
 use Rattle.endian.specs.Number.{numberOf}
-use Rattle.packet.specs.Paper.{Packet, packets}
+use Rattle.packet.specs.declared.Packet.{Packet}
+use Rattle.packet.specs.Paper.{packets}
 use Rattle.timing.specs.declared.State.{State}
 use Rattle.timing.specs.declared.Fed.the-variants.{Accepted}
 use Rattle.timing.specs.Step.{ofParameters, rulesOf, freshOf, numbers}

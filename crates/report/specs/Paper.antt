@@ -9,7 +9,7 @@ use mir.Val.{ofZ}
 use mir.Syntax.{w64}
 use Rattle.laws.specs.Choose.{pick, orElse}
 use Rattle.endian.specs.Number.{bytesOf}
-use Rattle.packet.specs.Paper.{Packet}
+use Rattle.packet.specs.declared.Packet.{Packet}
 use Rattle.timing.specs.declared.StreamNumbers.{StreamNumbers}
 use Rattle.timing.specs.declared.State.{State}
 use Rattle.timing.specs.Step.{ofParameters, rulesOf, freshOf, stateAfter, rowsAfter, numbers}

@@ -1,8 +1,6 @@
 // What a program in C calls: a whole record file measured into lent bytes, a record file written, the limits of a stream,
 // and the figures of a graph. include/vtiming.h documents each function; their names are fixed.
 // It knows the record file and the measurement, and puts them together. It must never print, and keeps nothing between calls.
-use endian::read32;
-use endian::read64;
 use endian::write64;
 use frame::Row;
 use limits::Parameters;
@@ -152,11 +150,11 @@ fn measure(numbers: StreamNumbers, file: &[u8], out: &mut [u8]) -> State
     let mut from = 19;
     let mut at = SUMMARY;
     while from < file.len() {
-        let t = read64(file, from + 3);
-        s = s.arrive(rules, t, read32(file, from + 11));
-        if file[from + 15] == 1 {
+        let p = record::packet_at(&file[from..]);
+        s = s.arrive(rules, p.time, p.stamp);
+        if p.marker == 1 {
             at = put_closed(s, rules, out, at);
-            s = s.mark(rules, t);
+            s = s.mark(rules, p.time);
         }
         from += 16;
     }

@@ -19,7 +19,8 @@ use Rattle.limits.specs.Paper.{classOf, readSpacing}
 use Rattle.limits.specs.Exact.{CMaxIs, VrxFullIs, TroIs}
 use Rattle.packet.specs.declared.Scanned.the-variants.{Fine, Refused as Scan-Refused}
 use Rattle.packet.specs.declared.Refusal.{Refusal}
-use Rattle.packet.specs.Paper.{Packet, OneLength, packets, declared}
+use Rattle.packet.specs.declared.Packet.{Packet}
+use Rattle.packet.specs.Paper.{OneLength, packets, declared}
 use Rattle.packet.specs.Step.{scannedOf, scannedNumber, scannedPlace, scannedClosed}
 use Rattle.bucket.specs.Paper as bucket
 use Rattle.bucket.proofs.Owner as proved-bucket

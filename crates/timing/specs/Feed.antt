@@ -12,7 +12,8 @@ use Rattle.grain.specs.Paper.{grains}
 use Rattle.packet.specs.declared.Past.{Past}
 use Rattle.packet.specs.declared.Scanned.{Scanned}
 use Rattle.packet.specs.declared.Scanned.the-variants.{Fine, Refused as Scan-Refused}
-use Rattle.packet.specs.Paper.{Packet, packets}
+use Rattle.packet.specs.declared.Packet.{Packet}
+use Rattle.packet.specs.Paper.{packets}
 use Rattle.packet.specs.Step.{elapsedOf, nextOf, numberOf, scanOf, scannedOf}
 use Rattle.frame.specs.declared.Row.{Row}
 use Rattle.frame.specs.Step.{rowOf}

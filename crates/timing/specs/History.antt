@@ -3,7 +3,8 @@ use mathlib.Core.List.{List, [], _++_}
 use Prim.Native.Nat.{ℕ, zero, suc}
 use lib.ListN.{length}
 use Rattle.grain.specs.Paper.{grains}
-use Rattle.packet.specs.Paper.{Packet, marked, at, pastAt}
+use Rattle.packet.specs.declared.Packet.{Packet}
+use Rattle.packet.specs.Paper.{marked, at, pastAt}
 use Rattle.bucket.specs.Paper as BP
 use Rattle.bucket.specs.Step as B
 use Rattle.frame.specs.declared.Row.{Row}

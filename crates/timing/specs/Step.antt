@@ -8,7 +8,8 @@ use Rattle.grain.specs.Paper.{grains, instants}
 use Rattle.limits.specs.Paper.{frameLength, classOf, cMax, vrxFull, troGrains, readNum, readDen, setUpRefusal}
 use Rattle.limits.specs.declared.Parameters.{Parameters}
 use Rattle.packet.specs.declared.Past.{Past}
-use Rattle.packet.specs.Paper.{Packet, marked}
+use Rattle.packet.specs.declared.Packet.{Packet}
+use Rattle.packet.specs.Paper.{marked}
 use Rattle.packet.specs.Step.{nothing, elapsedOf, nextOf}
 use Rattle.bucket.specs.Step as B
 use Rattle.frame.specs.declared.Row.{Row}

@@ -5,18 +5,19 @@ use mathlib.Core.Path.{_≡_, sym, _∙_}
 use native.Mathlib.Omega.{arith}
 use lib.ListN.{length, drop}
 use borrow.Author.Needs.{needs}
-use Rattle.packet.specs.Step.{nothing}
+use Rattle.packet.specs.Step.{nothing, noPackets}
 use Rattle.packet.proofs.Refusals.{accepted}
+use Rattle.packet.proofs.Turn.{tally-keeps}
 use Rattle.record.specs.Paper.{packetsIn}
-use Rattle.record.specs.Walk.{fresh, finish}
-use Rattle.record.proofs.Walking.{stops, goes, refuses, next-at, next-within, tally-keeps}
+use Rattle.record.specs.Walk.{finish}
+use Rattle.record.proofs.Walking.{stops, goes, refuses, next-at, next-within}
 use Rattle.record.proofs.check_packets.Statement.{statement}
 use Rattle.record.proofs.check_packets.Tie as tie
 
 abbrev Inv-loop : tie.InvT-loop
 Inv-loop numbers s cursor₀ tally₀ cursor tally =
     (finish numbers tally (packetsIn (tally .past) (cursor .at) (drop (cursor .at) s))
-    ≡ finish numbers fresh (packetsIn nothing (cursor₀ .at) (drop (cursor₀ .at) s)))
+    ≡ finish numbers noPackets (packetsIn nothing (cursor₀ .at) (drop (cursor₀ .at) s)))
     × (1 < cursor .at) × (tally .closed ≤ tally .past .packets)
 
 abbrev μ-loop : tie.MeasureT-loop
@@ -34,14 +35,14 @@ read-next-requires c κs = c .loop .inv .1
 enum-known-item : tie.Need-enum-known-item Inv-loop μ-loop
 enum-known-item c = search needs
 
-close-requires : tie.Need-close-requires Inv-loop μ-loop
-close-requires c κs = search needs
+closed-requires : tie.Need-closed-requires Inv-loop μ-loop
+closed-requires c κs = search needs
 
 returns : tie.Need-returns Inv-loop μ-loop
 returns c =
     let after-read = c .before .before in
     let at = after-read .before .loop in
-    c .close .ensures ∙ sym (stops _ _ _ _ _ (at .inv .1) (c .before .match .keys2) (sym (after-read .read-next .ensures))) ∙ at .inv .0
+    c .closed .ensures ∙ sym (stops _ _ _ _ _ (at .inv .1) (c .before .match .keys2) (sym (after-read .read-next .ensures))) ∙ at .inv .0
 
 refusal-requires : tie.Need-refusal-requires Inv-loop μ-loop
 refusal-requires c κs = search needs
@@ -79,7 +80,7 @@ loop-again c =
     let fine = sym (not-refused .before .refusal .ensures) ∙ not-refused .if1 .left in (
       rw (c .with .ensures) (sym (goes _ (at .inv .1) (omega (arith, start .good)) here _ (at .tally) fine) ∙ at .inv .0),
       omega (arith, next-at _ (at .inv .1) (omega (arith, start .good)) here),
-      rw (c .with .ensures) (tally-keeps (at .tally) _ _ (at .inv .2)),
+      rw (c .with .ensures) (tally-keeps (at .tally) _ (at .inv .2)),
     )
 
 pub check-packets-spec : {M : Type 1} → statement M
@@ -92,7 +93,7 @@ check-packets-spec =
     loop-holds
     read-next-requires
     enum-known-item
-    close-requires
+    closed-requires
     returns
     refusal-requires
     returns-2

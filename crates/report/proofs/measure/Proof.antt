@@ -5,7 +5,7 @@ use mathlib.Core.Logic.{⊎-elim}
 use native.Mathlib.Omega.{arith}
 use lib.ListN.{length}
 use borrow.Author.Needs.{needs}
-use Rattle.report.proofs.Measuring.{Loop, loop-begins, sixteen, packet-arrives, packet-lays, packet-closed, turn-passes, turn-closes}
+use Rattle.report.proofs.Measuring.{Loop, loop-begins, sixteen, there, packet-arrives, packet-lays, packet-closed, turn-passes, turn-closes}
 use Rattle.report.proofs.Measuring.{loop-ends, measured-from}
 use Rattle.report.proofs.measure.Statement.{statement}
 use Rattle.report.proofs.measure.Tie as tie
@@ -27,39 +27,31 @@ loop-holds c =
     let start = c .before .before .before .before in
     rw (c .fresh .ensures) (loop-begins _ _ _ (start .pre) (c .before .rules .ensures) refl)
 
-add-read64 : tie.Need-add-read64 Inv-loop μ-loop
-add-read64 c = omega (arith, sixteen (c .before .loop .inv) (c .loop-test .taken))
+sub-packet-at : tie.Need-sub-packet-at Inv-loop μ-loop
+sub-packet-at c = search needs
 
-read64-requires : tie.Need-read64-requires Inv-loop μ-loop
-read64-requires c κs = record { inside = omega (arith, sixteen (c .before .loop .inv) (c .loop-test .taken)) }
+part-packet-at-start : tie.Need-part-packet-at-start Inv-loop μ-loop
+part-packet-at-start c = search needs
 
-add-read32 : tie.Need-add-read32 Inv-loop μ-loop
-add-read32 c = omega (arith, sixteen (c .before .before .loop .inv) (c .before .loop-test .taken))
+part-packet-at-end : tie.Need-part-packet-at-end Inv-loop μ-loop
+part-packet-at-end c = search needs
 
-read32-requires : tie.Need-read32-requires Inv-loop μ-loop
-read32-requires c κs = record { inside = omega (arith, sixteen (c .before .before .loop .inv) (c .before .loop-test .taken)) }
+packet-at-requires : tie.Need-packet-at-requires Inv-loop μ-loop
+packet-at-requires c κs =
+    let turn = c .before in
+    record { inside = omega (arith, there (turn .before .loop .inv) (turn .loop-test .taken)) }
 
 arrive-requires : tie.Need-arrive-requires Inv-loop μ-loop
 arrive-requires c κs =
     let turn = c .before .before in
-    packet-arrives (turn .before .loop .inv) (turn .loop-test .taken) (c .before .read64 .ensures) (c .read32 .ensures) refl
-
-add-if1 : tie.Need-add-if1 Inv-loop μ-loop
-add-if1 c =
-    let turn = c .before .before .before in
-    omega (arith, sixteen (turn .before .loop .inv) (turn .loop-test .taken), turn .before .before .before .before .before .before .good)
-
-shared-slice-read-if1 : tie.Need-shared-slice-read-if1 Inv-loop μ-loop
-shared-slice-read-if1 c =
-    let turn = c .before .before .before .before in
-    omega (arith, sixteen (turn .before .loop .inv) (turn .loop-test .taken))
+    packet-arrives (turn .before .loop .inv) (turn .loop-test .taken) (c .packet-at .ensures)
 
 put-closed-requires : tie.Need-put-closed-requires Inv-loop μ-loop
 put-closed-requires c κs =
     let arrived = c .before .before .before in
     let turn = arrived .before .before .before in
     packet-lays (turn .before .loop .inv) (turn .loop-test .taken)
-    (arrived .before .before .read64 .ensures) (arrived .before .read32 .ensures) refl
+    (arrived .before .packet-at .ensures)
     (arrived .arrive .ensures) (c .before .if1 .taken)
 
 mark-requires : tie.Need-mark-requires Inv-loop μ-loop
@@ -67,7 +59,7 @@ mark-requires c κs =
     let arrived = c .before .before .before .before .before .before in
     let turn = arrived .before .before .before in
     packet-closed (turn .before .loop .inv) (turn .loop-test .taken)
-    (arrived .before .before .read64 .ensures) (arrived .before .read32 .ensures) refl
+    (arrived .before .packet-at .ensures)
     (arrived .arrive .ensures)
 
 add-from : tie.Need-add-from Inv-loop μ-loop
@@ -86,11 +78,10 @@ loop-again c =
     let turn = arrived .before .before .before in
     let k = turn .before .loop .inv in
     let some = turn .loop-test .taken in
-    let t = arrived .before .before .read64 .ensures in
-    let stamp = arrived .before .read32 .ensures in
+    let read = arrived .before .packet-at .ensures in
     ⊎-elim
-    (λ w. rw (w .7, w .8, w .6) (turn-closes k some t stamp refl (arrived .arrive .ensures) (w .0 .taken) (w .2 .ensures) (w .5 .ensures)))
-    (λ w. rw (w .2, w .3, w .1) (turn-passes k some t stamp refl (arrived .arrive .ensures) (w .0 .left)))
+    (λ w. rw (w .7, w .8, w .6) (turn-closes k some read (arrived .arrive .ensures) (w .0 .taken) (w .2 .ensures) (w .5 .ensures)))
+    (λ w. rw (w .2, w .3, w .1) (turn-passes k some read (arrived .arrive .ensures) (w .0 .left)))
     (c .if1 .came)
 
 same-length : tie.Need-same-length Inv-loop μ-loop
@@ -108,13 +99,11 @@ measure-spec =
     rules-requires
     fresh-requires
     loop-holds
-    add-read64
-    read64-requires
-    add-read32
-    read32-requires
+    sub-packet-at
+    part-packet-at-start
+    part-packet-at-end
+    packet-at-requires
     arrive-requires
-    add-if1
-    shared-slice-read-if1
     put-closed-requires
     mark-requires
     add-from

@@ -14,7 +14,8 @@ use Rattle.limits.specs.Accepted.{Accepted, accepted}
 use Rattle.limits.specs.Facts.{spacing}
 use Rattle.limits.specs.Exact.{CMaxIs, VrxFullIs, TroIs, c-max-is, vrx-full-is, tro-is}
 use Rattle.packet.specs.declared.Scanned.the-variants.{Fine}
-use Rattle.packet.specs.Paper.{Packet, at, declared}
+use Rattle.packet.specs.declared.Packet.{Packet}
+use Rattle.packet.specs.Paper.{at, declared}
 use Rattle.bucket.proofs.Owner.{Ordered}
 use Rattle.frame.specs.declared.Row.{Row}
 use Rattle.frame.specs.Paper.{closesAt, numberAt, RowIs}

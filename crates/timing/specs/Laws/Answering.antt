@@ -13,7 +13,8 @@ use Rattle.laws.specs.Choose.{pick, pick-either, orElse}
 use Rattle.packet.specs.declared.Scanned.{Scanned}
 use Rattle.packet.specs.declared.Scanned.the-variants.{Fine, Refused as Scan-Refused}
 use Rattle.packet.specs.declared.Refusal.{Refusal}
-use Rattle.packet.specs.Paper.{Packet, packets}
+use Rattle.packet.specs.declared.Packet.{Packet}
+use Rattle.packet.specs.Paper.{packets}
 use Rattle.packet.specs.Step.{scannedOf, scannedNumber, scannedPlace, scannedClosed}
 use Rattle.packet.proofs.Turn.{scanned-some}
 use Rattle.timing.specs.declared.StreamNumbers.{StreamNumbers}

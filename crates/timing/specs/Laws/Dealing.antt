@@ -13,7 +13,8 @@ use Rattle.laws.specs.Fold.{fold, fold-cut}
 use Rattle.packet.specs.declared.Past.{Past}
 use Rattle.packet.specs.declared.Scanned.{Scanned}
 use Rattle.packet.specs.declared.Scanned.the-variants.{Fine, Refused as Scan-Refused}
-use Rattle.packet.specs.Paper.{Packet, packets}
+use Rattle.packet.specs.declared.Packet.{Packet}
+use Rattle.packet.specs.Paper.{packets}
 use Rattle.packet.specs.Step.{numberOf, nextOf, closes, scanOf, scannedOf}
 use Rattle.packet.proofs.Turn.{scanned-fine}
 use Rattle.timing.specs.declared.Rules.{Rules}

@@ -16,7 +16,8 @@ use Rattle.laws.specs.Climb.{Climbs}
 use Rattle.packet.specs.declared.Refusal.{Refusal}
 use Rattle.packet.specs.declared.Scanned.{Scanned}
 use Rattle.packet.specs.declared.Scanned.the-variants.{Fine, Refused}
-use Rattle.packet.specs.Paper.{Packet, nought, marked, at, earlierAt, refusalAt, declared, pastAt}
+use Rattle.packet.specs.declared.Packet.{Packet}
+use Rattle.packet.specs.Paper.{nought, marked, at, earlierAt, refusalAt, declared, pastAt}
 use Rattle.packet.specs.Step.{nothing, elapsedOf, nextOf, scanOf}
 use Rattle.packet.specs.Calls.{pastAfter, begunAfter, andThen, more}
 use Rattle.packet.proofs.Cutting.{scan-cut, scan-more}

@@ -12,7 +12,8 @@ use borrow.Author.Tests.{le-leb, lt-leb}
 use Rattle.packet.specs.declared.Refusal.{Refusal}
 use Rattle.packet.specs.declared.Scanned.{Scanned}
 use Rattle.packet.specs.declared.Scanned.the-variants.{Fine, Refused as Scan-Refused}
-use Rattle.packet.specs.Paper.{Packet, OneLength, packets}
+use Rattle.packet.specs.declared.Packet.{Packet}
+use Rattle.packet.specs.Paper.{OneLength, packets}
 use Rattle.packet.specs.Step.{scanOf, scannedOf}
 use Rattle.packet.proofs.Turn.{scanned-fine, lengths-same}
 use Rattle.laws.specs.Choose.{pick}

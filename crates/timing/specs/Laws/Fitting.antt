@@ -10,7 +10,8 @@ use mir.Syntax.{w64}
 use mir.Val.{SFits}
 use Rattle.laws.specs.Choose.{pick-either}
 use Rattle.packet.specs.declared.Past.{Past}
-use Rattle.packet.specs.Paper.{Packet, marked, at}
+use Rattle.packet.specs.declared.Packet.{Packet}
+use Rattle.packet.specs.Paper.{marked, at}
 use Rattle.packet.specs.Step.{numberOf}
 use Rattle.bucket.specs.declared.Network.{Network}
 use Rattle.bucket.specs.declared.Network.the-variants as network

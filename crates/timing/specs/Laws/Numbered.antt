@@ -12,7 +12,7 @@ use lib.Seq.{take-at, drop-at}
 use Rattle.laws.specs.Choose.{pick}
 use Rattle.laws.specs.Count.{count}
 use Rattle.laws.specs.Lay.{laid, laid-is}
-use Rattle.packet.specs.Paper.{Packet}
+use Rattle.packet.specs.declared.Packet.{Packet}
 use Rattle.frame.specs.declared.Row.{Row}
 use Rattle.frame.specs.Paper.{closesAt, numberAt}
 use Rattle.frame.specs.Step.{numbersOf}

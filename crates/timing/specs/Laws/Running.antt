@@ -11,7 +11,8 @@ use borrow.Author.Tests.{eq-eqb, ne-eqb}
 use Rattle.laws.specs.Choose.{pick}
 use Rattle.laws.specs.Fold.{fold}
 use Rattle.laws.specs.Lay.{laid, laid-length, laid-more}
-use Rattle.packet.specs.Paper.{Packet, marked}
+use Rattle.packet.specs.declared.Packet.{Packet}
+use Rattle.packet.specs.Paper.{marked}
 use Rattle.packet.specs.Step.{numberOf, nextOf}
 use Rattle.frame.specs.declared.Row.{Row}
 use Rattle.frame.specs.Step as F

@@ -1,6 +1,6 @@
 -- What a scan that refuses nothing tells of the run: every packet passes, and as many rows are written as it counted.
-use mathlib.Core.Path.{_≡_, refl, subst}
-use mathlib.Core.Bool.{Bool, true, false, _&&_, _||_}
+use mathlib.Core.Path.{_≡_, refl, sym, subst}
+use mathlib.Core.Bool.{Bool, true, false, _&&_, _||_, or-true, or-false}
 use mathlib.Core.List.{List, [], _∷_, _++_}
 use Prim.Native.Nat.{ℕ, _+_, _*_}
 use native.Mathlib.Omega.{arith}
@@ -10,7 +10,8 @@ use borrow.Author.Tests.{eqb-true}
 use Rattle.laws.specs.Choose.{pick}
 use Rattle.packet.specs.declared.Past.{Past}
 use Rattle.packet.specs.declared.Scanned.the-variants.{Fine, Refused}
-use Rattle.packet.specs.Paper.{Packet, marked}
+use Rattle.packet.specs.declared.Packet.{Packet}
+use Rattle.packet.specs.Paper.{marked}
 use Rattle.packet.specs.Step.{numberOf, nextOf, closes, scanOf}
 use Rattle.frame.specs.declared.Row.{Row}
 use Rattle.frame.specs.Step as F
@@ -26,32 +27,22 @@ unfolding numbers
 numbers-length [] = refl
 numbers-length (r ∷ l) = omega (arith, length-append (F.numbersOf r) (numbers l), numbers-length l)
 
-or-true : (b : Bool) → true ≡ (b || true)
-or-true true = refl
-or-true false = refl
-
-or-false : (b : Bool) → b ≡ (b || false)
-or-false true = refl
-or-false false = refl
-
 pub begun-step : (rules : Rules) (s : State) (p : Packet) → (stepOf rules s p) .frames .begun ≡ (s .frames .begun || marked p)
 unfolding stepOf arriveOf markOf F.arriveOf F.closeOf
 begun-step rules s p = go (marked p)
   where
     go : (m : Bool) → (pick m (markOf rules (arriveOf rules s (p .time) (p .stamp)) (p .time)) (arriveOf rules s (p .time) (p .stamp)))
         .frames .begun ≡ (s .frames .begun || m)
-    go true = or-true (s .frames .begun)
-    go false = or-false (s .frames .begun)
+    go true = sym (or-true (s .frames .begun))
+    go false = sym (or-false (s .frames .begun))
 
 pub rows-count : (rules : Rules) (s : State) (p : Packet) → length (rowsOf rules s p) ≡ closes (s .frames .begun) p
 unfolding F.rowsOf
-rows-count rules s p = go _ (marked p) (s .frames .begun)
+rows-count rules s p = go _ (marked p && s .frames .begun)
   where
-    go : (r : Row) (m b : Bool) → length (pick (m && b) (r ∷ []) []) ≡ pick (b && m) 1 0
-    go r true true = refl
-    go r true false = refl
-    go r false true = refl
-    go r false false = refl
+    go : (r : Row) (t : Bool) → length (pick t (r ∷ []) []) ≡ pick t 1 0
+    go r true = refl
+    go r false = refl
 
 -- a scan of a packet and more that refuses nothing
 fine-goes : (past : Past) (begun : Bool) (k n : ℕ) (p : Packet) (ps : List Packet) → scanOf past begun k (p ∷ ps) ≡ Fine n

@@ -7,7 +7,8 @@ use native.Mathlib.Omega.{arith}
 use lib.Dec.{leb, eqb}
 use borrow.Author.Tests.{ne-eqb}
 use Rattle.laws.specs.Choose.{pick, pick-either}
-use Rattle.packet.specs.Paper.{Packet, marked}
+use Rattle.packet.specs.declared.Packet.{Packet}
+use Rattle.packet.specs.Paper.{marked}
 use Rattle.packet.specs.Step.{firstOf, elapsedOf, numberOf}
 use Rattle.packet.proofs.Refusals as P
 use Rattle.bucket.specs.declared.Network.{Network}

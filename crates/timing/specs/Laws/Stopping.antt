@@ -9,7 +9,8 @@ use Rattle.laws.specs.Fold.{fold, fold-cut}
 use Rattle.packet.specs.declared.Refusal.{Refusal}
 use Rattle.packet.specs.declared.Scanned.{Scanned}
 use Rattle.packet.specs.declared.Scanned.the-variants.{Fine, Refused}
-use Rattle.packet.specs.Paper.{Packet, declared}
+use Rattle.packet.specs.declared.Packet.{Packet}
+use Rattle.packet.specs.Paper.{declared}
 use Rattle.packet.specs.Step.{nothing, scanOf}
 use Rattle.packet.specs.Calls.{pastAfter, begunAfter, andThen}
 use Rattle.packet.proofs.Cutting.{scan-cut}

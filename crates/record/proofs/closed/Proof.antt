@@ -2,8 +2,8 @@
 use Rattle.record.specs.Walk.{closing}
 use Rattle.record.proofs.Walking.{closing-fine}
 use borrow.Author.Needs.{needs}
-use Rattle.record.proofs.Tally.close.Statement.{statement}
-use Rattle.record.proofs.Tally.close.Tie as tie
+use Rattle.record.proofs.closed.Statement.{statement}
+use Rattle.record.proofs.closed.Tie as tie
 
 enum-known-item : tie.Need-enum-known-item
 enum-known-item c = search needs
@@ -15,5 +15,5 @@ returns-2 : tie.Need-returns-2
 unfolding closing
 returns-2 c = cc (c .before .item .given .1)
 
-pub close-spec : {M : Type 1} → statement M
-close-spec = tie.close (tie.spec enum-known-item returns returns-2)
+pub closed-spec : {M : Type 1} → statement M
+closed-spec = tie.close (tie.spec enum-known-item returns returns-2)

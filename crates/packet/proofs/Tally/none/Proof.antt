@@ -1,7 +1,7 @@
 -- The fresh tally, field by field.
 use borrow.Author.Needs.{needs}
-use Rattle.record.proofs.Tally.none.Statement.{statement}
-use Rattle.record.proofs.Tally.none.Tie as tie
+use Rattle.packet.proofs.Tally.none.Statement.{statement}
+use Rattle.packet.proofs.Tally.none.Tie as tie
 
 none-requires : tie.Need-none-requires
 none-requires c κs = search needs
