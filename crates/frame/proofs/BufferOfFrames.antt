@@ -18,13 +18,111 @@ use Rattle.frame.specs.declared.Place.{Place}
 use Rattle.frame.specs.declared.Buffer.{Buffer}
 use Rattle.frame.specs.declared.Buffer.the-variants.{None, Pass, Under, Over}
 use Rattle.frame.specs.Paper.{History, closesAt, numberAt, since, kindAt, arrival, firstRead, readsTo, arrivedBy, PeakIs}
-use Rattle.frame.specs.Paper.{late, Dry, Overfull, Whole, Fails, dry, overfull, UnderAt, OverAt, BufferIs}
+use Rattle.frame.specs.Paper.{late, Dry, Overfull, OverIs, AnswerIs, BufferIs}
+use Rattle.frame.specs.Paper.{hasFailed, isNone, Fails, FirstDecides, failed, passed, unjudged}
 use Rattle.frame.specs.Step.{answerOf, joined}
 use Rattle.frame.specs.ByPlace.{closedAt, answerAt, bufferAt}
 use Rattle.frame.specs.Range.{Planned}
 use Rattle.frame.proofs.FrameKinds.{answer-broken, answer-under, answer-over, answer-pass}
 use Rattle.frame.proofs.RowOfFrame.{peak-unique, kind-is, up, top-is, deficit-is, peak-is, least-is, late-is}
 use Rattle.frame.proofs.Duality as D
+
+-- ---- the first that fails decides, whatever each place answers by itself, if it has one answer
+
+-- what has not failed and is not none passes
+is-pass : (b : Buffer) → hasFailed b ≡ false → isNone b ≡ false → b ≡ Pass
+is-pass None e f = absurd (false-true (sym f))
+is-pass Pass e f = refl
+is-pass (Under q) e f = absurd (false-true (sym e))
+is-pass (Over q) e f = absurd (false-true (sym e))
+
+is-none : (b : Buffer) → isNone b ≡ true → b ≡ None
+is-none None e = refl
+is-none Pass e = absurd (false-true e)
+is-none (Under q) e = absurd (false-true e)
+is-none (Over q) e = absurd (false-true e)
+
+module _ (A : ℕ → Buffer → Type 0) (one : (i : ℕ) (b c : Buffer) → A i b → A i c → b ≡ c) where
+  -- an answer that has not failed is not of a place that fails
+  quiet : (i : ℕ) (b : Buffer) → A i b → hasFailed b ≡ false → ¬ Fails A i
+  quiet i b x e f = false-true (sym e ∙ ap hasFailed (one i b (f .0) x (f .1)) ∙ f .2)
+
+  -- place m is judged, and none before it failed
+  decides : (m : ℕ) (w : Buffer) → A m w → isNone w ≡ false → ((k : ℕ) → k < m → ¬ Fails A k) → FirstDecides A (suc m) w
+  decides m w y j fine = go (hasFailed w) refl
+    where
+      go : (t : Bool) → hasFailed w ≡ t → FirstDecides A (suc m) w
+      go true e = failed m (omega arith) y e fine
+      go false e =
+          passed m (omega arith) (subst (A m) (is-pass w e j) y) (up-to (λ k. ¬ Fails A k) m fine (quiet m w y e)) (is-pass w e j)
+
+  pub decides-next : (m : ℕ) (b w : Buffer) → FirstDecides A m b → A m w → FirstDecides A (suc m) (joined b w)
+  unfolding joined
+  decides-next m b w (failed i l x e fine) y = rw e (failed i (omega arith) x e fine)
+  decides-next m b w (passed i l x fine e) y = rw e (go (isNone w) refl)
+    where
+      go : (t : Bool) → isNone w ≡ t → FirstDecides A (suc m) (pick t Pass w)
+      go true j =
+          passed i (omega arith) x (up-to (λ k. ¬ Fails A k) m fine (quiet m w y (ap hasFailed (is-none w j)))) refl
+      go false j = decides m w y j fine
+  decides-next m b w (unjudged all e) y = rw e (go (isNone w) refl)
+    where
+      go : (t : Bool) → isNone w ≡ t → FirstDecides A (suc m) (pick t None w)
+      go true j = unjudged (up-to (λ k. A k None) m all (subst (A m) (is-none w j) y)) refl
+      go false j = decides m w y j (λ k l. quiet k None (all k l) refl)
+
+  pub decides-unique : (m : ℕ) (b c : Buffer) → FirstDecides A m b → FirstDecides A m c → b ≡ c
+  decides-unique m b c (failed i l x e first-i) (failed k n y f first-k) =
+      let not-less : ¬ (i < k) = λ z. first-k i z (b, x, e) in
+      let not-more : ¬ (k < i) = λ z. first-i k z (c, y, f) in
+      let same : k ≡ i = omega arith in
+      one i b c x (subst (λ (j : ℕ). A j c) same y)
+  decides-unique m b c (failed i l x e first-i) (passed k n y fine f) = absurd (fine i l (b, x, e))
+  decides-unique m b c (failed i l x e first-i) (unjudged all f) = absurd (quiet i None (all i l) refl (b, x, e))
+  decides-unique m b c (passed i l x fine e) (failed k n y f first-k) = absurd (fine k n (c, y, f))
+  decides-unique m b c (passed i l x fine e) (passed k n y clear f) = e ∙ sym f
+  decides-unique m b c (passed i l x fine e) (unjudged all f) = e ∙ one i Pass None x (all i l) ∙ sym f
+  decides-unique m b c (unjudged all e) (failed k n y f first-k) = absurd (quiet k None (all k n) refl (c, y, f))
+  decides-unique m b c (unjudged all e) (passed k n y clear f) = e ∙ one k None Pass (all k n) y ∙ sym f
+  decides-unique m b c (unjudged all e) (unjudged each f) = e ∙ sym f
+
+-- ---- one answer only
+
+module _ (plan : Plan) (h : History) where
+  over-fails : (i : ℕ) (q : Place) → OverIs plan h i q → Overfull plan h (since h i)
+  over-fails i q x = (
+    pos (q .place),
+    x .peak,
+    differ-lt (pos (plan .full)) (pos (q .place)) (plan .full) 0 (q .place) 0 (omega arith) (omega arith) (omega (arith, x .over)),
+  )
+
+  pub answer-unique : (i : ℕ) (b c : Buffer) → AnswerIs plan h i b → AnswerIs plan h i c → b ≡ c
+  answer-unique i None None x y = refl
+  answer-unique i None Pass x y = absurd (x (y .whole))
+  answer-unique i None (Under r) x y = absurd (x (y .whole))
+  answer-unique i None (Over r) x y = absurd (x (y .whole))
+  answer-unique i Pass None x y = absurd (y (x .whole))
+  answer-unique i Pass Pass x y = refl
+  answer-unique i Pass (Under r) x y = absurd (x .not-dry (y .dry))
+  answer-unique i Pass (Over r) x y = absurd (x .not-over (over-fails i r y))
+  answer-unique i (Under q) None x y = absurd (y (x .whole))
+  answer-unique i (Under q) Pass x y = absurd (y .not-dry (x .dry))
+  answer-unique i (Under q) (Under r) x y =
+      let frames : q .frame ≡ r .frame = x .frame ∙ sym (y .frame) in
+      let places = lowest-unique (late plan h (since h i)) (plan .packets) (q .place) (r .place) (x .place) (y .place) in
+      λ j. Under (record { frame = frames j; place = places j })
+  answer-unique i (Under q) (Over r) x y = absurd (y .not-dry (x .dry))
+  answer-unique i (Over q) None x y = absurd (y (x .whole))
+  answer-unique i (Over q) Pass x y = absurd (y .not-over (over-fails i q x))
+  answer-unique i (Over q) (Under r) x y = absurd (x .not-dry (y .dry))
+  answer-unique i (Over q) (Over r) x y =
+      let frames : q .frame ≡ r .frame = x .frame ∙ sym (y .frame) in
+      let peaks = peak-unique plan h (since h i) (pos (q .place)) (pos (r .place)) (x .peak) (y .peak) in
+      let places : q .place ≡ r .place = cc in
+      λ j. Over (record { frame = frames j; place = places j })
+
+  pub buffer-unique : (b c : Buffer) → BufferIs plan h b → BufferIs plan h c → b ≡ c
+  buffer-unique b c x y = decides-unique (AnswerIs plan h) answer-unique (h .packets) b c x y
 
 module _ (plan : Plan) (p : Planned plan) (h : History) (ordered : Climbs (h .time) (h .packets)) where
   -- ---- one frame, closed by packet i
@@ -104,156 +202,59 @@ module _ (plan : Plan) (p : Planned plan) (h : History) (ordered : Climbs (h .ti
           D.late-dry (plan .packets) (firstRead plan h (since h i)) (plan .num) (plan .den) (arrival plan h (since h i)) u j l more,
         ))
 
-  -- what packet i's own answer says of the frame it closes, if it closes one
-  abbrev AnswerIs : ℕ → Buffer → Type 0
-  AnswerIs i None = ¬ Whole plan h i
-  AnswerIs i Pass = Whole plan h i × ¬ Fails plan h i
-  AnswerIs i (Under q) = Whole plan h i × (q .frame ≡ numberAt h i) × Dry plan h (since h i)
-      × Lowest (late plan h (since h i)) (plan .packets) (q .place)
-  AnswerIs i (Over q) = Whole plan h i × (q .frame ≡ numberAt h i) × ¬ Dry plan h (since h i)
-      × PeakIs plan h (since h i) (pos (q .place)) × (plan .full < q .place)
-
-  judged : (i : ℕ) → i < h .packets → closesAt h i ≡ true → AnswerIs i (answerOf plan (numberAt h i) (closedAt plan h i))
+  judged : (i : ℕ) → i < h .packets → closesAt h i ≡ true → AnswerIs plan h i (answerOf plan (numberAt h i) (closedAt plan h i))
   judged i inside closing = go (eqb (kindAt plan h i) 0) refl
     where
       over : kindAt plan h i ≡ 0 → (closedAt plan h i) .deficit ≤ 0 → Dec (plan .full < (closedAt plan h i) .top)
-          → AnswerIs i (answerOf plan (numberAt h i) (closedAt plan h i))
+          → AnswerIs plan h i (answerOf plan (numberAt h i) (closedAt plan h i))
       over k d (yes l) =
-          subst (AnswerIs i) (answer-over plan (numberAt h i) (closedAt plan h i) (kind-is plan h ordered i inside ∙ k) d l)
-          (record { closing = closing; whole = k }, refl, not-dry i inside k d, peak-is plan h ordered i inside p k, l)
+          subst (AnswerIs plan h i) (answer-over plan (numberAt h i) (closedAt plan h i) (kind-is plan h ordered i inside ∙ k) d l)
+          (record {
+            whole = record { closing = closing; whole = k };
+            frame = refl;
+            not-dry = not-dry i inside k d;
+            peak = peak-is plan h ordered i inside p k;
+            over = l;
+          })
       over k d (no g) =
-          subst (AnswerIs i) (answer-pass plan (numberAt h i) (closedAt plan h i) (kind-is plan h ordered i inside ∙ k) d (omega arith))
-          (record { closing = closing; whole = k }, fine)
-        where
-          fine : ¬ Fails plan h i
-          fine (dry x) = not-dry i inside k d x
-          fine (overfull x) = not-overfull i inside k (omega arith) x
+          subst (AnswerIs plan h i) (answer-pass plan (numberAt h i) (closedAt plan h i) (kind-is plan h ordered i inside ∙ k) d (omega arith))
+          (record {
+            whole = record { closing = closing; whole = k };
+            not-dry = not-dry i inside k d;
+            not-over = not-overfull i inside k (omega arith);
+          })
 
-      under : kindAt plan h i ≡ 0 → Dec (0 < (closedAt plan h i) .deficit) → AnswerIs i (answerOf plan (numberAt h i) (closedAt plan h i))
+      under : kindAt plan h i ≡ 0 → Dec (0 < (closedAt plan h i) .deficit) → AnswerIs plan h i (answerOf plan (numberAt h i) (closedAt plan h i))
       under k (yes l) =
-          subst (AnswerIs i) (answer-under plan (numberAt h i) (closedAt plan h i) (kind-is plan h ordered i inside ∙ k) l)
-          (record { closing = closing; whole = k }, refl, is-dry i inside k l, late-lowest i inside k)
+          subst (AnswerIs plan h i) (answer-under plan (numberAt h i) (closedAt plan h i) (kind-is plan h ordered i inside ∙ k) l)
+          (record {
+            whole = record { closing = closing; whole = k };
+            frame = refl;
+            dry = is-dry i inside k l;
+            place = late-lowest i inside k;
+          })
       under k (no g) = over k (omega arith) (decLt (plan .full) ((closedAt plan h i) .top))
 
-      go : (t : Bool) → eqb (kindAt plan h i) 0 ≡ t → AnswerIs i (answerOf plan (numberAt h i) (closedAt plan h i))
+      go : (t : Bool) → eqb (kindAt plan h i) 0 ≡ t → AnswerIs plan h i (answerOf plan (numberAt h i) (closedAt plan h i))
       go true e = under (eqb-true (kindAt plan h i) 0 e) (decLt 0 ((closedAt plan h i) .deficit))
       go false e =
-          subst (AnswerIs i) (answer-broken plan (numberAt h i) (closedAt plan h i)
+          subst (AnswerIs plan h i) (answer-broken plan (numberAt h i) (closedAt plan h i)
           (λ z. eqb-false (kindAt plan h i) 0 e (sym (kind-is plan h ordered i inside) ∙ z)))
           (λ w. eqb-false (kindAt plan h i) 0 e (w .whole))
 
-  answered : (i : ℕ) → i < h .packets → AnswerIs i (answerAt plan h i)
+  answered : (i : ℕ) → i < h .packets → AnswerIs plan h i (answerAt plan h i)
   answered i inside = go (closesAt h i) refl
     where
-      go : (t : Bool) → closesAt h i ≡ t → AnswerIs i (pick t (answerOf plan (numberAt h i) (closedAt plan h i)) None)
+      go : (t : Bool) → closesAt h i ≡ t → AnswerIs plan h i (pick t (answerOf plan (numberAt h i) (closedAt plan h i)) None)
       go true e = judged i inside e
       go false e = λ w. false-true (sym e ∙ w .closing)
 
-  -- ---- and of the frames closed by the first m packets
-
-  abbrev BufferTo : ℕ → Buffer → Type 0
-  BufferTo m None = (i : ℕ) → i < m → ¬ Whole plan h i
-  BufferTo m Pass = ((i : ℕ) × (i < m) × Whole plan h i) × ((i : ℕ) → i < m → Whole plan h i → ¬ Fails plan h i)
-  BufferTo m (Under q) = (i : ℕ) × (i < m) × UnderAt plan h i q
-  BufferTo m (Over q) = (i : ℕ) × (i < m) × OverAt plan h i q
-
-  under-at : (m : ℕ) (q : Place) → AnswerIs m (Under q) → ((k : ℕ) → k < m → Whole plan h k → ¬ Fails plan h k) → BufferTo (suc m) (Under q)
-  under-at m q w first = (m, omega arith, record { whole = w .0; frame = w .1; dry = w .2; place = w .3; first = first })
-
-  over-at : (m : ℕ) (q : Place) → AnswerIs m (Over q) → ((k : ℕ) → k < m → Whole plan h k → ¬ Fails plan h k) → BufferTo (suc m) (Over q)
-  over-at m q w first = (m, omega arith, record { whole = w .0; frame = w .1; not-dry = w .2; peak = w .3; over = w .4; first = first })
-
-  none-failed : (m : ℕ) → ((i : ℕ) → i < m → ¬ Whole plan h i) → (k : ℕ) → k < m → Whole plan h k → ¬ Fails plan h k
-  none-failed m none k l w f = none k l w
-
-  join-next : (m : ℕ) (b w : Buffer) → BufferTo m b → AnswerIs m w → BufferTo (suc m) (joined b w)
-  unfolding joined
-  join-next m None None x y = up-to (λ k. ¬ Whole plan h k) m x y
-  join-next m None Pass x y =
-      ((m, omega arith, y .0), up-to (λ k. Whole plan h k → ¬ Fails plan h k) m (none-failed m x) (λ w. y .1))
-  join-next m None (Under q) x y = under-at m q y (none-failed m x)
-  join-next m None (Over q) x y = over-at m q y (none-failed m x)
-  join-next m Pass None x y =
-      ((x .0 .0, omega (arith, x .0 .1), x .0 .2), up-to (λ k. Whole plan h k → ¬ Fails plan h k) m (x .1) (λ w. absurd (y w)))
-  join-next m Pass Pass x y =
-      ((x .0 .0, omega (arith, x .0 .1), x .0 .2), up-to (λ k. Whole plan h k → ¬ Fails plan h k) m (x .1) (λ w. y .1))
-  join-next m Pass (Under q) x y = under-at m q y (x .1)
-  join-next m Pass (Over q) x y = over-at m q y (x .1)
-  join-next m (Under q) w x y = (x .0, omega (arith, x .1), x .2)
-  join-next m (Over q) w x y = (x .0, omega (arith, x .1), x .2)
-
-  buffer-to : (m : ℕ) → m ≤ h .packets → BufferTo m (bufferAt plan h m)
+  buffer-to : (m : ℕ) → m ≤ h .packets → FirstDecides (AnswerIs plan h) m (bufferAt plan h m)
   unfolding bufferAt
-  buffer-to zero l = λ i k. absurd (not-suc-le-zero k)
-  buffer-to (suc m) l = join-next m (bufferAt plan h m) (answerAt plan h m) (buffer-to m (omega arith)) (answered m l)
+  buffer-to zero l = unjudged (λ i k. absurd (not-suc-le-zero k)) refl
+  buffer-to (suc m) l = decides-next (AnswerIs plan h) (answer-unique plan h) m (bufferAt plan h m) (answerAt plan h m)
+      (buffer-to m (omega arith)) (answered m l)
 
   -- "Buffer: none (no whole frame yet); pass; under [..]; over [..]. The first failing frame decides; in one frame under goes first."
   pub buffer-is : BufferIs plan h (bufferAt plan h (h .packets))
-  buffer-is = go (bufferAt plan h (h .packets)) (buffer-to (h .packets) (omega arith))
-    where
-      go : (b : Buffer) → BufferTo (h .packets) b → BufferIs plan h b
-      go None x = x
-      go Pass x = x
-      go (Under q) x = x
-      go (Over q) x = x
-
--- ---- one answer only
-
-module _ (plan : Plan) (h : History) where
-  -- two frames that fail first are one
-  one-first : (i k : ℕ) → Whole plan h i → Whole plan h k → Fails plan h i → Fails plan h k
-      → ((j : ℕ) → j < i → Whole plan h j → ¬ Fails plan h j)
-      → ((j : ℕ) → j < k → Whole plan h j → ¬ Fails plan h j) → i ≡ k
-  one-first i k wi wk fi fk first-i first-k =
-      let not-less : ¬ (i < k) = λ l. first-k i l wi fi in
-      let not-more : ¬ (k < i) = λ l. first-i k l wk fk in
-      omega arith
-
-  over-fails : (i : ℕ) (q : Place) → OverAt plan h i q → Fails plan h i
-  over-fails i q x =
-      overfull (
-        pos (q .place),
-        x .peak,
-        differ-lt (pos (plan .full)) (pos (q .place)) (plan .full) 0 (q .place) 0 (omega arith)
-            (omega arith) (omega (arith, x .over)),
-      )
-
-  under-one : (i k : ℕ) (q r : Place) → UnderAt plan h i q → UnderAt plan h k r → Under q ≡ Under r
-  under-one i k q r x y =
-      let same = one-first i k (x .whole) (y .whole) (dry (x .dry)) (dry (y .dry)) (x .first) (y .first) in
-      let frames : q .frame ≡ r .frame = x .frame ∙ ap (numberAt h) same ∙ sym (y .frame) in
-      let places = lowest-unique (late plan h (since h i)) (plan .packets) (q .place) (r .place) (x .place)
-      (subst (λ (j : ℕ). Lowest (late plan h (since h j)) (plan .packets) (r .place)) (sym same) (y .place)) in
-      λ j. Under (record { frame = frames j; place = places j })
-
-  over-one : (i k : ℕ) (q r : Place) → OverAt plan h i q → OverAt plan h k r → Over q ≡ Over r
-  over-one i k q r x y =
-      let same = one-first i k (x .whole) (y .whole) (over-fails i q x) (over-fails k r y) (x .first) (y .first) in
-      let frames : q .frame ≡ r .frame = x .frame ∙ ap (numberAt h) same ∙ sym (y .frame) in
-      let peaks = peak-unique plan h (since h i) (pos (q .place)) (pos (r .place)) (x .peak)
-      (subst (λ (j : ℕ). PeakIs plan h (since h j) (pos (r .place))) (sym same) (y .peak)) in
-      let places : q .place ≡ r .place = cc in
-      λ j. Over (record { frame = frames j; place = places j })
-
-  never-both : (i k : ℕ) (q r : Place) → UnderAt plan h i q → OverAt plan h k r → ⊥
-  never-both i k q r x y =
-      let same = one-first i k (x .whole) (y .whole) (dry (x .dry)) (over-fails k r y) (x .first) (y .first) in
-      y .not-dry (subst (λ (j : ℕ). Dry plan h (since h j)) same (x .dry))
-
-  pub buffer-unique : (b c : Buffer) → BufferIs plan h b → BufferIs plan h c → b ≡ c
-  buffer-unique None None x y = refl
-  buffer-unique None Pass x y = absurd (x (y .0 .0) (y .0 .1) (y .0 .2))
-  buffer-unique None (Under r) x y = absurd (x (y .0) (y .1) (y .2 .whole))
-  buffer-unique None (Over r) x y = absurd (x (y .0) (y .1) (y .2 .whole))
-  buffer-unique Pass None x y = absurd (y (x .0 .0) (x .0 .1) (x .0 .2))
-  buffer-unique Pass Pass x y = refl
-  buffer-unique Pass (Under r) x y = absurd (x .1 (y .0) (y .1) (y .2 .whole) (dry (y .2 .dry)))
-  buffer-unique Pass (Over r) x y = absurd (x .1 (y .0) (y .1) (y .2 .whole) (over-fails (y .0) r (y .2)))
-  buffer-unique (Under q) None x y = absurd (y (x .0) (x .1) (x .2 .whole))
-  buffer-unique (Under q) Pass x y = absurd (y .1 (x .0) (x .1) (x .2 .whole) (dry (x .2 .dry)))
-  buffer-unique (Under q) (Under r) x y = under-one (x .0) (y .0) q r (x .2) (y .2)
-  buffer-unique (Under q) (Over r) x y = absurd (never-both (x .0) (y .0) q r (x .2) (y .2))
-  buffer-unique (Over q) None x y = absurd (y (x .0) (x .1) (x .2 .whole))
-  buffer-unique (Over q) Pass x y = absurd (y .1 (x .0) (x .1) (x .2 .whole) (over-fails (x .0) q (x .2)))
-  buffer-unique (Over q) (Under r) x y = absurd (never-both (y .0) (x .0) r q (y .2) (x .2))
-  buffer-unique (Over q) (Over r) x y = over-one (x .0) (y .0) q r (x .2) (y .2)
+  buffer-is = buffer-to (h .packets) (omega arith)

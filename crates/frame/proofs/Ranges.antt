@@ -13,6 +13,7 @@ use Rattle.frame.specs.declared.Frame.{Frame}
 use Rattle.frame.specs.declared.Frames.{Frames}
 use Rattle.frame.specs.declared.Buffer.{Buffer}
 use Rattle.frame.specs.declared.Buffer.the-variants.{None, Pass, Under, Over}
+use Rattle.frame.specs.Paper.{hasFailed, isNone}
 use Rattle.frame.specs.Step.{lower, kindOf, openedOf, countedOf, readsOf, pushOf, answerOf, joined, noFrames, arriveOf}
 use Rattle.frame.specs.Step.{closeOf}
 use Rattle.frame.specs.Range.{Planned, Pushable, Rowable, Answered, Kept}
@@ -202,13 +203,9 @@ answer-named plan n f m hn hl ht =
 
 joined-named : (b c : Buffer) (m : ℕ) → Answered b m → Answered c m → Answered (joined b c) m
 unfolding joined
-joined-named None c m x y = y
-joined-named Pass None m x y = x
-joined-named Pass Pass m x y = x
-joined-named Pass (Under q) m x y = y
-joined-named Pass (Over q) m x y = y
-joined-named (Under q) c m x y = x
-joined-named (Over q) c m x y = x
+joined-named b c m x y =
+    pick-either (λ r. Answered r m) (hasFailed b) (λ e. x) (λ e.
+    pick-either (λ r. Answered r m) (isNone c) (λ e. x) (λ e. y))
 
 -- a marker closes the frame of what has arrived
 module _ (plan : Plan) (a : Frames) (first t packets : ℕ) (k : Kept plan a first t packets) (room : a .closed + 1 ≤ packets)

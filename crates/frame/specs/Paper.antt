@@ -22,6 +22,33 @@ pub record History : Type 0 where
   pub stamp : ℕ → ℕ
   pub marked : ℕ → Bool
 
+-- ---- many answers, and the one of them that counts
+
+-- under or over
+abbrev pub hasFailed : Buffer → Bool
+hasFailed None = false
+hasFailed Pass = false
+hasFailed (Under p) = true
+hasFailed (Over p) = true
+
+-- nothing was judged
+abbrev pub isNone : Buffer → Bool
+isNone None = true
+isNone Pass = false
+isNone (Under p) = false
+isNone (Over p) = false
+
+-- place i fails, where A i b says that b is its own answer
+abbrev pub Fails : (ℕ → Buffer → Type 0) → ℕ → Type 0
+Fails A i = (b : Buffer) × A i b × (hasFailed b ≡ true)
+
+-- "The first failing frame decides": the answer of the first m places is that of the first that fails; else pass, where one passes; else
+-- none, where each is none
+pub data FirstDecides (A : ℕ → Buffer → Type 0) (m : ℕ) (b : Buffer) : Type 0 where
+  failed : (i : ℕ) → i < m → A i b → hasFailed b ≡ true → ((k : ℕ) → k < i → ¬ Fails A k) → FirstDecides A m b
+  passed : (i : ℕ) → i < m → A i Pass → ((k : ℕ) → k < m → ¬ Fails A k) → b ≡ Pass → FirstDecides A m b
+  unjudged : ((k : ℕ) → k < m → A k None) → b ≡ None → FirstDecides A m b
+
 -- ---- which packets are a frame
 
 module _ (h : History) where
@@ -152,34 +179,38 @@ module _ (plan : Plan) (h : History) where
     pub closing : closesAt h i ≡ true
     pub whole : kindAt i ≡ 0
 
-  -- which the buffer fails
-  pub data Fails (i : ℕ) : Type 0 where
-    dry : Dry (since h i) → Fails i
-    overfull : Overfull (since h i) → Fails i
+  -- "pass": it neither runs dry nor overfull
+  pub record PassIs (i : ℕ) : Type 0 where
+    pub whole : Whole i
+    pub not-dry : ¬ Dry (since h i)
+    pub not-over : ¬ Overfull (since h i)
 
-  -- "under (least below 0) with frame and the lowest j whose packet arrives after read j", decided by the frame that packet i closes
-  pub record UnderAt (i : ℕ) (p : Place) : Type 0 where
+  -- "under (least below 0) with frame and the lowest j whose packet arrives after read j"
+  pub record UnderIs (i : ℕ) (p : Place) : Type 0 where
     pub whole : Whole i
     pub frame : p .frame ≡ numberAt h i
     pub dry : Dry (since h i)
     pub place : Lowest (late (since h i)) (plan .packets) (p .place)
-    pub first : (k : ℕ) → k < i → Whole k → ¬ Fails k
 
   -- "over (VRX peak above VRX_FULL) with frame and peak"; "in one frame under goes first"
-  pub record OverAt (i : ℕ) (p : Place) : Type 0 where
+  pub record OverIs (i : ℕ) (p : Place) : Type 0 where
     pub whole : Whole i
     pub frame : p .frame ≡ numberAt h i
     pub not-dry : ¬ Dry (since h i)
     pub peak : PeakIs (since h i) (pos (p .place))
     pub over : plan .full < p .place
-    pub first : (k : ℕ) → k < i → Whole k → ¬ Fails k
+
+  -- what packet i answers by itself: that of the frame it closes. A broken frame is not judged. One answer is so:
+  -- answer-unique in proofs/BufferOfFrames.antt
+  abbrev pub AnswerIs : ℕ → Buffer → Type 0
+  AnswerIs i None = ¬ Whole i
+  AnswerIs i Pass = PassIs i
+  AnswerIs i (Under p) = UnderIs i p
+  AnswerIs i (Over p) = OverIs i p
 
   -- "Buffer: none (no whole frame yet); pass; under [..]; over [..]. The first failing frame decides"
   abbrev pub BufferIs : Buffer → Type 0
-  BufferIs None = (i : ℕ) → i < h .packets → ¬ Whole i
-  BufferIs Pass = ((i : ℕ) × (i < h .packets) × Whole i) × ((i : ℕ) → i < h .packets → Whole i → ¬ Fails i)
-  BufferIs (Under p) = (i : ℕ) × (i < h .packets) × UnderAt i p
-  BufferIs (Over p) = (i : ℕ) × (i < h .packets) × OverAt i p
+  BufferIs b = FirstDecides AnswerIs (h .packets) b
 
 -- The paper's numbers for each case of the answer: "buffer 0 none, 1
 -- pass, 2 under or 3 over, frame, packet or peak; 0 where there is none".

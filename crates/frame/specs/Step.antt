@@ -12,6 +12,7 @@ use Rattle.frame.specs.declared.Frames.{Frames}
 use Rattle.frame.specs.declared.Row.{Row}
 use Rattle.frame.specs.declared.Buffer.{Buffer}
 use Rattle.frame.specs.declared.Buffer.the-variants.{None, Pass, Under, Over}
+use Rattle.frame.specs.Paper.{hasFailed, isNone}
 
 -- ---- the open frame
 
@@ -117,13 +118,7 @@ answerOf plan number f =
 
 -- "The first failing frame decides": the answer so far, and then the next frame's
 unfoldable pub joined : Buffer → Buffer → Buffer
-joined None next = next
-joined Pass None = Pass
-joined Pass Pass = Pass
-joined Pass (Under p) = Under p
-joined Pass (Over p) = Over p
-joined (Under p) next = Under p
-joined (Over p) next = Over p
+joined sofar next = pick (hasFailed sofar) sofar (pick (isNone next) sofar next)
 
 -- ---- all that is kept of the frames
 

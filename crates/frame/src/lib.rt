@@ -7,10 +7,9 @@ ghost use mathlib.Core.Bool.{true};
 ghost use Prim.Native.Nat.{_+_, _-_, _≤_, _<_, max};
 ghost use lib.ListN.{length};
 ghost use Rattle.laws.specs.Lay.{laid};
-ghost use Rattle.frame.specs.Paper.{bufferNumber, bufferFrame, bufferPlace};
+ghost use Rattle.frame.specs.Paper.{bufferNumber, bufferFrame, bufferPlace, hasFailed, isNone};
 ghost use Rattle.frame.specs.Step.{lower, emptyOf, openedOf, countedOf, pushOf, kindOf, detailOf, wholeRow, brokenRow, rowOf};
 ghost use Rattle.frame.specs.Step.{numbersOf, answerOf, joined, noFrames, arriveOf, closeOf};
-ghost use Rattle.frame.specs.declared.Buffer.the-variants.{Pass};
 ghost use Rattle.frame.specs.Range.{Planned, Pushable, Rowable};
 
 // How many numbers a row has.
@@ -332,27 +331,36 @@ impl Buffer {
         }
     }
 
+    pub fn has_failed(self) -> bool
+        ensures { λ r. ⌜ r ≡ hasFailed self ⌝ }
+    {
+        match self {
+            Buffer::None => false,
+            Buffer::Pass => false,
+            Buffer::Under(_) => true,
+            Buffer::Over(_) => true,
+        }
+    }
+
+    pub fn is_none(self) -> bool
+        ensures { λ r. ⌜ r ≡ isNone self ⌝ }
+    {
+        match self {
+            Buffer::None => true,
+            Buffer::Pass => false,
+            Buffer::Under(_) => false,
+            Buffer::Over(_) => false,
+        }
+    }
+
     // The answer so far, and then the next frame's: the first that fails decides.
     pub fn then(self, next: Buffer) -> Buffer
         ensures { λ r. ⌜ r ≡ joined self next ⌝ }
     {
-        match self {
-            Buffer::None => next,
-            Buffer::Pass => pass_then(next),
-            Buffer::Under(p) => Buffer::Under(p),
-            Buffer::Over(p) => Buffer::Over(p),
+        if self.has_failed() {
+            return self;
         }
-    }
-}
-
-fn pass_then(next: Buffer) -> Buffer
-    ensures { λ r. ⌜ r ≡ joined Pass next ⌝ }
-{
-    match next {
-        Buffer::None => Buffer::Pass,
-        Buffer::Pass => Buffer::Pass,
-        Buffer::Under(p) => Buffer::Under(p),
-        Buffer::Over(p) => Buffer::Over(p),
+        if next.is_none() { self } else { next }
     }
 }
 

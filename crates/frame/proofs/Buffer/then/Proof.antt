@@ -1,50 +1,29 @@
--- By cases on the answer so far.
+-- By the two questions, in the code's order.
+use mathlib.Core.Path.{sym, _∙_}
 use Rattle.frame.specs.Step.{joined}
 use borrow.Author.Needs.{needs}
 use Rattle.frame.proofs.Buffer.then.Statement.{statement}
 use Rattle.frame.proofs.Buffer.then.Tie as tie
 
-enum-told : tie.Need-enum-told
-enum-told c = search needs
-
-enum-told-2 : tie.Need-enum-told-2
-enum-told-2 c = search needs
-
-pass-then-requires : tie.Need-pass-then-requires
-pass-then-requires c κs = search needs
-
-enum-known-self : tie.Need-enum-known-self
-enum-known-self c = search needs
-
-enum-known-self-2 : tie.Need-enum-known-self-2
-enum-known-self-2 c = search needs
+has-failed-requires : tie.Need-has-failed-requires
+has-failed-requires c κs = search needs
 
 returns : tie.Need-returns
 unfolding joined
-returns c = cc
+returns c = rw (sym (c .before .has-failed .ensures) ∙ c .if1 .taken)
+
+is-none-requires : tie.Need-is-none-requires
+is-none-requires c κs = search needs
 
 returns-2 : tie.Need-returns-2
 unfolding joined
-returns-2 c = cc
+returns-2 c = let t = c .before .before in
+    rw (sym (t .before .has-failed .ensures) ∙ t .if1 .left, sym (c .before .is-none .ensures) ∙ c .if2 .taken)
 
 returns-3 : tie.Need-returns-3
 unfolding joined
-returns-3 c = cc
-
-returns-4 : tie.Need-returns-4
-unfolding joined
-returns-4 c = cc
+returns-3 c = let t = c .before .before in
+    rw (sym (t .before .has-failed .ensures) ∙ t .if1 .left, sym (c .before .is-none .ensures) ∙ c .if2 .left)
 
 pub then-spec : {M : Type 1} → statement M
-then-spec =
-    tie.close
-    (tie.spec
-    enum-told
-    enum-told-2
-    pass-then-requires
-    enum-known-self
-    enum-known-self-2
-    returns
-    returns-2
-    returns-3
-    returns-4)
+then-spec = tie.close (tie.spec has-failed-requires returns is-none-requires returns-2 returns-3)
