@@ -21,7 +21,7 @@ use Rattle.frame.specs.declared.Plan.{Plan}
 use Rattle.frame.specs.declared.Frame.{Frame}
 use Rattle.frame.specs.declared.Row.{Row}
 use Rattle.frame.specs.Paper.{History, begunAt, closesAt, numberAt, since, heldAt, differsAt, kindAt, arrival, firstRead}
-use Rattle.frame.specs.Paper.{readsTo, PeakIs, LeastIs, Measured, RowIs}
+use Rattle.frame.specs.Paper.{readsTo, PeakIs, LeastIs, Times, Levels, RowIs}
 use Rattle.frame.specs.Step.{kindOf, detailOf, wholeRow, brokenRow, rowOf}
 use Rattle.frame.specs.ByPlace.{readsFrom, keptOf, frameFrom, closedAt, markedTime}
 use Rattle.frame.specs.Range.{Planned}
@@ -164,18 +164,19 @@ module _ (plan : Plan) (h : History) (ordered : Climbs (h .time) (h .packets)) (
         (differ-same (pos (27 * (from - to))) (subℕ (27 * from) (27 * to)) (27 * (from - to)) 0 (27 * from) (27 * to)
         (omega arith) (differ-sub (27 * from) (27 * to)) (omega arith))
 
-    pub measured : closesAt h i ≡ true
-        → Measured plan h (since h i) (wholeRow plan (numberAt h i) (markedTime plan h i) (closedAt plan h i))
+    pub times-are : closesAt h i ≡ true → Times plan h (since h i) (wholeRow plan (numberAt h i) (markedTime plan h i) (closedAt plan h i))
     unfolding wholeRow
-    measured e = record {
+    times-are e = record {
       fpt = fpt-is;
       offset = rw (fpt-is, latency-is) (sym (offset-is (arrival plan h (since h i) 0) (h .stamp (since h i)) (plan .period)));
       latency = latency-is;
       margin = rw phase-is (margin-is (arrival plan h (since h i) 0) (plan .tro) (plan .period) (omega (arith, p .long)));
       gap = gap-is e;
-      peak = peak-is;
-      least = least-is;
     }
+
+    pub levels-are : Levels plan h (since h i) (wholeRow plan (numberAt h i) (markedTime plan h i) (closedAt plan h i))
+    unfolding wholeRow
+    levels-are = record { peak = peak-is; least = least-is }
 
   -- "A closed frame writes ten numbers": the row that the code makes of the frame it kept is the row of that stretch
   pub row-is : Planned plan → closesAt h i ≡ true → RowIs plan h i (rowOf plan (numberAt h i) (markedTime plan h i) (closedAt plan h i))
@@ -200,7 +201,8 @@ module _ (plan : Plan) (h : History) (ordered : Climbs (h .time) (h .packets)) (
             number = refl;
             kind = ap pos (sym k);
             detail = ap pos (rw k);
-            whole = λ z. measured p k closing;
+            times = λ z. times-are p k closing;
+            levels = λ z. levels-are p k;
             broken = λ z. absurd (z k);
           })
       go false e =
@@ -209,7 +211,8 @@ module _ (plan : Plan) (h : History) (ordered : Climbs (h .time) (h .packets)) (
             number = refl;
             kind = refl;
             detail = ap pos (detail-is (kindAt plan h i));
-            whole = λ z. absurd (k z);
+            times = λ z. absurd (k z);
+            levels = λ z. absurd (k z);
             broken = λ z. record { fpt = refl; offset = refl; latency = refl; margin = refl; gap = refl; peak = refl; least = refl };
           })
 
@@ -234,12 +237,13 @@ row-unique plan h i r q x y = go (eqb (kindAt plan h i) 0) refl
   where
     go : (t : Bool) → eqb (kindAt plan h i) 0 ≡ t → r ≡ q
     go true e =
-        let a = x .whole (eqb-true (kindAt plan h i) 0 e) in
-        let b = y .whole (eqb-true (kindAt plan h i) 0 e) in
+        let k = eqb-true (kindAt plan h i) 0 e in
+        let a = x .times k in
+        let b = y .times k in
         same-row (x .number ∙ sym (y .number)) (x .kind ∙ sym (y .kind)) (x .detail ∙ sym (y .detail)) (a .fpt ∙ sym (b .fpt))
         (a .offset ∙ sym (b .offset)) (a .latency ∙ sym (b .latency)) (a .margin ∙ sym (b .margin)) (a .gap ∙ sym (b .gap))
-        (peak-unique plan h (since h i) (r .peak) (q .peak) (a .peak) (b .peak))
-        (least-unique plan h (since h i) (r .least) (q .least) (a .least) (b .least))
+        (peak-unique plan h (since h i) (r .peak) (q .peak) (x .levels k .peak) (y .levels k .peak))
+        (least-unique plan h (since h i) (r .least) (q .least) (x .levels k .least) (y .levels k .least))
     go false e =
         let a = x .broken (eqb-false (kindAt plan h i) 0 e) in
         let b = y .broken (eqb-false (kindAt plan h i) 0 e) in

@@ -141,14 +141,17 @@ module _ (plan : Plan) (h : History) where
     abbrev pub Overfull : Type 0
     Overfull = (z : ℤ) × PeakIs z × (pos (plan .full) <ℤ z)
 
-    -- FPT to least: "FPT = 27t − T_CF", "RTP_OFFSET = encoded − T_CF. Latency VL = 27t − encoded. Margin
-    -- = TRO − FPT. GAP = first arrival of this frame less arrival of the marker packet before it"
-    pub record Measured (r : Row) : Type 0 where
+    -- "FPT = 27t − T_CF", "RTP_OFFSET = encoded − T_CF. Latency VL = 27t − encoded. Margin = TRO −
+    -- FPT. GAP = first arrival of this frame less arrival of the marker packet before it"
+    pub record Times (r : Row) : Type 0 where
       pub fpt : r .fpt ≡ firstPacketTime (arrival 0) (plan .period)
       pub offset : r .offset ≡ rtpOffset (arrival 0) (h .stamp s) (plan .period)
       pub latency : r .latency ≡ latency (arrival 0) (h .stamp s)
       pub margin : r .margin ≡ pos (plan .tro) -ℤ firstPacketTime (arrival 0) (plan .period)
       pub gap : r .gap ≡ subℕ (arrival 0) (grains (h .time (pred s)))
+
+    -- "VRX peak; VRX least"
+    pub record Levels (r : Row) : Type 0 where
       pub peak : PeakIs (r .peak)
       pub least : LeastIs (r .least)
 
@@ -169,7 +172,8 @@ module _ (plan : Plan) (h : History) where
     pub number : r .number ≡ pos (numberAt h i)
     pub kind : r .kind ≡ pos (kindAt i)
     pub detail : r .detail ≡ pos (detailAt i)
-    pub whole : kindAt i ≡ 0 → Measured (since h i) r
+    pub times : kindAt i ≡ 0 → Times (since h i) r
+    pub levels : kindAt i ≡ 0 → Levels (since h i) r
     pub broken : (kindAt i ≡ 0 → ⊥) → Zeros r
 
   -- ---- the buffer answer

@@ -1,26 +1,38 @@
 -- 27t less the encoded time is the rest of 27t by the wrap less the ticks: the wraps drop out. And RTP_OFFSET is FPT less VL.
-use Prim.Native.Nat.{ℕ, _+_, _*_, _%_, _≤_, _<_}
+use Prim.Native.Nat.{ℕ, suc, _+_, _*_, _/_, _%_, _≤_, _<_}
 use mathlib.Core.Path.{_≡_, sym, ap, subst, _∙_}
 use native.Mathlib.Omega.{arith}
 use native.Mathlib.Nat.{div-add-mod', mod-lt}
 use mir.Syntax.{w64}
 use mir.Val.{SFits, toZ, ofZ}
-use lib.IntN.{ℤ, pos, subℕ, _-ℤ_}
-use Rattle.laws.specs.Differ.{differ-sub, differ-same, differ-minus, sub-same}
+use lib.IntN.{ℤ, pos, negsuc, subℕ, _-ℤ_}
+use Rattle.laws.specs.Differ.{Differ, differ-sub, differ-same, differ-minus}
 use Rattle.grain.proofs.Rounding.{phase-from}
 use Rattle.grain.proofs.SignedRange.{differ-fits, less-fits, less-is}
 use Rattle.grain.specs.Paper.{frameTime, phase, firstPacketTime, tick, wrap, encoded, rtpOffset, latency}
 
 pub latency-is : (g stamp : ℕ) → subℕ (g % wrap) (tick * stamp) ≡ latency g stamp
 unfolding encoded
-latency-is g stamp = sub-same (g % wrap) (tick * stamp) g (encoded g stamp) (omega (arith, div-add-mod' g wrap))
+latency-is g stamp =
+    let e = g / wrap * wrap + tick * stamp in
+    differ-same (subℕ (g % wrap) (tick * stamp)) (pos g -ℤ pos e) (g % wrap) (tick * stamp) (g + 0) (e + 0)
+    (differ-sub (g % wrap) (tick * stamp)) (differ-minus (pos g) (pos e) g 0 e 0 (omega arith) (omega arith))
+    (omega (arith, div-add-mod' g wrap))
+
+-- of any integer e: e less t is g less t, less g less e
+passes : (e : ℤ) (a b g t : ℕ) → Differ e a b → e -ℤ pos t ≡ subℕ g t -ℤ (pos g -ℤ e)
+passes e a b g t d =
+    differ-same (e -ℤ pos t) (subℕ g t -ℤ (pos g -ℤ e)) (a + 0) (t + b) (g + (a + 0)) (g + b + t)
+    (differ-minus e (pos t) a b t 0 d (omega arith))
+    (differ-minus (subℕ g t) (pos g -ℤ e) g t (g + b) (a + 0) (differ-sub g t) (differ-minus (pos g) e g 0 a b (omega arith) d))
+    (omega arith)
 
 pub offset-is : (g stamp F : ℕ) → rtpOffset g stamp F ≡ firstPacketTime g F -ℤ latency g stamp
-offset-is g stamp F =
-    let e = encoded g stamp in
-    let t = frameTime g F in
-    differ-same (subℕ e t) (subℕ g t -ℤ subℕ g e) e t (g + e) (g + t) (differ-sub e t)
-    (differ-minus (subℕ g t) (subℕ g e) g t g e (differ-sub g t) (differ-sub g e)) (omega arith)
+offset-is g stamp F = go (encoded g stamp)
+  where
+    go : (e : ℤ) → e -ℤ pos (frameTime g F) ≡ firstPacketTime g F -ℤ (pos g -ℤ e)
+    go (pos n) = passes (pos n) n 0 g (frameTime g F) (omega arith)
+    go (negsuc n) = passes (negsuc n) 0 (suc n) g (frameTime g F) (omega arith)
 
 -- TRO less FPT is what is left from the first packet to the first read
 pub margin-is : (g tro F : ℕ) → 0 < F → subℕ (tro + F) (phase g F) ≡ pos tro -ℤ firstPacketTime g F

@@ -2,7 +2,7 @@
 use mathlib.Core.Bool.{Bool}
 use Prim.Native.Nat.{ℕ, _+_, _*_, _-_, _/_, _≤_, _<_}
 use lib.Dec.{ltb}
-use lib.IntN.{ℤ, subℕ}
+use lib.IntN.{ℤ, pos, subℕ, _-ℤ_}
 use Rattle.laws.specs.Count.{count}
 
 -- "27 grains are one nanosecond."
@@ -38,16 +38,17 @@ abbrev pub wrap : ℕ
 wrap = 1288490188800000
 
 -- "Encoded time, formulas (1) and (2): the arrival's wrap count times P plus 300,000 times the timestamp, with [..] wrap count INT(27t/P)."
-unfoldable pub encoded : ℕ → ℕ → ℕ
-encoded g stamp = g / wrap * wrap + tick * stamp
+-- An integer, as is what hangs on it: only formulas (1) and (2) say that it is not before the epoch.
+unfoldable pub encoded : ℕ → ℕ → ℤ
+encoded g stamp = pos (g / wrap * wrap + tick * stamp)
 
--- "RTP_OFFSET = encoded − T_CF."
+-- "RTP_OFFSET = encoded − T_CF.", which is FPT less VL whatever is encoded: proofs/EncodedTime.antt, offset-is
 abbrev pub rtpOffset : ℕ → ℕ → ℕ → ℤ
-rtpOffset g stamp F = subℕ (encoded g stamp) (frameTime g F)
+rtpOffset g stamp F = encoded g stamp -ℤ pos (frameTime g F)
 
 -- "Latency VL = 27t − encoded."
 abbrev pub latency : ℕ → ℕ → ℤ
-latency g stamp = subℕ g (encoded g stamp)
+latency g stamp = pos g -ℤ encoded g stamp
 
 -- Instants lie k·num/den after a start, k = 1, 2, and so on: instant k is at most e. No fraction is made: both sides times den.
 abbrev pub InstantBy : ℕ → ℕ → ℕ → ℕ → Type 0
