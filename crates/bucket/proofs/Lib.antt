@@ -4,3 +4,4 @@ pub mod Runs
 pub mod Draining
 pub mod ByPlace
 pub mod Owner
+pub mod Ranging

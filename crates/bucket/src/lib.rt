@@ -6,7 +6,9 @@ ghost use mathlib.Core.Path.{_≡_};
 ghost use Prim.Native.Nat.{_-_, _≤_, _<_};
 ghost use lib.Dec.{leb};
 ghost use Rattle.laws.specs.Choose.{pick};
+ghost use Rattle.laws.specs.Every.{every};
 ghost use Rattle.bucket.specs.Paper.{networkNumber, networkFirst, networkLast};
+ghost use Rattle.bucket.specs.Range.{ranges};
 ghost use Rattle.bucket.specs.Step.{emptyOf, stepOf, arrivedOf, judged};
 
 // The packets first .. last of the history, numbered from 0.
@@ -68,6 +70,18 @@ impl Bucket {
             peak: 0,
             network: Network::Pass,
         }
+    }
+
+    // Whether each number is in its range, after `packets` packets: docs/STATE.md.
+    pub fn in_range(self, packets: u64) -> bool
+        ensures { λ r. ⌜ r ≡ every (ranges self packets) ⌝ }
+    {
+        let answer = self.network;
+        (self.level <= packets)
+            & (self.start <= packets)
+            & (self.peak <= packets)
+            & (answer.first() <= packets)
+            & (answer.last() <= packets)
     }
 
     // The packet at `place` arrives, with `drains` drain instants since the packet before it.

@@ -1,4 +1,5 @@
--- Each number that is kept of the frames stays in its range, packet by packet; and from these ranges the code's own demands follow.
+-- Frames pass their tests exactly where each number is in its range; it stays there, packet by packet, and from
+-- these ranges the code's own demands follow.
 use mathlib.Core.Path.{_≡_, refl, sym, _∙_}
 use mathlib.Core.Bool.{Bool, true, false, not}
 use Prim.Native.Nat.{ℕ, _+_, _-_, _*_, _≤_, _<_}
@@ -7,6 +8,7 @@ use lib.Dec.{ltb, eqb}
 use borrow.Author.Tests.{eqb-false}
 use Rattle.laws.specs.Choose.{pick, pick-either, false-true}
 use Rattle.laws.specs.Count.{count-le}
+use Rattle.laws.specs.Every.{every, All, facts, of-facts, _and_}
 use Rattle.grain.specs.Paper.{readBefore}
 use Rattle.frame.specs.declared.Plan.{Plan}
 use Rattle.frame.specs.declared.Frame.{Frame}
@@ -16,8 +18,36 @@ use Rattle.frame.specs.declared.Buffer.the-variants.{None, Pass, Under, 
 use Rattle.frame.specs.Paper.{hasFailed, isNone}
 use Rattle.frame.specs.Step.{lower, kindOf, openedOf, countedOf, readsOf, pushOf, answerOf, joined, noFrames, arriveOf}
 use Rattle.frame.specs.Step.{closeOf}
-use Rattle.frame.specs.Range.{Planned, Pushable, Rowable, Answered, Kept}
+use Rattle.frame.specs.Range.{Planned, Pushable, Rowable, ranges, Answered, Kept}
 use Rattle.frame.proofs.Opening.{Timed, timed}
+
+module _ (plan : Plan) (s : Frames) (first last packets : ℕ) where
+  pub kept-of : every (ranges plan s first last packets) ≡ true → Kept plan s first last packets
+  kept-of e =
+      let t = facts (ranges plan s first last packets) e in
+      record {
+        closed = t 0;
+        begun = t 1;
+        marked-from = t 2;
+        marked-to = t 3;
+        held = t 4;
+        first-from = t 5;
+        first-to = t 6;
+        phased = t 7;
+        read = t 8;
+        differs = t 9;
+        top = t 10;
+        late = t 11;
+        deficit = t 12;
+        answered = record { frame = t 13; place = t 14 };
+      }
+
+  pub of-kept : Kept plan s first last packets → every (ranges plan s first last packets) ≡ true
+  unfolding All
+  of-kept k =
+      of-facts (ranges plan s first last packets)
+      (k .closed and k .begun and k .marked-from and k .marked-to and k .held and k .first-from and k .first-to and k .phased and k .read
+      and k .differs and k .top and k .late and k .deficit and k .answered .frame and k .answered .place and tt)
 
 pub kept-none : (plan : Plan) → Kept plan noFrames 0 0 0
 kept-none plan = record {

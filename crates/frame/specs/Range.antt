@@ -2,7 +2,9 @@
 -- is met by every stream that set-up accepts and every accepted history.
 use mathlib.Core.Path.{_≡_}
 use mathlib.Core.Bool.{true}
+use mathlib.Core.List.{List, [], _∷_}
 use Prim.Native.Nat.{ℕ, _+_, _*_, _≤_, _<_}
+use Rattle.laws.specs.Every.{Test, at-most, below, is, where-so}
 use Rattle.frame.specs.declared.Plan.{Plan}
 use Rattle.frame.specs.declared.Frame.{Frame}
 use Rattle.frame.specs.declared.Frames.{Frames}
@@ -38,12 +40,33 @@ pub record Rowable (plan : Plan) (number marked : ℕ) (f : Frame) : Type 0 wher
   pub low : f .deficit ≤ 20000
   pub differs : f .differs ≤ 1000000000
 
--- The range of each number that is kept of the frames, by the plan and by
--- what came before: the first and the last arrival, and how many packets.
+-- The range of each number that is kept of the frames, as docs/STATE.md gives it, by the plan and by what
+-- came before, the first and the last arrival and how many packets: one list of tests, and what it means.
+module _ (plan : Plan) (s : Frames) (first last packets : ℕ) where
+  abbrev pub ranges : List Test
+  ranges =
+      at-most (s .closed) packets
+      ∷ where-so (is (s .begun)) (below 0 packets)
+      ∷ where-so (is (s .begun)) (at-most first (s .marked))
+      ∷ where-so (is (s .begun)) (at-most (s .marked) last)
+      ∷ at-most (s .current .held) packets
+      ∷ where-so (below 0 (s .current .held)) (at-most (s .marked) (s .current .first))
+      ∷ where-so (below 0 (s .current .held)) (at-most (s .current .first) last)
+      ∷ at-most (s .current .phase) (2 * plan .period)
+      ∷ at-most (s .current .reads) (plan .packets)
+      ∷ at-most (s .current .differs) (s .current .held)
+      ∷ at-most (s .current .top) (s .current .held)
+      ∷ at-most (s .current .late) (s .current .held)
+      ∷ at-most (s .current .deficit) (plan .packets)
+      ∷ at-most (bufferFrame (s .buffer)) packets
+      ∷ at-most (bufferPlace (s .buffer)) packets
+      ∷ []
+
 pub record Answered (b : Buffer) (most : ℕ) : Type 0 where
   pub frame : bufferFrame b ≤ most
   pub place : bufferPlace b ≤ most
 
+-- both ways: kept-of and of-kept in proofs/Ranges.antt
 pub record Kept (plan : Plan) (s : Frames) (first last packets : ℕ) : Type 0 where
   pub begun : s .begun ≡ true → 0 < packets
   pub closed : s .closed ≤ packets

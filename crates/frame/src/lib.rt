@@ -6,11 +6,12 @@ ghost use mathlib.Core.Path.{_≡_};
 ghost use mathlib.Core.Bool.{true};
 ghost use Prim.Native.Nat.{_+_, _-_, _≤_, _<_, max};
 ghost use lib.ListN.{length};
+ghost use Rattle.laws.specs.Every.{every};
 ghost use Rattle.laws.specs.Lay.{laid};
 ghost use Rattle.frame.specs.Paper.{bufferNumber, bufferFrame, bufferPlace, hasFailed, isNone};
 ghost use Rattle.frame.specs.Step.{lower, emptyOf, openedOf, countedOf, pushOf, kindOf, detailOf, wholeRow, brokenRow, rowOf};
 ghost use Rattle.frame.specs.Step.{numbersOf, answerOf, joined, noFrames, arriveOf, closeOf};
-ghost use Rattle.frame.specs.Range.{Planned, Pushable, Rowable};
+ghost use Rattle.frame.specs.Range.{Planned, Pushable, Rowable, ranges};
 
 // How many numbers a row has.
 pub const ROW: usize = 10;
@@ -375,6 +376,32 @@ impl Frames {
             current: Frame::empty(),
             buffer: Buffer::None,
         }
+    }
+
+    // Whether each number is in its range, by the first and the last arrival and how many packets came: docs/STATE.md.
+    pub fn in_range(self, plan: Plan, first: u64, last: u64, packets: u64) -> bool
+        requires { ⌜ Planned plan ⌝ }
+        ensures { λ r. ⌜ r ≡ every (ranges plan self first last packets) ⌝ }
+    {
+        let open = self.current;
+        let answer = self.buffer;
+        let lead_in = !self.begun;
+        let none = !(0 < open.held);
+        (self.closed <= packets)
+            & (lead_in | (0 < packets))
+            & (lead_in | (first <= self.marked))
+            & (lead_in | (self.marked <= last))
+            & (open.held <= packets)
+            & (none | (self.marked <= open.first))
+            & (none | (open.first <= last))
+            & (open.phase <= 2 * plan.period)
+            & (open.reads <= plan.packets)
+            & (open.differs <= open.held)
+            & (open.top <= open.held)
+            & (open.late <= open.held)
+            & (open.deficit <= plan.packets)
+            & (answer.frame() <= packets)
+            & (answer.place() <= packets)
     }
 
     // A packet arrives: it is in the open frame, or in the lead-in and in none.

@@ -7,3 +7,4 @@ pub mod Fold
 pub mod Lay
 pub mod Differ
 pub mod Unique
+pub mod Every

@@ -5,3 +5,4 @@ pub mod Turn
 pub mod Declared
 pub mod Cutting
 pub mod Limits
+pub mod Ranging

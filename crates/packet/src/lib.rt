@@ -2,8 +2,10 @@
 // the first refused packet's number and place, or how many frames close. The scan writes nothing.
 // It knows arrivals, markers and how many packets there were. It must never know a rate, a frame length or a bucket.
 ghost use mathlib.Core.Path.{_≡_};
-ghost use Prim.Native.Nat.{_≤_, _<_};
+ghost use Prim.Native.Nat.{_-_, _≤_, _<_};
+ghost use Rattle.laws.specs.Every.{every};
 ghost use Rattle.packet.specs.Paper.{OneLength, packets};
+ghost use Rattle.packet.specs.Range.{ranges};
 ghost use Rattle.packet.specs.Step.{nothing, firstOf, elapsedOf, numberOf, nextOf, noPackets, tallied, Countable, scanOf, scannedOf};
 
 // A packet: its arrival in nanoseconds since the SMPTE epoch, its RTP timestamp, and its marker, which is 0 or 1 where it is accepted.
@@ -39,6 +41,13 @@ pub enum Scanned {
     Refused(Refusal),
 }
 
+// last less first, and 0 for a past that no history has.
+fn apart(first: u64, last: u64) -> u64
+    ensures { λ r. ⌜ r ≡ last - first ⌝ }
+{
+    if last < first { 0 } else { last - first }
+}
+
 impl Past {
     // Before the first packet.
     pub fn none() -> Past
@@ -65,11 +74,19 @@ impl Past {
     pub fn elapsed(self, t: u64) -> u64
         ensures { λ r. ⌜ r ≡ elapsedOf self t ⌝ }
     {
-        let first = self.first_with(t);
-        if t < first {
-            return 0;
-        }
-        t - first
+        apart(self.first_with(t), t)
+    }
+
+    // Whether each number is in its range: docs/STATE.md.
+    pub fn in_range(self) -> bool
+        ensures { λ r. ⌜ r ≡ every (ranges self) ⌝ }
+    {
+        let none = self.packets == 0;
+        (self.packets <= 1000000000)
+            & (!none | (self.first == 0))
+            & (!none | (self.last == 0))
+            & (self.first <= self.last)
+            & (apart(self.first, self.last) <= 600000000000)
     }
 
     // The number by which a packet is refused, 0 where it is not.

@@ -1,5 +1,4 @@
 -- The proofs behind Demands.antt, and the laws that the functions' own proofs cite. Nothing here need be read to believe the measurement.
-pub mod Tests
 pub mod Planning
 pub mod InRange
 pub mod Laying

@@ -3,12 +3,9 @@
 // It knows the limits, the packets, the bucket and the frames, and puts them together. It must never know
 // a file, a byte or a line of output.
 ghost use mathlib.Core.Path.{_≡_};
-ghost use mathlib.Core.Bool.{_&&_};
-ghost use mathlib.Core.List.{[], _∷_};
 ghost use Prim.Native.Nat.{_-_};
 ghost use Rattle.grain.specs.Paper.{grains as grainsOf};
 ghost use Rattle.timing.specs.Step.{setUpOf, frameOf, rulesOf, freshOf, arriveOf, markOf};
-ghost use Rattle.timing.specs.Range.{every, implies as impliesOf, pastRanges, bucketRanges, countRanges, openRanges, keptRanges};
 ghost use Rattle.timing.specs.Range.{inRange};
 ghost use Prim.Native.Nat.{_≤_};
 ghost use lib.ListN.{length};
@@ -169,126 +166,24 @@ impl StreamNumbers {
     }
 }
 
-fn all(a: bool, b: bool, c: bool, d: bool, e: bool) -> bool
-    ensures { λ r. ⌜ r ≡ every (a ∷ b ∷ c ∷ d ∷ e ∷ []) ⌝ }
-{
-    both(a, both(b, both(c, both(d, e))))
-}
-
-fn both(a: bool, b: bool) -> bool
-    ensures { λ r. ⌜ r ≡ (a && b) ⌝ }
-{
-    if a { b } else { false }
-}
-
-fn implies(a: bool, b: bool) -> bool
-    ensures { λ r. ⌜ r ≡ impliesOf a b ⌝ }
-{
-    if a { b } else { true }
-}
-
-// last less first, and 0 for a past that no history has.
-fn apart(first: u64, last: u64) -> u64
-    ensures { λ r. ⌜ r ≡ last - first ⌝ }
-{
-    if last < first { 0 } else { last - first }
-}
-
-// The ranges of docs/STATE.md, group by group, in its order.
 impl State {
-    fn past_in_range(self) -> bool
-        ensures { λ r. ⌜ r ≡ every (pastRanges self) ⌝ }
-    {
-        let packets = self.past.packets;
-        let first = self.past.first;
-        let last = self.past.last;
-        all(
-            packets <= 1000000000,
-            implies(packets == 0, first == 0),
-            implies(packets == 0, last == 0),
-            first <= last,
-            apart(first, last) <= 600000000000,
-        )
-    }
-
-    fn bucket_in_range(self) -> bool
-        ensures { λ r. ⌜ r ≡ every (bucketRanges self) ⌝ }
-    {
-        let packets = self.past.packets;
-        let bucket = self.bucket;
-        let answer = bucket.network;
-        all(
-            bucket.level <= packets,
-            bucket.start <= packets,
-            bucket.peak <= packets,
-            answer.first() <= packets,
-            answer.last() <= packets,
-        )
-    }
-
-    fn counts_in_range(self) -> bool
-        ensures { λ r. ⌜ r ≡ every (countRanges self) ⌝ }
-    {
-        let packets = self.past.packets;
-        let begun = self.frames.begun;
-        let marked = self.frames.marked;
-        all(
-            self.drained <= 1000000000,
-            self.frames.closed <= packets,
-            implies(begun, 0 < packets),
-            implies(begun, self.past.first <= marked),
-            implies(begun, marked <= self.past.last),
-        )
-    }
-
-    fn open_in_range(self) -> bool
-        ensures { λ r. ⌜ r ≡ every (openRanges self) ⌝ }
-    {
-        let open = self.frames.current;
-        let numbers = self.numbers;
-        let frame = numbers.frame_length();
-        all(
-            open.held <= self.past.packets,
-            implies(0 < open.held, self.frames.marked <= open.first),
-            implies(0 < open.held, open.first <= self.past.last),
-            open.phase <= 2 * frame,
-            open.reads <= (numbers.parameters.n as u64),
-        )
-    }
-
-    fn kept_in_range(self) -> bool
-        ensures { λ r. ⌜ r ≡ every (keptRanges self) ⌝ }
-    {
-        let frames = self.frames;
-        let open = frames.current;
-        let buffer = frames.buffer;
-        let packets = self.past.packets;
-        let numbers = self.numbers;
-        all(
-            open.differs <= open.held,
-            open.top <= open.held,
-            open.late <= open.held,
-            open.deficit <= (numbers.parameters.n as u64),
-            both(buffer.frame() <= packets, buffer.place() <= packets),
-        )
-    }
-
-    // False exactly where refusal 9 is given.
+    // False exactly where refusal 9 is given. There is a plan only where set-up accepts the stream numbers.
     pub fn in_range(self) -> bool
         ensures { λ r. ⌜ r ≡ inRange self ⌝ }
     {
         let numbers = self.numbers;
-        let refused = numbers.refusal();
-        both(
-            refused == 0,
-            all(
-                self.past_in_range(),
-                self.bucket_in_range(),
-                self.counts_in_range(),
-                self.open_in_range(),
-                self.kept_in_range(),
-            ),
-        )
+        if numbers.refusal() != 0 {
+            return false;
+        }
+        let past = self.past;
+        let bucket = self.bucket;
+        let frames = self.frames;
+        let rules = numbers.rules();
+        let plan = rules.plan;
+        past.in_range()
+            & bucket.in_range(past.packets)
+            & (self.drained <= 1000000000)
+            & frames.in_range(plan, past.first, past.last, past.packets)
     }
 }
 

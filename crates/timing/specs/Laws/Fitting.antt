@@ -28,7 +28,7 @@ use Rattle.timing.specs.Step.{rulesOf, arriveOf, markOf, stepOf, rowsOf,
 use Rattle.timing.specs.Answers.{summaryWith, summaryOf}
 use Rattle.timing.specs.Range.{Sound}
 use Rattle.timing.specs.Feed.{Passes}
-use Rattle.timing.specs.Laws.Tests.{and-right}
+use Rattle.laws.specs.Every.{and-right}
 use Rattle.timing.specs.Laws.Planning.{planned}
 use Rattle.timing.specs.Laws.Staying.{sound-step, rows-made}
 use Rattle.timing.specs.Laws.Running.{numbers-append, step-numbers, step-past}
@@ -48,19 +48,19 @@ buffer-small (buffer.Over p) = omega arith
 pub summary-fits : (s : State) → Sound s → AllFit (map pos (summaryOf s))
 unfolding summaryWith
 summary-fits s x =
-    let packets = small-fits (x .few) in
+    let packets = small-fits (x .past .few) in
     let closed = below (x .frames .closed) in
-    let peak = below (x .peak) in
+    let peak = below (x .bucket .peak) in
     let network = small-fits (network-small (s .bucket .network)) in
-    let first = below (x .run-first) in
-    let last = below (x .run-last) in
+    let first = below (x .bucket .run-first) in
+    let last = below (x .bucket .run-last) in
     let buffer = small-fits (buffer-small (s .frames .buffer)) in
     let frame = below (x .frames .answered .frame) in
     let place = below (x .frames .answered .place) in
     (packets, (closed, (peak, (network, (first, (last, (buffer, (frame, (place, tt)))))))))
   where
     below : {m : ℕ} → m ≤ s .past .packets → SFits w64 (pos m)
-    below h = small-fits (omega (arith, x .few))
+    below h = small-fits (omega (arith, x .past .few))
 
 -- ---- the rows
 

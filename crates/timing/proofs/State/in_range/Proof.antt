@@ -1,6 +1,10 @@
--- The stream numbers and the five groups.
-use mathlib.Core.Path.{_∙_}
+-- Set-up's answer first, and then each part by its own answer; what set-up accepts has a plan.
+use mathlib.Core.Path.{_∙_, sym, subst}
+use borrow.Author.Tests.{eq-eqb, ne-eqb}
+use Rattle.frame.specs.Range.{Planned}
+use Rattle.timing.specs.declared.Rules.{Rules}
 use Rattle.timing.specs.Range.{inRange}
+use Rattle.timing.specs.Laws.Planning.{planned}
 use borrow.Author.Needs.{needs}
 use Rattle.timing.proofs.State.in_range.Statement.{statement}
 use Rattle.timing.proofs.State.in_range.Tie as tie
@@ -8,54 +12,35 @@ use Rattle.timing.proofs.State.in_range.Tie as tie
 refusal-requires : tie.Need-refusal-requires
 refusal-requires c κs = search needs
 
-past-in-range-requires : tie.Need-past-in-range-requires
-past-in-range-requires c κs = search needs
-
-bucket-in-range-requires : tie.Need-bucket-in-range-requires
-bucket-in-range-requires c κs = search needs
-
-counts-in-range-requires : tie.Need-counts-in-range-requires
-counts-in-range-requires c κs = search needs
-
-open-in-range-requires : tie.Need-open-in-range-requires
-open-in-range-requires c κs = search needs
-
-kept-in-range-requires : tie.Need-kept-in-range-requires
-kept-in-range-requires c κs = search needs
-
-all-requires : tie.Need-all-requires
-all-requires c κs = search needs
-
-both-requires : tie.Need-both-requires
-both-requires c κs = search needs
-
 returns : tie.Need-returns
 unfolding inRange
-returns c = let k = c .before .before in
-    let o = k .before in
-    let n = o .before in
-    let b = n .before in
-    let p = b .before in
-    c .both .ensures ∙ rw (
-      c .before .all .ensures,
-      k .kept-in-range .ensures,
-      o .open-in-range .ensures,
-      n .counts-in-range .ensures,
-      b .bucket-in-range .ensures,
-      p .past-in-range .ensures,
-      p .before .refusal .ensures,
+returns c = rw (ne-eqb _ 0 (λ z. c .if1 .taken (c .before .refusal .ensures ∙ z)))
+
+rules-requires : tie.Need-rules-requires
+rules-requires c κs = search needs
+
+past-in-range-requires : tie.Need-in-range-requires
+past-in-range-requires c κs = search needs
+
+bucket-in-range-requires : tie.Need-in-range-requires-2
+bucket-in-range-requires c κs = search needs
+
+frames-in-range-requires : tie.Need-in-range-requires-3
+frames-in-range-requires c κs = let r = c .before .before .before .before in
+    let start = r .before .before .before .before in
+    subst (λ (q : Rules). Planned (q .plan)) (sym (r .rules .ensures)) (planned _ (sym (start .before .refusal .ensures) ∙ start .if1 .left))
+
+returns-2 : tie.Need-returns-2
+unfolding inRange
+returns-2 c = let r = c .before .before .before .before .before in
+    let start = r .before .before .before .before in
+    rw (
+      c .in-range3 .ensures,
+      c .before .before .in-range2 .ensures,
+      c .before .before .before .in-range .ensures,
+      r .rules .ensures,
+      eq-eqb _ 0 (sym (start .before .refusal .ensures) ∙ start .if1 .left),
     )
 
 pub in-range-spec : {M : Type 1} → statement M
-in-range-spec =
-    tie.close
-    (tie.spec
-    refusal-requires
-    past-in-range-requires
-    bucket-in-range-requires
-    counts-in-range-requires
-    open-in-range-requires
-    kept-in-range-requires
-    all-requires
-    both-requires
-    returns)
+in-range-spec = tie.close (tie.spec refusal-requires returns rules-requires past-in-range-requires bucket-in-range-requires frames-in-range-requires returns-2)
