@@ -84,7 +84,7 @@ module _ (plan : Plan) (s : Frames) (first last packets t : ℕ) (p : Planned pl
     few = omega (arith, k .held, next e .few);
     order = λ l. omega (arith, k .first-to l, next e .order);
     near = λ l. omega (arith, k .first-from l, k .marked-from e, next e .near);
-    phased = k .phased;
+    phased = omega (arith, k .phased);
     read = k .read;
   }
 

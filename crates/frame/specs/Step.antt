@@ -1,8 +1,10 @@
 -- The frames step by step, as the code goes: the open frame by one packet more, its row and its answer, and what a marker closes.
 use mathlib.Core.Bool.{Bool, true, false, not, _&&_}
 use mathlib.Core.List.{List, [], _∷_}
+use mathlib.Core.Path.{_≡_, refl}
 use Prim.Native.Nat.{ℕ, _+_, _-_, _*_, max}
 use lib.Dec.{ltb, eqb}
+use lib.ListN.{length}
 use lib.IntN.{ℤ, pos, subℕ, _-ℤ_}
 use Rattle.laws.specs.Choose.{pick}
 use Rattle.grain.specs.Paper.{grains, phase, latency, readsBefore}
@@ -106,6 +108,13 @@ rowOf plan number marked f =
 abbrev pub numbersOf : Row → List ℤ
 numbersOf r =
     r .number ∷ r .kind ∷ r .detail ∷ r .fpt ∷ r .offset ∷ r .latency ∷ r .margin ∷ r .gap ∷ r .peak ∷ r .least ∷ []
+
+-- how many they are, for every row: `row-width`
+abbrev pub rowWidth : ℕ
+rowWidth = 10
+
+pub row-width : (r : Row) → length (numbersOf r) ≡ rowWidth
+row-width r = refl
 
 -- "under (least below 0) [..]; over (VRX peak above VRX_FULL) [..]; in one frame under goes first." A broken frame is not judged.
 unfoldable pub answerOf : Plan → ℕ → Frame → Buffer

@@ -10,10 +10,10 @@ ghost use Rattle.laws.specs.Every.{every};
 ghost use Rattle.laws.specs.Lay.{laid};
 ghost use Rattle.frame.specs.Paper.{bufferNumber, bufferFrame, bufferPlace, hasFailed, isNone};
 ghost use Rattle.frame.specs.Step.{lower, emptyOf, openedOf, countedOf, pushOf, kindOf, detailOf, wholeRow, brokenRow, rowOf};
-ghost use Rattle.frame.specs.Step.{numbersOf, answerOf, joined, noFrames, arriveOf, closeOf};
+ghost use Rattle.frame.specs.Step.{numbersOf, rowWidth, answerOf, joined, noFrames, arriveOf, closeOf};
 ghost use Rattle.frame.specs.Range.{Planned, Pushable, Rowable, ranges};
 
-// How many numbers a row has.
+// How many numbers a row has: `rowWidth`.
 pub const ROW: usize = 10;
 
 // What a stream is measured by: frames start at multiples of `period` grains and have `packets` packets;
@@ -284,7 +284,7 @@ impl Row {
 
     // The ten numbers into `rows`, from `at` on.
     pub fn put(self, rows: &mut [i64], at: usize)
-        requires { ⌜ at + 10 ≤ length (now rows) ⌝ }
+        requires { ⌜ at + rowWidth ≤ length (now rows) ⌝ }
         ensures { λ r. ⌜ now (rows .exit) ≡ laid at (numbersOf self) (now (rows .entry)) ⌝ }
     {
         let numbers = self.numbers();

@@ -8,6 +8,7 @@ use lib.IntN.{ℤ}
 use lib.ListN.{length, take, getD}
 use lib.Seq.{take-suc, take-all}
 use Rattle.laws.specs.Lay.{laid}
+use Rattle.frame.specs.Step.{rowWidth}
 use Rattle.text.specs.Decimal.{codes, signed}
 use Rattle.text.specs.Lines.{Part, fields}
 use Rattle.text.proofs.Parts.{part-then, part-is}
@@ -34,6 +35,6 @@ pub more-fields : (zs : List ℤ) (k : ℕ) (d : ℤ) {z : ℤ} {at n r : ℕ} {
 more-fields zs k d h e p q =
     part-is (omega arith) (ap (λ (y : ℤ). fields (take k zs) ++ (codes " " ++ signed y)) e ∙ next-field zs k d h) (part-then p q)
 
-pub all-fields : (zs : List ℤ) (k : ℕ) {at n : ℕ} {before after : List ℕ} → length zs ≡ 10 → k ≡ 10
+pub all-fields : (zs : List ℤ) (k : ℕ) {at n : ℕ} {before after : List ℕ} → length zs ≡ rowWidth → k ≡ rowWidth
     → Part (22 * k) (fields (take k zs)) at before n after → Part 220 (fields zs) at before n after
 all-fields zs k ten end p = part-is (omega arith) (ap fields (take-all k zs (omega arith))) p

@@ -7,6 +7,7 @@ use Rattle.text.specs.Lines.{Part, fields}
 use lib.IntN.{pos}
 use mir.Syntax.{w64}
 use mir.Facts.{toZ-ofZ}
+use Rattle.frame.specs.Step.{rowWidth}
 use borrow.Author.Needs.{needs}
 use Rattle.text.proofs.Parts.{part-kept}
 use Rattle.text.proofs.Fields.{no-fields, more-fields, all-fields}
@@ -14,11 +15,11 @@ use Rattle.text.proofs.put_fields.Statement.{statement}
 use Rattle.text.proofs.put_fields.Tie as tie
 
 abbrev Inv-loop : tie.InvT-loop
-Inv-loop out₀ at numbers next₀ k₀ out next k = Part (22 * k) (fields (take k numbers)) at out₀ next out × (k ≤ 10)
-    × (length out ≡ length out₀) × (length numbers ≡ 10)
+Inv-loop out₀ at numbers next₀ k₀ out next k = Part (22 * k) (fields (take k numbers)) at out₀ next out × (k ≤ rowWidth)
+    × (length out ≡ length out₀) × (length numbers ≡ rowWidth)
 
 abbrev μ-loop : tie.MeasureT-loop
-μ-loop out₀ at numbers next₀ k₀ out next k = 10 - k
+μ-loop out₀ at numbers next₀ k₀ out next k = rowWidth - k
 
 loop-holds : tie.Need-loop-holds Inv-loop μ-loop
 loop-holds c = (no-fields (c .before .args .t1) _ _, search needs, search needs, search needs)

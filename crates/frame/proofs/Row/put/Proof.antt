@@ -9,16 +9,17 @@ use lib.ListN.{drop}
 use Prim.Native.Nat.{_+_, _-_, _≤_}
 use native.Mathlib.Omega.{arith}
 use lib.ListN.{length, length-set}
+use Rattle.frame.specs.Step.{rowWidth}
 use borrow.Author.Needs.{needs}
 use Rattle.frame.proofs.Row.put.Statement.{statement}
 use Rattle.frame.proofs.Row.put.Tie as tie
 
 abbrev Inv-loop : tie.InvT-loop
-Inv-loop rows₀ at numbers k₀ rows k = (laid (at + k) (drop k numbers) rows ≡ laid at numbers rows₀) × (k ≤ 10)
-    × (length rows ≡ length rows₀) × (length numbers ≡ 10)
+Inv-loop rows₀ at numbers k₀ rows k = (laid (at + k) (drop k numbers) rows ≡ laid at numbers rows₀) × (k ≤ rowWidth)
+    × (length rows ≡ length rows₀) × (length numbers ≡ rowWidth)
 
 abbrev μ-loop : tie.MeasureT-loop
-μ-loop rows₀ at numbers k₀ rows k = 10 - k
+μ-loop rows₀ at numbers k₀ rows k = rowWidth - k
 
 numbers-requires : tie.Need-numbers-requires Inv-loop μ-loop
 numbers-requires c κs = search needs
