@@ -47,6 +47,25 @@ bytes-number [] h = refl
 bytes-number (b ∷ bs) h =
     rw (digits-div b (number-small bs (h .1)), digits-mod b (number-small bs (h .1)), bytes-number bs (h .1))
 
+-- bytes: each of a list, in front, behind, and one list after another
+pub bytes-all : (l : List ℕ) → ((i : ℕ) → getD l i 0 < 256) → Bytes l
+bytes-all [] h = tt
+bytes-all (b ∷ l) h = (h 0, bytes-all l (λ i. h (suc i)))
+
+pub bytes-take : (k : ℕ) (l : List ℕ) → Bytes l → Bytes (take k l)
+bytes-take zero l h = tt
+bytes-take (suc k) [] h = tt
+bytes-take (suc k) (b ∷ l) h = (h .0, bytes-take k l (h .1))
+
+pub bytes-drop : (k : ℕ) (l : List ℕ) → Bytes l → Bytes (drop k l)
+bytes-drop zero l h = h
+bytes-drop (suc k) [] h = tt
+bytes-drop (suc k) (b ∷ l) h = bytes-drop k l (h .1)
+
+pub bytes-append : (u v : List ℕ) → Bytes u → Bytes v → Bytes (u ++ v)
+bytes-append [] v hu hv = hv
+bytes-append (b ∷ u) v hu hv = (hu .0, bytes-append u v (hu .1) hv)
+
 -- by halves
 
 pub number-join : (u v : List ℕ) → numberOf (u ++ v) ≡ numberOf u * 256 ^ length v + numberOf v
@@ -61,10 +80,6 @@ number-join (b ∷ u) v =
       mul-assoc b (256 ^ length u) (256 ^ length v),
       add-assoc (b * (256 ^ length u * 256 ^ length v)) (numberOf u * 256 ^ length v) (numberOf v),
     )
-
-bytes-append : (u v : List ℕ) → Bytes u → Bytes v → Bytes (u ++ v)
-bytes-append [] v hu hv = hv
-bytes-append (b ∷ u) v hu hv = (hu .0, bytes-append u v (hu .1) hv)
 
 pub bytes-join : (j k x : ℕ) → x < 256 ^ (j + k) → bytesOf (j + k) x ≡ bytesOf j (x / 256 ^ k) ++ bytesOf k (x % 256 ^ k)
 bytes-join j k x h =

@@ -1,9 +1,17 @@
-// Numbers of two, four and eight bytes, the highest byte first, read from and written to lent bytes.
+// Numbers of two, four and eight bytes, the highest byte first, read from and written to lent bytes; of two and four, read in
+// either order.
 // It knows bytes and numbers. It must never know what a number means: a file's layout lies above.
 ghost use mathlib.Core.Path.{_≡_};
 ghost use Prim.Native.Nat.{_<_};
 ghost use lib.Seq.{sets};
 ghost use Rattle.endian.specs.Number.{numberAt, bytesOf, Room};
+ghost use Rattle.endian.specs.Order.{numberBy};
+
+// Which byte of a number stands first: the highest, or the lowest.
+pub enum Order {
+    Big,
+    Little,
+}
 
 fn wide16(x: u8) -> u16
     ensures { λ r. ⌜ (r ≡ x) × (r < 256) ⌝ }
@@ -54,7 +62,32 @@ pub fn read64(s: &[u8], at: usize) -> u64
     four(s, at) * 4294967296 + four(s, at + 4)
 }
 
-// And written so; the bytes around it stay.
+// The same of two and four bytes in the order that is named, by their halves as they stand.
+pub fn read16_by(order: Order, s: &[u8], at: usize) -> u16
+    requires { ⌜ Room 2 (now s) at ⌝ }
+    ensures { λ r. ⌜ r ≡ numberBy order 2 (now (s .entry)) at ⌝ }
+{
+    let first = wide16(s[at]);
+    let second = wide16(s[at + 1]);
+    match order {
+        Order::Big => first * 256 + second,
+        Order::Little => second * 256 + first,
+    }
+}
+
+pub fn read32_by(order: Order, s: &[u8], at: usize) -> u32
+    requires { ⌜ Room 4 (now s) at ⌝ }
+    ensures { λ r. ⌜ r ≡ numberBy order 4 (now (s .entry)) at ⌝ }
+{
+    let first = wide32(read16_by(order, s, at));
+    let second = wide32(read16_by(order, s, at + 2));
+    match order {
+        Order::Big => first * 65536 + second,
+        Order::Little => second * 65536 + first,
+    }
+}
+
+// And written, the highest byte first; the bytes around it stay.
 pub fn write16(d: &mut [u8], at: usize, x: u16)
     requires { ⌜ Room 2 (now d) at ⌝ }
     ensures { λ _. ⌜ now (d .exit) ≡ sets (now (d .entry)) at (bytesOf 2 x) ⌝ }

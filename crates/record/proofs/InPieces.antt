@@ -13,7 +13,7 @@ use Rattle.record.specs.declared.Read.{Read}
 use Rattle.record.specs.declared.Read.the-variants.{More}
 use Rattle.record.specs.Step.{itemOf, enough, pieceOf}
 use Rattle.record.specs.Pieces.{goesOn, nextAt, taken, wantsMore, answers, inPieces}
-use Rattle.record.proofs.Fields.{bytes-all}
+use Rattle.endian.proofs.Width.{bytes-all}
 use Rattle.record.proofs.Items.{piece-last, piece-enough, piece-more}
 use Rattle.record.proofs.Window.{window-same, window-enough, item-within}
 

@@ -9,6 +9,7 @@ use lib.ListN.{length, take, drop, getD, length-drop}
 use lib.Seq.{drop-drop}
 use borrow.Author.Tests.{eqb-true}
 use Rattle.endian.specs.Number.{Bytes}
+use Rattle.endian.proofs.Width.{bytes-drop}
 use Rattle.packet.specs.declared.Past.{Past}
 use Rattle.packet.specs.declared.Scanned.the-variants as scan
 use Rattle.packet.specs.declared.Packet.{Packet}
@@ -28,7 +29,7 @@ use Rattle.record.proofs.Writing.{length-file, answers-done, writes-don
 use Rattle.record.proofs.Format.{formed, kind-of-14}
 use Rattle.record.proofs.Reading.{neither, packet-here, parameters-here, packets-end, packets-stop, packets-go}
 use Rattle.record.proofs.Reading.{reading-20, reading-stop, reading-go}
-use Rattle.record.proofs.Fields.{bytes-drop, packet-again, parameters-again}
+use Rattle.record.proofs.Fields.{packet-again, parameters-again}
 
 stopped-done : (n o : ℕ) → stopped n o ≡ done → ⊥
 stopped-done n o e = let z : _≡_ {A = ℕ} 0 1 = cc in omega arith

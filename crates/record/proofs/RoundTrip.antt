@@ -22,7 +22,7 @@ use Rattle.record.specs.Pieces.{callsOf, told, Answered}
 use Rattle.limits.specs.Steps.{ParametersHeld}
 use Rattle.record.specs.Layout.{bytesIn, PacketsHeld}
 use Rattle.record.specs.Write.{Writes}
-use Rattle.record.proofs.Fields.{bytes-all}
+use Rattle.endian.proofs.Width.{bytes-all}
 use Rattle.record.proofs.Writing.{was-written, writes-done, packets-held}
 use Rattle.record.proofs.WriteRead.{file-written}
 use Rattle.record.proofs.ReadWrite.{file-again, writer-again}

@@ -7,12 +7,13 @@ use lib.Dec.{lit<}
 use lib.ListN.{length, set, length-append}
 use lib.Seq.{sets}
 use Rattle.endian.specs.Number.{bytesOf}
+use Rattle.endian.specs.Fields.{fieldBytes}
 use Rattle.endian.proofs.Width.{length-bytes, two-stored, sets-join}
 use Rattle.packet.specs.declared.Packet.{Packet}
 use Rattle.packet.specs.Paper.{OneLength, lent, packetsFrom}
 use Rattle.packet.proofs.Lent.{packets-cons, packets-none}
 use Rattle.limits.specs.declared.Parameters.{Parameters}
-use Rattle.record.specs.Layout.{laid, packetWith, packetRecord, headOf, recordsOf}
+use Rattle.record.specs.Layout.{packetWith, packetRecord, headOf, recordsOf}
 
 one-stored : (v : ℕ) (d : List ℕ) (at : ℕ) → sets d at (bytesOf 1 v) ≡ set d at v
 unfolding bytesOf
@@ -25,20 +26,20 @@ length-stored x h d at = sym (two-stored x d at) ∙ rw (div-eq-of-lt h, mod-eq-
 pub packet-stored : (t stamp marker : ℕ) (d : List ℕ) (at : ℕ)
     → set (sets (sets (set (set (set d at 0) (at + 1) 14) (at + 2) 2) (at + 3) (bytesOf 8 t)) (at + 11) (bytesOf 4 stamp)) (at + 15) marker
     ≡ sets d at (packetRecord (packetWith t stamp marker))
-unfolding laid
+unfolding fieldBytes
 packet-stored t stamp marker d at = sym (simp (sets-join, length-bytes, one-stored, length-stored 14 (lit< tt), add-assoc))
 
 pub head-stored : (s : Parameters) (d : List ℕ)
     → sets (sets (sets (sets (set (set (set (set (set (set (set d 0 1) 1 0) 2 16) 3 1) 4 (s .rate)) 5 (s .schedule)) 6 (s .class))
     7 (bytesOf 2 (s .height))) 9 (bytesOf 4 (s .n))) 13 (bytesOf 2 (s .maxudp))) 15 (bytesOf 4 (s .tro))
     ≡ sets d 0 (headOf s)
-unfolding laid
+unfolding fieldBytes
 head-stored s d = sym (simp (sets-join, length-bytes, one-stored, length-stored 16 (lit< tt)))
 
 -- the packets' records, one more at a time
 
 pub length-packet : (p : Packet) → length (packetRecord p) ≡ 16
-unfolding laid
+unfolding fieldBytes
 length-packet p = simp (length-append, length-bytes)
 
 module _ {ts ss ms : List ℕ} (same : OneLength ts ss ms) (i : ℕ) (d : List ℕ) (at : ℕ) where

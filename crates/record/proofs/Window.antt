@@ -13,13 +13,12 @@ use lib.Seq.{take-append-le, drop-append-le, length-take-le}
 use borrow.Author.Tests.{le-ltb, le-leb, lt-leb, eq-eqb, ne-eqb, eqb-true}
 use Rattle.laws.specs.Choose.{pick-either, false-true}
 use Rattle.endian.specs.Number.{numberAt, Bytes}
-use Rattle.endian.proofs.Width.{number-small}
+use Rattle.endian.proofs.Width.{number-small, bytes-take}
 use Rattle.record.specs.declared.Read.{Read}
 use Rattle.record.specs.declared.Read.the-variants.{Parameters, Packet}
 use Rattle.record.specs.Paper.{bodyLength, kindOf, kindLength, parametersAt, packetAt, formatRefusal}
 use Rattle.record.specs.Step.{cursor, after, itemOf, enough, Whole}
 use Rattle.record.specs.Pieces.{goesOn, taken, wantsMore}
-use Rattle.record.proofs.Fields.{bytes-take}
 use Rattle.record.proofs.Reading.{packet-here, parameters-here}
 use Rattle.record.proofs.Format.{lone-23, nought-21, parameter-room, packet-room}
 use Rattle.record.proofs.Items.{item-end, item-refused-1, item-refused, item-parameters, item-packet, scrap-waits}

@@ -18,9 +18,10 @@ use Rattle.limits.specs.declared.Parameters.{Parameters}
 use Rattle.limits.specs.Paper.{setUpRefusal}
 use Rattle.record.specs.Paper.{kindOf, packetAt, formatRefusal, packetRefusal}
 use Rattle.record.specs.Paper.{done, Packets, more, packetsIn, read, readingOf}
-use Rattle.record.specs.Layout.{packetWidths, packetFields, parameterRecord, packetRecord, recordsOf, bytesIn, Fit}
-use Rattle.limits.specs.Steps.{ParametersHeld}
+use Rattle.endian.specs.Fields.{Fit}
+use Rattle.record.specs.Layout.{packetWidths, packetFields, parameterRecord, packetRecord, recordsOf, bytesIn}
 use Rattle.record.specs.Layout.{PacketsHeld}
+use Rattle.limits.specs.Steps.{ParametersHeld}
 use Rattle.record.specs.Step.{Whole}
 use Rattle.record.proofs.Format.{kind-1, kind-2-length, first-0, packet-0}
 use Rattle.record.proofs.Reading.{second, packets-end, packets-go, reading-go}

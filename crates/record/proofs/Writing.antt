@@ -20,17 +20,18 @@ use Rattle.packet.specs.Step.{nothing, scannedOf}
 use Rattle.packet.proofs.Lent.{packets-length}
 use Rattle.packet.proofs.Turn.{scanned-fine}
 use Rattle.packet.proofs.Declared.{scan-declared, fine-few}
+use Rattle.endian.specs.Fields.{fieldBytes}
 use Rattle.endian.proofs.Width.{length-bytes, sets-join}
 use Rattle.limits.specs.declared.Parameters.{Parameters}
 use Rattle.record.specs.declared.Written.{Written}
 use Rattle.record.specs.declared.Written.the-variants.{Done, Refused}
 use Rattle.limits.specs.Paper.{setUpRefusal}
-use Rattle.record.specs.Layout.{laid, packetRecord, headOf, recordsOf, bytesIn, PacketsHeld}
+use Rattle.record.specs.Layout.{packetRecord, headOf, recordsOf, bytesIn, PacketsHeld}
 use Rattle.record.specs.Write.{fileLength, scanning, writtenOf, Writes}
 use Rattle.record.proofs.Stores.{length-packet}
 
 pub length-head : (s : Parameters) → length (headOf s) ≡ 19
-unfolding laid
+unfolding fieldBytes
 length-head s = simp (length-append, length-bytes)
 
 pub length-records : (ps : List Packet) → length (recordsOf ps) ≡ 16 * length ps

@@ -1,32 +1,10 @@
 -- The layout of the record file: a record is fields of so many bytes each, one after the other, and a file is its records.
 use mathlib.Core.List.{List, [], _∷_, _++_}
-use Prim.Native.Nat.{ℕ, _+_, _^_, _<_}
-use lib.ListN.{take, drop}
-use Rattle.endian.specs.Number.{numberOf, bytesOf}
+use Prim.Native.Nat.{ℕ, _<_}
+use Rattle.endian.specs.declared.Order.the-variants.{Big}
+use Rattle.endian.specs.Fields.{fieldBytes}
 use Rattle.packet.specs.declared.Packet.{Packet}
 use Rattle.limits.specs.declared.Parameters.{Parameters}
-
--- the bytes of some fields, by their widths
-unfoldable pub laid : List ℕ → List ℕ → List ℕ
-laid [] vs = []
-laid (w ∷ ws) [] = []
-laid (w ∷ ws) (v ∷ vs) = bytesOf w v ++ laid ws vs
-
--- the fields at the front of some bytes
-unfoldable pub fields : List ℕ → List ℕ → List ℕ
-fields [] l = []
-fields (w ∷ ws) l = numberOf (take w l) ∷ fields ws (drop w l)
-
-abbrev pub total : List ℕ → ℕ
-total [] = 0
-total (w ∷ ws) = w + total ws
-
--- each field fits its width
-abbrev pub Fit : List ℕ → List ℕ → Type 0
-Fit [] [] = Unit
-Fit [] (v ∷ vs) = ⊥
-Fit (w ∷ ws) [] = ⊥
-Fit (w ∷ ws) (v ∷ vs) = (v < 256 ^ w) × Fit ws vs
 
 -- "length (two bytes, big-endian, of the body), body. Kind 1, 16 bytes: kind, rate, schedule, class, height (2), n (4), MAXUDP (2), TRO (4"
 abbrev pub parameterWidths : List ℕ
@@ -45,11 +23,12 @@ packetFields p = 14 ∷ 2 ∷ p .time ∷ p .stamp ∷ p .marker ∷ []
 abbrev pub packetWith : ℕ → ℕ → ℕ → Packet
 packetWith t stamp marker = record { time = t; stamp = stamp; marker = marker }
 
+-- "All big-endian."
 abbrev pub parameterRecord : Parameters → List ℕ
-parameterRecord s = laid parameterWidths (parameterFields s)
+parameterRecord s = fieldBytes Big parameterWidths (parameterFields s)
 
 abbrev pub packetRecord : Packet → List ℕ
-packetRecord p = laid packetWidths (packetFields p)
+packetRecord p = fieldBytes Big packetWidths (packetFields p)
 
 -- the packets' records, and the whole file: "Version byte 1, then records"
 unfoldable pub recordsOf : List Packet → List ℕ

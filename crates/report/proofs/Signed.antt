@@ -14,7 +14,7 @@ use mir.Val.{toZ}
 use mir.Facts.{fits-ofZ, toZ-ofZ}
 use Rattle.laws.specs.Choose.{pick-either}
 use Rattle.endian.specs.Number.{numberOf, numberAt, bytesOf, Bytes}
-use Rattle.endian.proofs.Width.{length-bytes, number-small, number-bytes}
+use Rattle.endian.proofs.Width.{length-bytes, number-small, number-bytes, bytes-take, bytes-drop}
 use Rattle.packet.specs.declared.Past.{Past}
 use Rattle.packet.specs.declared.Packet.{Packet}
 use Rattle.packet.specs.Paper.{at}
@@ -28,7 +28,6 @@ use Rattle.timing.specs.Laws.Scanning.{scan-runs}
 use Rattle.timing.specs.Laws.Fitting.{summary-fits, rows-fit}
 use Rattle.limits.specs.declared.Parameters.{Parameters}
 use Rattle.record.specs.Paper.{bodyLength, packetAt, packetRefusal, Packets, packetsBy, file, fileOf}
-use Rattle.record.proofs.Fields.{bytes-take, bytes-drop}
 use Rattle.record.proofs.ReadWrite.{file-holds}
 use Rattle.report.specs.Paper.{stateOf, reportOf, signed, inBytes, encoded}
 

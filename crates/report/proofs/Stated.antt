@@ -14,6 +14,7 @@ use borrow.Author.Tests.{le-leb, lt-leb}
 use Rattle.laws.specs.Choose.{pick}
 use Rattle.laws.specs.Lay.{laid, laid-is}
 use Rattle.endian.specs.Number.{numberOf}
+use Rattle.endian.proofs.Width.{bytes-all}
 use Rattle.packet.specs.declared.Packet.{Packet}
 use Rattle.packet.specs.Paper.{packets}
 use Rattle.timing.specs.declared.State.{State}
@@ -28,7 +29,6 @@ use Rattle.record.specs.Paper.{File, file, refused, fileOf}
 use Rattle.record.specs.Walk.{asChecked, checkedOf, checkedNumber, checkedOffset}
 use Rattle.limits.specs.Steps.{ParametersHeld}
 use Rattle.record.specs.Write.{fileLength}
-use Rattle.record.proofs.Fields.{bytes-all}
 use Rattle.record.proofs.ReadWrite.{file-holds}
 use Rattle.record.proofs.RoundTrip.{written-accepted}
 use Rattle.report.specs.Paper.{stateOf, rowsOf, reportOf, encoded, bytesFor, answer, answered, answerOf, roomFor, roomOf}
