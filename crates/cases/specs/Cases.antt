@@ -17,7 +17,7 @@ use Rattle.bucket.specs.Step as B
 use Rattle.frame.specs.Paper.{since, late, levelOf}
 use Rattle.frame.specs.Step as F
 use Rattle.endian.specs.Number.{numberOf}
-use Rattle.record.specs.Paper.{kindLength, formatRefusal, packetsBy, readingOf, File, file, refused, fileOf}
+use Rattle.record.specs.Paper.{isParameters, kindLength, formatRefusal, packetsBy, readingOf, File, file, refused, fileOf}
 use Rattle.report.specs.Paper.{reportOf}
 use Rattle.timing.specs.declared.StreamNumbers.{StreamNumbers}
 use Rattle.timing.specs.declared.State.{State}
@@ -133,6 +133,6 @@ cases =
 pub cases-hold : map (λ c. c .got) cases ≡ map (λ c. c .want) cases
 unfolding cases setUpRefusal firstNo troFits frameLength activeRatio classOf cMax vrxFull int troGrains defaultTro nearest phase encoded
     count fold rulesOf arriveOf markOf stepOf rowsAfter numbers summaryWith B.stepOf F.openedOf F.countedOf F.kindOf F.wholeRow
-    F.rowOf F.answerOf F.joined F.arriveOf F.closeOf F.rowsOf since readingOf packetsBy formatRefusal kindLength numberOf
+    F.rowOf F.answerOf F.joined F.arriveOf F.closeOf F.rowsOf since readingOf packetsBy formatRefusal isParameters kindLength numberOf
     refusalOf
 cases-hold = refl

@@ -14,18 +14,18 @@ use Rattle.laws.specs.Choose.{pick, pick-either}
 use Rattle.laws.specs.Fold.{fold}
 use Rattle.packet.specs.declared.Past.{Past}
 use Rattle.packet.specs.declared.Packet as packet
-use Rattle.packet.specs.Step.{refusalOf, numberOf, nextOf}
+use Rattle.packet.specs.Step.{numberOf, nextOf}
 use Rattle.packet.proofs.Refusals.{accepted}
 use Rattle.frame.specs.declared.Row.{Row}
 use Rattle.text.specs.Lines.{rowLine, refusalLine}
 use Rattle.record.specs.declared.Cursor.{Cursor}
-use Rattle.record.specs.declared.Read.{Read}
-use Rattle.record.specs.declared.Read.the-variants.{Version, Parameters, Packet, End, More, Refused}
+use Rattle.record.specs.declared.Next.{Next}
+use Rattle.record.specs.declared.Next.the-variants.{Packet, End, More, Refused}
 use Rattle.record.specs.Paper.{packetAt, packetRefusal, Packets, packetsIn, more}
-use Rattle.record.specs.Step.{itemOf, pieceOf}
+use Rattle.record.specs.Step.{nextRead, nextPiece}
 use Rattle.record.specs.Pieces.{wantsMore}
 use Rattle.record.proofs.Reading.{second, before, packets-end, packets-stop, packets-go}
-use Rattle.record.proofs.Walking.{Says, item-says}
+use Rattle.record.proofs.Saying.{Says, next-says}
 use Rattle.record.proofs.InPieces.{piece-answers, last-answers}
 use Rattle.timing.specs.declared.Rules.{Rules}
 use Rattle.timing.specs.declared.State.{State}
@@ -34,7 +34,7 @@ use Rattle.timing.specs.Laws.InRange.{of-sound}
 use Rattle.timing.specs.Laws.Running.{step-numbers, step-past}
 use Rattle.printer.specs.declared.Walk.{Walk}
 use Rattle.printer.specs.Paper.{rowLines, sumLine, lastLine, linesOf, restOf}
-use Rattle.printer.specs.Step.{Took, lineOf, stays, andThen, packetOf, stepped, linesAt, itemBy}
+use Rattle.printer.specs.Step.{Took, lineOf, stays, andThen, stepped, linesAt, itemBy}
 use Rattle.printer.specs.Step.{walkBy, takeOf}
 use Rattle.printer.specs.Drive.{Stands}
 use Rattle.printer.proofs.Turning.{piece-sixteen, ready-next}
@@ -56,21 +56,21 @@ module _ (rules : Rules) (s : State) where
       let end = lastLine (stateAfter rules (stepOf rules s p) (r .accepted)) (r .ending) in
       ap (λ (x : List ℕ). x ++ end) (rows-append here rest) ∙ append-assoc (rowLines here) (rowLines rest) end
 
-  module _ (at : ℕ) (l : List ℕ) (h : 1 < at) where
+  module _ (at : ℕ) (l : List ℕ) where
     rest-end : length l ≡ 0 → restOf rules s at l ≡ sumLine s
     unfolding restOf rowsAfter fold rowLines
     rest-end e = rw (packets-end (s .past) at l e)
 
-    rest-stop : (n : ℕ) → 0 < length l → packetRefusal (s .past) at l ≡ n → 0 < n → restOf rules s at l ≡ refusalLine n at
+    rest-stop : (n : ℕ) → 0 < length l → packetRefusal (s .past) l ≡ n → 0 < n → restOf rules s at l ≡ refusalLine n at
     unfolding restOf rowsAfter fold rowLines
     rest-stop n some e p = rw (packets-stop (s .past) at l n some e p)
 
-    rest-go : (p : packet.Packet) → packetAt l ≡ p → packetRefusal (s .past) at l ≡ 0
+    rest-go : (p : packet.Packet) → packetAt l ≡ p → packetRefusal (s .past) l ≡ 0
         → restOf rules s at l ≡ rowLines (rowsOf rules s p) ++ restOf rules (stepOf rules s p) (at + 16) (drop 16 l)
     unfolding restOf
     rest-go p same e =
         let tail = packetsIn (nextOf (s .past) (p .time)) (at + 16) (drop 16 l) in
-        let split : packetsIn (s .past) at l ≡ more p tail = packets-go (s .past) at l h e
+        let split : packetsIn (s .past) at l ≡ more p tail = packets-go (s .past) at l e
         ∙ ap (λ (x : packet.Packet). more x (packetsIn (nextOf (s .past) (x .time)) (at + 16) (drop 16 l))) same in
         ap (linesOf rules s) split ∙ lines-more p tail
         ∙ ap (λ (x : Past). rowLines (rowsOf rules s p) ++ linesOf rules (stepOf rules s p) (packetsIn x (at + 16) (drop 16 l)))
@@ -78,9 +78,9 @@ module _ (rules : Rules) (s : State) where
 
 -- ---- what stands at the walk stands there in the whole file
 
-pub follows : (at : ℕ) (w v : List ℕ) (last : Bool) (r : Read) → (last ≡ true → v ≡ []) → pieceOf at w last ≡ r → wantsMore r ≡ false
-    → itemOf at (w ++ v) ≡ r
-follows at w v true r l e m = rw (l refl) (ap (itemOf at) (append-nil w) ∙ sym (last-answers at w .0) ∙ e)
+pub follows : (at : ℕ) (w v : List ℕ) (last : Bool) (r : Next) → (last ≡ true → v ≡ []) → nextPiece at w last ≡ r → wantsMore r ≡ false
+    → nextRead at (w ++ v) ≡ r
+follows at w v true r l e m = rw (l refl) (ap (nextRead at) (append-nil w) ∙ e)
 follows at w v false r l e m = sym (piece-answers at w v (ap wantsMore e ∙ m)) ∙ e
 
 some-refusal : (n : ℕ) → (n ≡ 0 → ⊥) → 0 < n
@@ -97,9 +97,6 @@ Carries rules walk w v k =
     × (rules ≡ rulesOf (k .walk .state .numbers))
 
 module _ (rules : Rules) (walk : Walk) (w v : List ℕ) (q : rules ≡ rulesOf (walk .state .numbers)) (z : Stands walk) where
-  past-start : 1 < walk .at .at
-  past-start = omega (arith, z .offset)
-
   -- the last line
   ends-at : (line : List ℕ) → restOf rules (walk .state) (walk .at .at) (w ++ v) ≡ line
       → Carries rules walk w v (record { walk = walk; used = 0; text = line; ended = true })
@@ -109,38 +106,36 @@ module _ (rules : Rules) (walk : Walk) (w v : List ℕ) (q : rules ≡ rulesOf (
   waits : Carries rules walk w v (stays walk)
   waits = (refl, z, q)
 
-  module _ {t stamp marker : ℕ} {c : Cursor} (s : Says (walk .at .at) (w ++ v) (Packet t stamp marker c)) where
-    the-packet : packetAt (w ++ v) ≡ packetOf t stamp marker
+  module _ {p : packet.Packet} {c : Cursor} (s : Says (walk .at .at) (w ++ v) (Packet p c)) where
+    the-packet : packetAt (w ++ v) ≡ p
     the-packet = let e = s .1 in cc
 
-    the-refusal : packetRefusal (walk .state .past) (walk .at .at) (w ++ v) ≡ refusalOf (walk .state .past) t marker
+    the-refusal : packetRefusal (walk .state .past) (w ++ v) ≡ numberOf (walk .state .past) p
     the-refusal = second _ _ (s .0) ∙ ap (numberOf (walk .state .past)) the-packet
 
-    pub the-next : refusalOf (walk .state .past) t marker ≡ 0 → c .at ≡ walk .at .at + 16
+    pub the-next : numberOf (walk .state .past) p ≡ 0 → c .at ≡ walk .at .at + 16
     the-next e =
-        let few = accepted (walk .state .past) t marker e .few in
+        let few = accepted (walk .state .past) (p .time) (p .marker) e .few in
         let m = mod-eq-of-lt {n = walk .at .at + 16} {m = 2 ^ 64} (omega (arith, z .offset, few)) in
         let f = s .1 in
         cc
 
-    next-stands : refusalOf (walk .state .past) t marker ≡ 0 → Stands (stepped rules walk (packetOf t stamp marker) c)
+    next-stands : numberOf (walk .state .past) p ≡ 0 → Stands (stepped rules walk p c)
     next-stands e =
-        let p = packetOf t stamp marker in
         record {
           sound = ready-next {rules = rules} {walk = walk} (record { rules-are = q; sound = z .sound }) p (sym e) c .sound;
           offset = omega (arith, the-next e, z .offset, ap (λ (x : Past). x .packets) (step-past rules (walk .state) p));
         }
 
-    carried-on : (k : Took) → 16 ≤ length w → refusalOf (walk .state .past) t marker ≡ 0
-        → Carries rules (stepped rules walk (packetOf t stamp marker) c) (drop 16 w) v k
-        → Carries rules walk w v (andThen 16 (linesAt rules walk (packetOf t stamp marker)) k)
+    carried-on : (k : Took) → 16 ≤ length w → numberOf (walk .state .past) p ≡ 0
+        → Carries rules (stepped rules walk p c) (drop 16 w) v k
+        → Carries rules walk w v (andThen 16 (linesAt rules walk p) k)
     carried-on k room e f =
-        let p = packetOf t stamp marker in
         let next = stepOf rules (walk .state) p in
         let lines = linesAt rules walk p in
         let go : restOf rules (walk .state) (walk .at .at) (w ++ v)
         ≡ lines ++ restOf rules next (walk .at .at + 16) (drop 16 (w ++ v)) =
-        rest-go rules (walk .state) (walk .at .at) (w ++ v) past-start p the-packet (the-refusal ∙ e) in
+        rest-go rules (walk .state) (walk .at .at) (w ++ v) p the-packet (the-refusal ∙ e) in
         let same : restOf rules next (walk .at .at + 16) (drop 16 (w ++ v)) ≡ restOf rules next (c .at) (drop 16 w ++ v) =
         rw (the-next e, drop-append-le 16 w v room) in
         let left : restOf rules (k .walk .state) (k .walk .at .at) (drop (k .used) (drop 16 w) ++ v)
@@ -153,27 +148,24 @@ module _ (rules : Rules) (walk : Walk) (w v : List ℕ) (q : rules ≡ rulesOf (
         )
 
   -- what stands there, by cases
-  carries-item : (r : Read) (room : ℕ) (on : Walk → ℕ → Took) → (wantsMore r ≡ false → Says (walk .at .at) (w ++ v) r)
-      → ((t stamp marker : ℕ) (c : Cursor) → r ≡ Packet t stamp marker c → 16 ≤ length w)
+  carries-item : (r : Next) (room : ℕ) (on : Walk → ℕ → Took) → (wantsMore r ≡ false → Says (walk .at .at) (w ++ v) r)
+      → ((p : packet.Packet) (c : Cursor) → r ≡ Packet p c → 16 ≤ length w)
       → ((next : Walk) (left : ℕ) → rules ≡ rulesOf (next .state .numbers) → Stands next → Carries rules next (drop 16 w) v (on next left))
       → Carries rules walk w v (itemBy rules walk room on r)
   unfolding lineOf
-  carries-item (Version c) room on s six ih = absurd (s refl)
-  carries-item (Parameters x c) room on s six ih = absurd (s refl)
-  carries-item (Packet t stamp marker c) room on s six ih =
-      let p = packetOf t stamp marker in
-      let n = refusalOf (walk .state .past) t marker in
+  carries-item (Packet p c) room on s six ih =
+      let n = numberOf (walk .state .past) p in
       pick-either (Carries rules walk w v) (eqb n 0)
       (λ e. let f = eqb-true n 0 e in
-      carried-on (s refl) (on (stepped rules walk p c) (room - length (linesAt rules walk p))) (six t stamp marker c refl) f
+      carried-on (s refl) (on (stepped rules walk p c) (room - length (linesAt rules walk p))) (six p c refl) f
       (ih (stepped rules walk p c) _ (q ∙ sym (ap rulesOf (step-numbers rules (walk .state) p))) (next-stands (s refl) f)))
-      (λ e. ends-at _ (rest-stop rules (walk .state) (walk .at .at) (w ++ v) past-start n
-      (omega (arith, six t stamp marker c refl, length-append w v)) (the-refusal (s refl)) (some-refusal n (eqb-false n 0 e))))
-  carries-item End room on s six ih = ends-at _ (rest-end rules (walk .state) (walk .at .at) (w ++ v) past-start (s refl))
+      (λ e. ends-at _ (rest-stop rules (walk .state) (walk .at .at) (w ++ v) n
+      (omega (arith, six p c refl, length-append w v)) (the-refusal (s refl)) (some-refusal n (eqb-false n 0 e))))
+  carries-item End room on s six ih = ends-at _ (rest-end rules (walk .state) (walk .at .at) (w ++ v) (s refl))
   carries-item More room on s six ih = waits
-  carries-item (Refused n o) room on s six ih =
+  carries-item (Refused n o size) room on s six ih =
       let f = s refl in
-      ends-at _ (rest-stop rules (walk .state) (walk .at .at) (w ++ v) past-start n (f .0) (before _ _ (omega arith) ∙ f .1) (f .2)
+      ends-at _ (rest-stop rules (walk .state) (walk .at .at) (w ++ v) n (f .0) (before _ _ (omega arith) ∙ f .1) (f .2)
       ∙ ap (refusalLine n) (sym (f .3)))
 
 carries-walk : (k : ℕ) (rules : Rules) (walk : Walk) (w v : List ℕ) (last : Bool) (room : ℕ) → (last ≡ true → v ≡ [])
@@ -182,10 +174,10 @@ unfolding walkBy
 carries-walk zero rules walk w v last room l q z = waits rules walk w v q z
 carries-walk (suc k) rules walk w v last room l q z =
     pick-either (Carries rules walk w v) (ltb room 256) (λ e. waits rules walk w v q z)
-    (λ e. carries-item rules walk w v q z (pieceOf (walk .at .at) w last) room _
+    (λ e. carries-item rules walk w v q z (nextPiece (walk .at .at) w last) room _
     (λ m. subst (Says (walk .at .at) (w ++ v)) (follows (walk .at .at) w v last _ l refl m)
-    (item-says (walk .at .at) (w ++ v) (past-start rules walk w v q z)))
-    (λ t stamp marker c f. piece-sixteen (walk .at .at) w last f)
+    (next-says (walk .at .at) (w ++ v)))
+    (λ p c f. piece-sixteen (walk .at .at) w last f)
     (λ next left q′ z′. carries-walk k rules next (drop 16 w) v last left l q′ z′))
 
 -- a call from a walk that a file leads to

@@ -13,7 +13,7 @@ use Rattle.frame.specs.Step as F
 use Rattle.endian.specs.Number.{numberOf}
 use Rattle.text.specs.Decimal.{codes, digitsOf}
 use Rattle.text.specs.Lines.{fields, rowLine, summaryLine, refusalLine}
-use Rattle.record.specs.Paper.{kindLength, formatRefusal, packetsBy, readingOf}
+use Rattle.record.specs.Paper.{isParameters, kindLength, formatRefusal, packetsBy, readingOf}
 use Rattle.timing.specs.Answers.{verdictOf}
 use Rattle.timing.specs.Range.{inRange}
 use Rattle.timing.specs.Step.{rulesOf, arriveOf, markOf, stepOf, rowsAfter}
@@ -38,7 +38,7 @@ pub file-output : outputOf (head ++ packets)
 unfolding outputOf rowLines rowLine fields digitsOf summaryLine refusalLine setUpRefusal firstNo troFits frameLength activeRatio classOf
     cMax vrxFull int troGrains defaultTro nearest phase encoded count fold rulesOf arriveOf markOf stepOf rowsAfter B.stepOf F.openedOf
     F.countedOf F.kindOf F.wholeRow F.rowOf F.answerOf F.joined F.arriveOf F.closeOf F.rowsOf readingOf packetsBy formatRefusal
-    kindLength numberOf refusalOf verdictOf inRange
+    isParameters kindLength numberOf refusalOf verdictOf inRange
 file-output = refl
 
 pub empty-output : outputOf [] ≡ codes "refused 20 0\n"

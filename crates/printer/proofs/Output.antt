@@ -8,8 +8,8 @@ use Prim.Native.Nat.{ℕ, zero, suc, _≤_, _<_}
 use native.Mathlib.Omega.{arith}
 use lib.ListN.{length, drop, getD, length-drop}
 use Rattle.laws.specs.Choose.{pick}
-use Rattle.record.specs.declared.Read.the-variants.{More}
-use Rattle.record.specs.Step.{pieceOf}
+use Rattle.record.specs.declared.Next.the-variants.{More}
+use Rattle.record.specs.Step.{nextPiece}
 use Rattle.record.proofs.InPieces.{last-answers, window-suffices}
 use Rattle.text.specs.Lines.{summaryLine, refusalLine}
 use Rattle.timing.specs.declared.State.{State}
@@ -97,7 +97,7 @@ prints-output (walked w v last walk s e d) =
 -- a call with room for a line ends or takes a record, if its window is the last or has 65,537 bytes
 pub moves-last : (walk : Walk) (w : List ℕ) (room : ℕ) → 256 ≤ room → takeOf walk w true room .ended ≡ false
     → 0 < takeOf walk w true room .used
-moves-last walk w room h e = take-moves walk w true room h (last-answers (walk .at .at) w .1) e
+moves-last walk w room h e = take-moves walk w true room h (last-answers (walk .at .at) w) e
 
 pub moves-full : (walk : Walk) (w : List ℕ) (last : Bool) (room : ℕ) → 256 ≤ room → ((i : ℕ) → getD w i 0 < 256) → 65537 ≤ length w
     → takeOf walk w last room .ended ≡ false → 0 < takeOf walk w last room .used
@@ -105,7 +105,7 @@ moves-full walk w last room h b l e = take-moves walk w last room h (window-suff
 
 -- a call that does neither had no room for a line or wanted more bytes
 pub stuck-why : (walk : Walk) (w : List ℕ) (last : Bool) (room : ℕ) → takeOf walk w last room .ended ≡ false
-    → takeOf walk w last room .used ≡ 0 → (room < 256) ⊎ (pieceOf (walk .at .at) w last ≡ More)
+    → takeOf walk w last room .used ≡ 0 → (room < 256) ⊎ (nextPiece (walk .at .at) w last ≡ More)
 stuck-why walk w last room = take-stuck walk w last room
 
 -- so from every walk that a file leads to, calls go through whatever rest of a file there is

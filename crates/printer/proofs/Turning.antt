@@ -14,17 +14,18 @@ use denote.Enum.Declared.{tagOf}
 use Rattle.laws.specs.Lay.{laid, laid-length, laid-more}
 use Rattle.packet.specs.declared.Packet as packet
 use Rattle.packet.specs.Paper as P
-use Rattle.packet.specs.Step.{refusalOf}
+use Rattle.packet.specs.Step.{numberOf}
 use Rattle.frame.specs.Step as F
 use Rattle.frame.specs.Range.{Planned, Rowable}
 use Rattle.text.specs.Lines.{Put}
 use Rattle.record.specs.declared.Cursor.{Cursor}
-use Rattle.record.specs.declared.Read.{Read}
-use Rattle.record.proofs.Read.{the-type}
-use Rattle.record.specs.declared.Read.the-variants.{Version, Parameters, Packet, End, More, Refused}
-use Rattle.record.specs.Step.{pieceOf}
-use Rattle.record.specs.Pieces.{taken}
-use Rattle.record.proofs.Window.{item-within}
+use Rattle.record.specs.declared.Next.{Next}
+use Rattle.record.proofs.Next.{the-type}
+use Rattle.record.specs.declared.Next.the-variants.{Packet, End, More, Refused}
+use Rattle.record.specs.Step.{nextPiece}
+use Rattle.record.specs.Pieces.{taken, wantsMore}
+use Rattle.record.proofs.Window.{read-within}
+use Rattle.record.proofs.InPieces.{piece-alone}
 use Rattle.timing.specs.declared.Rules.{Rules}
 use Rattle.timing.specs.declared.State.{State}
 use Rattle.timing.specs.Step.{rulesOf, arriveOf, markOf, stepOf, rowsOf}
@@ -36,18 +37,17 @@ use Rattle.timing.specs.Laws.Running.{step-numbers, closes-rows}
 use Rattle.printer.specs.declared.Walk.{Walk}
 use Rattle.printer.specs.declared.Taken.{Taken}
 use Rattle.printer.specs.Paper.{rowLines}
-use Rattle.printer.proofs.Answers.{piece-item}
-use Rattle.printer.specs.Step.{Took, stays, stopsAt, andThen, packetOf, stepped, linesAt, itemBy, walkBy, walkOf}
+use Rattle.printer.specs.Step.{Took, stays, stopsAt, andThen, stepped, linesAt, itemBy, walkBy, walkOf}
 use Rattle.printer.specs.Step.{takeOf, Closes, Ready, Takes}
 
 -- ---- what a window's answer says of the window
 
 -- a packet's record has 16 bytes
-pub piece-sixteen : (at : ℕ) (w : List ℕ) (last : Bool) {t stamp marker : ℕ} {c : Cursor} → pieceOf at w last ≡ Packet t stamp marker c
+pub piece-sixteen : (at : ℕ) (w : List ℕ) (last : Bool) {p : packet.Packet} {c : Cursor} → nextPiece at w last ≡ Packet p c
     → 16 ≤ length w
 piece-sixteen at w last e =
-    let i = piece-item at w last _ e refl in
-    subst (λ (r : Read). taken r ≤ length w) i (item-within at w .1)
+    let i = sym (piece-alone at w last (ap wantsMore e)) ∙ e in
+    subst (λ (r : Next). taken r ≤ length w) i (read-within at w .1)
 
 -- ---- one turn, by the definition
 
@@ -60,42 +60,40 @@ module _ (rules : Rules) (walk : Walk) (w : List ℕ) (last : Bool) (room : ℕ)
     onward : Walk → ℕ → Took
     onward next left = walkBy (length w / 16) rules next (drop 16 w) last left
 
-    walk-item : (r : Read) → pieceOf (walk .at .at) w last ≡ r → walkOf rules walk w last room ≡ itemBy rules walk room onward r
+    walk-item : (r : Next) → nextPiece (walk .at .at) w last ≡ r → walkOf rules walk w last room ≡ itemBy rules walk room onward r
     unfolding walkBy onward
     walk-item r e = rw (le-ltb room 256 h, e)
 
-    pub walk-stops : (r : Read) → OneOf (0 ∷ 1 ∷ 3 ∷ 4 ∷ 5 ∷ []) (tagOf the-type r) → pieceOf (walk .at .at) w last ≡ r
+    pub walk-stops : (r : Next) → OneOf (1 ∷ 2 ∷ 3 ∷ []) (tagOf the-type r) → nextPiece (walk .at .at) w last ≡ r
         → walkOf rules walk w last room ≡ stopsAt r walk
     walk-stops r k e = walk-item r e ∙ go r k
       where
-        go : (r : Read) → OneOf (0 ∷ 1 ∷ 3 ∷ 4 ∷ 5 ∷ []) (tagOf the-type r) → itemBy rules walk room onward r ≡ stopsAt r walk
-        go (Version c) k = refl
-        go (Parameters x c) k = refl
-        go (Packet t stamp marker c) k = absurd (miss (0 ∷ 1 ∷ 3 ∷ 4 ∷ 5 ∷ []) 2 tt k)
+        go : (r : Next) → OneOf (1 ∷ 2 ∷ 3 ∷ []) (tagOf the-type r) → itemBy rules walk room onward r ≡ stopsAt r walk
+        go (Packet p c) k = absurd (miss (1 ∷ 2 ∷ 3 ∷ []) 0 tt k)
         go End k = refl
         go More k = refl
-        go (Refused n o) k = refl
+        go (Refused n o size) k = refl
 
-    module _ {t stamp marker : ℕ} {c : Cursor} (e : pieceOf (walk .at .at) w last ≡ Packet t stamp marker c) where
-      pub walk-refuses : (n : ℕ) → n ≡ refusalOf (walk .state .past) t marker → (n ≡ 0 → ⊥)
-          → walkOf rules walk w last room ≡ stopsAt (Refused n (walk .at .at)) walk
-      walk-refuses n f p = walk-item _ e ∙ rw (← f, ne-eqb n 0 p)
+    module _ {p : packet.Packet} {c : Cursor} (e : nextPiece (walk .at .at) w last ≡ Packet p c) where
+      pub walk-refuses : (n : ℕ) → n ≡ numberOf (walk .state .past) p → (n ≡ 0 → ⊥)
+          → walkOf rules walk w last room ≡ stopsAt (Refused n (walk .at .at) 16) walk
+      walk-refuses n f some = walk-item _ e ∙ rw (← f, ne-eqb n 0 some)
 
       fuel : length w / 16 ≡ suc (length (drop 16 w) / 16)
       fuel = let s = piece-sixteen (walk .at .at) w last e in omega (arith, length-drop 16 w)
 
-      pub walk-goes : 0 ≡ refusalOf (walk .state .past) t marker
+      pub walk-goes : 0 ≡ numberOf (walk .state .past) p
           → walkOf rules walk w last room
-          ≡ andThen 16 (linesAt rules walk (packetOf t stamp marker))
-          (walkOf rules (stepped rules walk (packetOf t stamp marker) c) (drop 16 w) last
-          (room - length (linesAt rules walk (packetOf t stamp marker))))
+          ≡ andThen 16 (linesAt rules walk p)
+          (walkOf rules (stepped rules walk p c) (drop 16 w) last
+          (room - length (linesAt rules walk p)))
       unfolding onward
       walk-goes f = walk-item _ e ∙ rw (← f, fuel)
 
 -- ---- what the code asks of a packet
 
 module _ {rules : Rules} {walk : Walk} (r : Ready rules walk) (p : packet.Packet)
-    (e : 0 ≡ refusalOf (walk .state .past) (p .time) (p .marker)) where
+    (e : 0 ≡ numberOf (walk .state .past) p) where
   arrived : Rules → State
   arrived q = arriveOf q (walk .state) (p .time) (p .stamp)
 
@@ -226,36 +224,36 @@ module _ {k₀ : Took} {out₀ : List ℕ} {used written : ℕ} {out : List ℕ}
   loop-stops {r = r} {after} l e t = loop-ends l (subst (λ x. Takes x used written out r after) (sym e) t)
 
   -- a packet goes on
-  module _ (rules : Rules) (walk : Walk) (w : List ℕ) (last : Bool) {t stamp marker : ℕ} {c : Cursor}
+  module _ (rules : Rules) (walk : Walk) (w : List ℕ) (last : Bool) {p : packet.Packet} {c : Cursor}
       (l : Loop k₀ out₀ (walkOf rules walk (drop used w) last (length out - written)) used written out)
-      (h : 256 ≤ length out - written) (e : pieceOf (walk .at .at) (drop used w) last ≡ Packet t stamp marker c)
-      (f : 0 ≡ refusalOf (walk .state .past) t marker) where
+      (h : 256 ≤ length out - written) (e : nextPiece (walk .at .at) (drop used w) last ≡ Packet p c)
+      (f : 0 ≡ numberOf (walk .state .past) p) where
     pub next-inside : used ≤ length w → used + 16 ≤ length w
     next-inside u = omega (arith, piece-sixteen _ _ _ e, length-drop used w)
 
     pub loop-next : {s′ : State} {written′ : ℕ} {out′ : List ℕ}
-        → Turn rules (walk .state) (packetOf t stamp marker) written out s′ written′ out′
+        → Turn rules (walk .state) p written out s′ written′ out′
         → Loop k₀ out₀ (walkOf rules (record { at = c; state = s′ }) (drop (used + 16) w) last (length out′ - written′))
         (used + 16) written′ out′
     loop-next {s′} {written′} {out′} q =
-        let lines = linesAt rules walk (packetOf t stamp marker) in
-        let p = q .lines in
-        let same : length out′ ≡ length out = ap length (p .bytes) ∙ laid-length written lines out in
-        let left : length out - written - length lines ≡ length out′ - written′ = omega (arith, same, p .next) in
-        let m = loop-on (subst (λ x. Loop k₀ out₀ x used written out) (walk-goes rules walk (drop used w) last _ h e f) l) p in
+        let lines = linesAt rules walk p in
+        let put = q .lines in
+        let same : length out′ ≡ length out = ap length (put .bytes) ∙ laid-length written lines out in
+        let left : length out - written - length lines ≡ length out′ - written′ = omega (arith, same, put .next) in
+        let m = loop-on (subst (λ x. Loop k₀ out₀ x used written out) (walk-goes rules walk (drop used w) last _ h e f) l) put in
         rw (q .state, ← left, ← drop-drop 16 used w) m
 
     -- and all that a turn leaves to the next
     pub next-turn : {s′ : State} {written′ : ℕ} {out′ : List ℕ} → Ready rules walk → used ≤ length w
-        → Turn rules (walk .state) (packetOf t stamp marker) written out s′ written′ out′
+        → Turn rules (walk .state) p written out s′ written′ out′
         → Loop k₀ out₀ (walkOf rules (record { at = c; state = s′ }) (drop (used + 16) w) last (length out′ - written′))
         (used + 16) written′ out′ × Ready rules (record { at = c; state = s′ }) × (used + 16 ≤ length w) × (written′ ≤ length out′)
     next-turn {s′} r u q =
-        let p = q .lines in (
+        let put = q .lines in (
           loop-next q,
-          subst (λ (x : State). Ready rules (record { at = c; state = x })) (sym (q .state)) (ready-next r (packetOf t stamp marker) f c),
+          subst (λ (x : State). Ready rules (record { at = c; state = x })) (sym (q .state)) (ready-next r p f c),
           next-inside u,
-          omega (arith, p .next, p .short, turn-length q),
+          omega (arith, put .next, put .short, turn-length q),
         )
 
 -- ---- the whole call: no room for a line, 9, or record by record
@@ -267,7 +265,7 @@ module _ (walk : Walk) (w : List ℕ) (last : Bool) (out : List ℕ) where
   take-full h t = rw (lt-ltb (length out) 256 h) t
 
   module _ (h : 256 ≤ length out) where
-    pub take-9 : {r : Taken} {after : List ℕ} → inRange (walk .state) ≡ false → Takes (stopsAt (Refused 9 0) walk) 0 0 out r after
+    pub take-9 : {r : Taken} {after : List ℕ} → inRange (walk .state) ≡ false → Takes (stopsAt (Refused 9 0 0) walk) 0 0 out r after
         → Takes (takeOf walk w last (length out)) 0 0 out r after
     unfolding takeOf
     take-9 e t = rw (le-ltb (length out) 256 h, e) t

@@ -8,14 +8,16 @@ use lib.ListN.{length, drop}
 use Rattle.laws.specs.Choose.{pick}
 use Rattle.laws.specs.Lay.{laid}
 use Rattle.packet.specs.declared.Packet as packet
-use Rattle.packet.specs.Step.{refusalOf}
+use Rattle.packet.specs.Step.{numberOf}
 use Rattle.frame.specs.Range.{Planned, Rowable}
 use Rattle.text.specs.Lines.{refusalLine}
 use Rattle.record.specs.declared.Cursor.{Cursor}
-use Rattle.limits.specs.declared.Parameters as limits
-use Rattle.record.specs.declared.Read.{Read}
-use Rattle.record.specs.declared.Read.the-variants.{Version, Parameters, Packet, End, More, Refused}
-use Rattle.record.specs.Step.{pieceOf}
+use Rattle.limits.specs.declared.Parameters.{Parameters}
+use Rattle.record.specs.declared.Head.{Head}
+use Rattle.record.specs.declared.Head.the-variants as head
+use Rattle.record.specs.declared.Next.{Next}
+use Rattle.record.specs.declared.Next.the-variants.{Packet, End, More, Refused}
+use Rattle.record.specs.Step.{headPiece, nextPiece}
 use Rattle.record.specs.Pieces.{wantsMore}
 use Rattle.timing.specs.declared.Rules.{Rules}
 use Rattle.timing.specs.declared.State.{State}
@@ -32,40 +34,20 @@ use Rattle.printer.specs.Paper.{rowLines, sumLine}
 
 -- ---- the start of a file
 
-unfoldable pub unopenedOf : Read → Opened
-unopenedOf (Version c) = Wanting
-unopenedOf (Parameters x c) = Wanting
-unopenedOf (Packet t stamp marker c) = Wanting
-unopenedOf End = Wanting
-unopenedOf More = Wanting
-unopenedOf (Refused number offset) = Unopened number offset
-
 abbrev pub readyBy : SetUp → Cursor → Opened
 readyBy (Fresh s) c = Opens (record { at = c; state = s })
 readyBy (Not-Set-Up number) c = Unopened number 1
 
-unfoldable pub readyOf : limits.Parameters → Cursor → Opened
+unfoldable pub readyOf : Parameters → Cursor → Opened
 readyOf x c = readyBy (setUpAs (ofParameters x)) c
 
--- what stands first after the version byte, and what stands at the version byte
-abbrev pub firstBy : Read → Opened
-firstBy (Version c) = unopenedOf (Version c)
-firstBy (Parameters x c) = readyOf x c
-firstBy (Packet t stamp marker c) = unopenedOf (Packet t stamp marker c)
-firstBy End = unopenedOf End
-firstBy More = unopenedOf More
-firstBy (Refused number offset) = unopenedOf (Refused number offset)
-
-abbrev pub versionBy : List ℕ → Bool → Read → Opened
-versionBy w last (Version c) = firstBy (pieceOf (c .at) (drop 1 w) last)
-versionBy w last (Parameters x c) = unopenedOf (Parameters x c)
-versionBy w last (Packet t stamp marker c) = unopenedOf (Packet t stamp marker c)
-versionBy w last End = unopenedOf End
-versionBy w last More = unopenedOf More
-versionBy w last (Refused number offset) = unopenedOf (Refused number offset)
+abbrev pub headBy : Head → Opened
+headBy (head.Ready version kind x c) = readyOf x c
+headBy head.More = Wanting
+headBy (head.Refused number offset) = Unopened number offset
 
 unfoldable pub beginOf : List ℕ → Bool → Opened
-beginOf w last = versionBy w last (pieceOf 0 w last)
+beginOf w last = headBy (headPiece w last)
 
 -- the paper's number, 0 where nothing is refused, and its offset
 abbrev pub openedNumber : Opened → ℕ
@@ -94,26 +76,21 @@ pub record Took : Type 0 where
   pub ended : Bool
 
 -- the last line where this stands: none where more is wanted
-unfoldable pub lineOf : Read → State → List ℕ
-lineOf (Version c) s = sumLine s
-lineOf (Parameters x c) s = sumLine s
-lineOf (Packet t stamp marker c) s = sumLine s
+unfoldable pub lineOf : Next → State → List ℕ
+lineOf (Packet p c) s = sumLine s
 lineOf End s = sumLine s
 lineOf More s = []
-lineOf (Refused number offset) s = refusalLine number offset
+lineOf (Refused number offset size) s = refusalLine number offset
 
 abbrev pub stays : Walk → Took
 stays walk = record { walk = walk; used = 0; text = []; ended = false }
 
-abbrev pub stopsAt : Read → Walk → Took
+abbrev pub stopsAt : Next → Walk → Took
 stopsAt item walk = record { walk = walk; used = 0; text = lineOf item (walk .state); ended = not (wantsMore item) }
 
 -- some bytes used and lines written, and then the rest
 abbrev pub andThen : ℕ → List ℕ → Took → Took
 andThen bytes lines k = record { walk = k .walk; used = bytes + k .used; text = lines ++ k .text; ended = k .ended }
-
-abbrev pub packetOf : ℕ → ℕ → ℕ → packet.Packet
-packetOf t stamp marker = record { time = t; stamp = stamp; marker = marker }
 
 -- the walk after a packet
 abbrev pub stepped : Rules → Walk → packet.Packet → Cursor → Walk
@@ -126,24 +103,22 @@ linesAt rules walk p = rowLines (rowsOf rules (walk .state) p)
 -- a packet that is refused ends the walk before it is counted; `on` is what follows one that is not
 abbrev pub packetBy : Rules → Walk → ℕ → (Walk → ℕ → Took) → packet.Packet → Cursor → Took
 packetBy rules walk room on p c =
-    pick (eqb (refusalOf (walk .state .past) (p .time) (p .marker)) 0)
+    pick (eqb (numberOf (walk .state .past) p) 0)
     (andThen 16 (linesAt rules walk p) (on (stepped rules walk p c) (room - length (linesAt rules walk p))))
-    (stopsAt (Refused (refusalOf (walk .state .past) (p .time) (p .marker)) (walk .at .at)) walk)
+    (stopsAt (Refused (numberOf (walk .state .past) p) (walk .at .at) 16) walk)
 
-abbrev pub itemBy : Rules → Walk → ℕ → (Walk → ℕ → Took) → Read → Took
-itemBy rules walk room on (Version c) = stopsAt (Version c) walk
-itemBy rules walk room on (Parameters x c) = stopsAt (Parameters x c) walk
-itemBy rules walk room on (Packet t stamp marker c) = packetBy rules walk room on (packetOf t stamp marker) c
+abbrev pub itemBy : Rules → Walk → ℕ → (Walk → ℕ → Took) → Next → Took
+itemBy rules walk room on (Packet p c) = packetBy rules walk room on p c
 itemBy rules walk room on End = stopsAt End walk
 itemBy rules walk room on More = stopsAt More walk
-itemBy rules walk room on (Refused number offset) = stopsAt (Refused number offset) walk
+itemBy rules walk room on (Refused number offset size) = stopsAt (Refused number offset size) walk
 
 -- record by record, by at most so many: while there is room for a line, until more is wanted or the last line is written
 unfoldable pub walkBy : ℕ → Rules → Walk → List ℕ → Bool → ℕ → Took
 walkBy zero rules walk w last room = stays walk
 walkBy (suc k) rules walk w last room =
     pick (ltb room 256) (stays walk)
-    (itemBy rules walk room (λ next left. walkBy k rules next (drop 16 w) last left) (pieceOf (walk .at .at) w last))
+    (itemBy rules walk room (λ next left. walkBy k rules next (drop 16 w) last left) (nextPiece (walk .at .at) w last))
 
 -- a packet takes 16 bytes, so that this many turns are enough
 abbrev pub walkOf : Rules → Walk → List ℕ → Bool → ℕ → Took
@@ -153,7 +128,7 @@ walkOf rules walk w last room = walkBy (suc (length w / 16)) rules walk w last r
 unfoldable pub takeOf : Walk → List ℕ → Bool → ℕ → Took
 takeOf walk w last room =
     pick (ltb room 256) (stays walk)
-    (pick (inRange (walk .state)) (walkOf (rulesOf (walk .state .numbers)) walk w last room) (stopsAt (Refused 9 0) walk))
+    (pick (inRange (walk .state)) (walkOf (rulesOf (walk .state .numbers)) walk w last room) (stopsAt (Refused 9 0 0) walk))
 
 -- ---- what the parts of the code ask and give
 

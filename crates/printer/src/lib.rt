@@ -6,15 +6,15 @@ ghost use mathlib.Core.Bool.{not};
 ghost use Prim.Native.Nat.{_+_, _≤_};
 ghost use lib.ListN.{length};
 ghost use Rattle.text.specs.Lines.{Put};
-ghost use Rattle.record.specs.declared.Read.the-variants.{Refused};
+ghost use Rattle.record.specs.declared.Next.the-variants.{Refused};
 ghost use Rattle.record.specs.Pieces.{wantsMore};
 ghost use Rattle.timing.specs.Feed.{closing};
 ghost use Rattle.printer.specs.Paper.{rowLines, sumLine};
-ghost use Rattle.printer.specs.Step.{unopenedOf, readyOf, beginOf, lineOf, stopsAt, walkOf, takeOf, Closes, Ready, Takes};
+ghost use Rattle.printer.specs.Step.{readyOf, beginOf, lineOf, stopsAt, walkOf, takeOf, Closes, Ready, Takes};
 use limits::Parameters;
-use packet::Packet;
 use record::Cursor;
-use record::Read;
+use record::Head;
+use record::Next;
 use text::LINE;
 use timing::Judged;
 use timing::Rules;
@@ -47,19 +47,6 @@ pub struct Taken {
     pub ended: bool,
 }
 
-// Before there are stream numbers reading stops at a refusal, or for want of bytes.
-fn unopened(item: Read) -> Opened
-    ensures { λ r. ⌜ r ≡ unopenedOf item ⌝ }
-{
-    let Read::Refused { number, offset } = item else {
-        return Opened::More;
-    };
-    Opened::Refused {
-        number: number,
-        offset: offset,
-    }
-}
-
 // The parameters stand at offset 1, and so does what set-up refuses.
 fn ready(numbers: Parameters, next: Cursor) -> Opened
     ensures { λ r. ⌜ r ≡ readyOf numbers next ⌝ }
@@ -80,50 +67,41 @@ fn ready(numbers: Parameters, next: Cursor) -> Opened
 pub fn begin(window: &[u8], last: bool) -> Opened
     ensures { λ r. ⌜ r ≡ beginOf (now (window .entry)) last ⌝ }
 {
-    let opening = Cursor::start().read_piece(window, last);
-    let Read::Version { next } = opening else {
-        return unopened(opening);
-    };
-    let first = next.read_piece(&window[1..], last);
-    let Read::Parameters { numbers, next } = first else {
-        return unopened(first);
-    };
-    ready(numbers, next)
+    let head = record::read_head(window, last);
+    match head {
+        Head::Ready {
+            version: _,
+            kind: _,
+            parameters,
+            next,
+        } => ready(parameters, next),
+        Head::More => Opened::More,
+        Head::Refused { number, offset } => Opened::Refused {
+            number: number,
+            offset: offset,
+        },
+    }
 }
 
 // A packet that is refused ends the reading as a refused record does, at its own offset.
-fn refused(number: u8, at: Cursor) -> Read
-    ensures { λ r. ⌜ r ≡ Refused number (at .at) ⌝ }
+fn refused(number: u8, at: Cursor) -> Next
+    ensures { λ r. ⌜ r ≡ Refused number (at .at) 16 ⌝ }
 {
-    Read::Refused {
+    Next::Refused {
         number: number,
         offset: at.at,
+        size: 16,
     }
 }
 
 // Whether reading ends where this stands; else it waits for more bytes.
-fn ends(item: Read) -> bool
+fn ends(item: Next) -> bool
     ensures { λ r. ⌜ r ≡ not (wantsMore item) ⌝ }
 {
-    match item {
-        Read::Version { next: _ } => true,
-        Read::Parameters {
-            numbers: _,
-            next: _,
-        } => true,
-        Read::Packet {
-            t: _,
-            stamp: _,
-            marker: _,
-            next: _,
-        } => true,
-        Read::End => true,
-        Read::More => false,
-        Read::Refused {
-            number: _,
-            offset: _,
-        } => true,
-    }
+    let Next::More = item else {
+        return true;
+    };
+    false
 }
 
 // The counts, the peak and the verdict.
@@ -154,11 +132,16 @@ fn put_sum(s: State, out: &mut [u8], at: usize) -> usize
 }
 
 // The last line, where there is one.
-fn put_last(s: State, item: Read, out: &mut [u8], at: usize) -> usize
+fn put_last(s: State, item: Next, out: &mut [u8], at: usize) -> usize
     requires { ⌜ at + 256 ≤ length (now out) ⌝ }
     ensures { λ r. ⌜ Put (lineOf item s) at (now (out .entry)) r (now (out .exit)) ⌝ }
 {
-    let Read::Refused { number, offset } = item else {
+    let Next::Refused {
+        number,
+        offset,
+        size: _,
+    } = item
+    else {
         if ends(item) {
             return put_sum(s, out, at);
         }
@@ -183,7 +166,7 @@ fn put_closed(s: State, rules: Rules, out: &mut [u8], at: usize) -> usize
 
 impl Walk {
     // Where no packet stands: the walk stays, and the last line is written if there is one.
-    fn stop(self, item: Read, used: usize, out: &mut [u8], written: usize) -> Taken
+    fn stop(self, item: Next, used: usize, out: &mut [u8], written: usize) -> Taken
         requires { ⌜ written + 256 ≤ length (now out) ⌝ }
         ensures { λ r. ⌜ Takes (stopsAt item self) used written (now (out .entry)) r (now (out .exit)) ⌝ }
     {
@@ -209,20 +192,9 @@ impl Walk {
         let mut written = 0;
         while LINE <= out.len() - written {
             let item = at.read_piece(&window[used..], last);
-            let Read::Packet {
-                t,
-                stamp,
-                marker,
-                next,
-            } = item
-            else {
+            let Next::Packet { packet, next } = item else {
                 let walk = Walk { at: at, state: s };
                 return walk.stop(item, used, out, written);
-            };
-            let packet = Packet {
-                time: t,
-                stamp,
-                marker,
             };
             let past = s.past;
             let number = past.refusal(packet);
@@ -230,10 +202,10 @@ impl Walk {
                 let walk = Walk { at: at, state: s };
                 return walk.stop(refused(number, at), used, out, written);
             }
-            s = s.arrive(rules, t, stamp);
-            if marker == 1 {
+            s = s.arrive(rules, packet.time, packet.stamp);
+            if packet.marker == 1 {
                 written = put_closed(s, rules, out, written);
-                s = s.mark(rules, t);
+                s = s.mark(rules, packet.time);
             }
             at = next;
             used += PACKET;
@@ -262,9 +234,10 @@ impl Walk {
             };
         }
         if !s.in_range() {
-            let unmeasured = Read::Refused {
+            let unmeasured = Next::Refused {
                 number: 9,
                 offset: 0,
+                size: 0,
             };
             return self.stop(unmeasured, 0, out, 0);
         }

@@ -1,23 +1,19 @@
 -- A step that wants more leaves room for a read, in a window of 65,538 bytes: a read into no room is never made.
-use mathlib.Core.Path.{_≡_, refl, sym, ap, subst, _∙_}
+use mathlib.Core.Path.{_≡_, sym, subst}
 use mathlib.Core.Bool.{Bool, true, false}
 use mathlib.Core.List.{List, [], _∷_}
 use Prim.Native.Nat.{ℕ, zero, suc, _+_, _-_, _≤_, _<_}
 use native.Mathlib.Omega.{arith}
 use native.Mathlib.Decide.{decLe}
-use lib.ListN.{length, take, drop, getD, length-drop}
+use lib.ListN.{length, take, drop, getD}
 use lib.Seq.{getD-drop}
 use borrow.Author.Tests.{eqb-true}
 use Rattle.laws.specs.Choose.{false-true}
-use Rattle.record.specs.declared.Read.{Read}
-use Rattle.record.specs.declared.Read.the-variants.{Version, Parameters, Packet, End, More, Refused}
-use Rattle.record.specs.Step.{pieceOf}
-use Rattle.record.proofs.InPieces.{last-answers, window-suffices}
+use Rattle.record.proofs.InPieces.{head-suffices}
 use Rattle.printer.specs.declared.Opened.{Opened}
 use Rattle.printer.specs.declared.Opened.the-variants.{More as Wanting, Refused as Unopened, Ready as Opens}
-use Rattle.printer.specs.Step.{firstBy, versionBy, beginOf, takeOf}
-use Rattle.printer.proofs.Answers.{piece-item}
-use Rattle.printer.proofs.Beginning.{Answered, begin-answered}
+use Rattle.printer.specs.Step.{beginOf, takeOf}
+use Rattle.printer.proofs.Beginning.{Answered, head-answered}
 use Rattle.printer.proofs.Output.{moves-full}
 use Rattle.pump.specs.declared.Stage.{Stage}
 use Rattle.pump.specs.declared.Stage.the-variants.{Head, Walking}
@@ -27,11 +23,6 @@ use Rattle.pump.proofs.Stepping.{shown-size}
 
 abbrev pub Bytes : List ℕ → Type 0
 Bytes l = (i : ℕ) → getD l i 0 < 256
-
--- a long piece is answered as the last one is
-piece-full : (at : ℕ) (l : List ℕ) (last : Bool) → Bytes l → 65537 ≤ length l → pieceOf at l last ≡ pieceOf at l true
-piece-full at l last b h =
-    sym (piece-item at l last (pieceOf at l last) refl (window-suffices at l last b h)) ∙ sym (last-answers at l .0)
 
 take-bytes : (n : ℕ) (l : List ℕ) → Bytes l → Bytes (take n l)
 take-bytes zero l b i = omega arith
@@ -44,18 +35,6 @@ drop-bytes n l b i = subst (λ (x : ℕ). x < 256) (sym (getD-drop n l i 0)) (b 
 
 pub shown-bytes : (p : Pump) (w : List ℕ) → Bytes w → Bytes (shown p w)
 shown-bytes p w b = take-bytes (p .held - p .from) (drop (p .from) w) (drop-bytes (p .from) w b)
-
-begin-full : (l : List ℕ) (last : Bool) → Bytes l → 65538 ≤ length l → beginOf l last ≡ beginOf l true
-unfolding beginOf
-begin-full l last b h = ap (versionBy l last) (piece-full 0 l last b (omega arith)) ∙ go (pieceOf 0 l true)
-  where
-    go : (r : Read) → versionBy l last r ≡ versionBy l true r
-    go (Version c) = ap firstBy (piece-full (c .at) (drop 1 l) last (drop-bytes 1 l b) (omega (arith, length-drop 1 l)))
-    go (Parameters x c) = refl
-    go (Packet t stamp marker c) = refl
-    go End = refl
-    go More = refl
-    go (Refused n o) = refl
 
 module _ (p : Pump) (w : List ℕ) (room : ℕ) (r : 256 ≤ room) (f : Fits p (length w)) (b : Bytes (shown p w)) where
   long-goes-on : 65538 ≤ length (shown p w) → stepOf p w room .over ≡ false → stepOf p w room .wants ≡ true → ⊥
@@ -70,7 +49,7 @@ module _ (p : Pump) (w : List ℕ) (room : ℕ) (r : 256 ≤ room) (f : Fits p (
       go : (s : Stage) → stageBy s p (shown p w) room .over ≡ false → stageBy s p (shown p w) room .wants ≡ true → ⊥
       go Head e q =
           opens (beginOf (shown p w) (p .last))
-          (subst Answered (sym (begin-full (shown p w) (p .last) b h)) (begin-answered (shown p w))) e q
+          (head-answered (shown p w) (p .last) (head-suffices (shown p w) (p .last) b h)) e q
       go (Walking walk) e q =
           let none = eqb-true (takeOf walk (shown p w) (p .last) room .used) 0 q in
           omega (arith, none, moves-full walk (shown p w) (p .last) room r b (omega arith) e)

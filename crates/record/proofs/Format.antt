@@ -1,130 +1,177 @@
--- The format refusals 21, 22, 23 in their order, each from what brings it about; and what none of them says of a record.
--- By the tests, one after the other.
-use mathlib.Core.Path.{_≡_, refl, _∙_}
+-- How a record is framed, and by which of 21, 22, 23 it is refused, from what stands in front: a scrap, a length of 0, a record that is
+-- cut short, or a whole one; and what none of the three says of a record. By the tests, one after the other.
+use mathlib.Core.Path.{_≡_, refl, sym, _∙_}
 use mathlib.Core.Bool.{Bool, true, false, _&&_}
 use mathlib.Core.List.{List}
-use Prim.Native.Nat.{ℕ, zero, suc, _+_, _≤_, _<_}
+use Prim.Native.Nat.{ℕ, _+_, _≤_, _<_}
 use native.Mathlib.Omega.{arith}
+use native.Mathlib.Decide.{ℕ-discrete, decLe}
 use lib.Dec.{ltb, eqb}
 use lib.ListN.{length}
 use borrow.Author.Tests.{lt-ltb, le-ltb, eq-eqb, ne-eqb, ltb-false, eqb-true, eqb-false}
 use Rattle.laws.specs.Choose.{pick, pick-either}
 use Rattle.endian.specs.Number.{Room}
-use Rattle.record.specs.Paper.{bodyLength, kindOf, kindLength, lone, inPlace, formatRefusal}
-use Rattle.record.specs.Step.{Whole}
+use Rattle.record.specs.declared.Framed.the-variants as framed
+use Rattle.record.specs.Paper.{bodyLength, kindOf, isParameters, kindLength, lone, inPlace, formatRefusal}
+use Rattle.record.specs.Step.{scrapOf, framedOf, Whole}
 
--- the length that belongs to a kind tells the kind
-pub kind-2 : (kind : ℕ) → 0 < kindLength kind → (kind ≡ 1 → ⊥) → kindLength kind ≡ 14
+-- ---- kinds
+
+pub kind-1 : (kind : ℕ) → isParameters kind ≡ true → kind ≡ 1
+unfolding isParameters
+kind-1 kind e = eqb-true kind 1 e
+
+pub parameters-1 : isParameters 1 ≡ true
+unfolding isParameters
+parameters-1 = refl
+
+pub packet-2 : isParameters 2 ≡ false
+unfolding isParameters
+packet-2 = refl
+
+pub length-16 : (kind : ℕ) → isParameters kind ≡ true → kindLength kind ≡ 16
 unfolding kindLength
-kind-2 zero h n = absurd (omega arith)
-kind-2 (suc zero) h n = absurd (n refl)
-kind-2 (suc (suc zero)) h n = refl
-kind-2 (suc (suc (suc kind))) h n = absurd (omega arith)
+length-16 kind e = rw e
 
-pub kind-1 : (kind : ℕ) → kind ≡ 1 → kindLength kind ≡ 16
+pub length-14 : kindLength 2 ≡ 14
 unfolding kindLength
-kind-1 kind e = rw e
+length-14 = rw packet-2
 
-pub no-kind : (kind : ℕ) → (kind ≡ 1 → ⊥) → (kind ≡ 2 → ⊥) → kindLength kind ≡ 0
+-- a kind that has a length and holds no parameters is a packet's
+pub packet-kind : (kind : ℕ) → isParameters kind ≡ false → 0 < kindLength kind → kind ≡ 2
 unfolding kindLength
-no-kind zero n m = refl
-no-kind (suc zero) n m = absurd (n refl)
-no-kind (suc (suc zero)) n m = absurd (m refl)
-no-kind (suc (suc (suc kind))) n m = refl
+packet-kind kind e =
+    rw e (pick-either (λ n. 0 < n → kind ≡ 2) (eqb kind 2) (λ q h. eqb-true kind 2 q) (λ q h. absurd (omega arith)))
 
-pub kind-2-length : (kind : ℕ) → kind ≡ 2 → kindLength kind ≡ 14
-unfolding kindLength
-kind-2-length kind e = rw e
+-- ---- what stands in front
 
-pub kind-of-14 : (kind : ℕ) → kindLength kind ≡ 14 → kind ≡ 2
-unfolding kindLength
-kind-of-14 zero e = absurd (omega arith)
-kind-of-14 (suc zero) e = absurd (omega arith)
-kind-of-14 (suc (suc zero)) e = refl
-kind-of-14 (suc (suc (suc kind))) e = absurd (omega arith)
+pub data Front (l : List ℕ) : Type 0 where
+  scrap : length l < 2 → Front l
+  nought : 2 ≤ length l → bodyLength l ≡ 0 → Front l
+  short : 2 ≤ length l → 0 < bodyLength l → length l < 2 + bodyLength l → Front l
+  whole : Whole (bodyLength l) (kindOf l) l → Front l
 
-not-lone : (at : ℕ) (l : List ℕ) → 0 < length l → lone at l ≡ false
-not-lone at l h = rw (ne-eqb (length l) 0 (λ e. omega arith)) (go (eqb at 1))
+pub front : (l : List ℕ) → Front l
+front l = go (decLe 2 (length l)) (ℕ-discrete (bodyLength l) 0) (decLe (2 + bodyLength l) (length l))
+  where
+    go : Dec (2 ≤ length l) → Dec (bodyLength l ≡ 0) → Dec (2 + bodyLength l ≤ length l) → Front l
+    go (no t) b d = scrap (omega arith)
+    go (yes t) (yes b) d = nought t b
+    go (yes t) (no b) (no d) = short t (omega arith) (omega arith)
+    go (yes t) (no b) (yes d) =
+        whole (record { length-read = refl; kind-read = refl; some-body = omega arith; all-there = d })
+
+module _ (w : List ℕ) (last : Bool) where
+  pub framed-scrap : length w < 2 → framedOf w last ≡ scrapOf (length w) last
+  unfolding framedOf
+  framed-scrap h = rw (lt-ltb (length w) 2 h)
+
+  pub framed-nought : 2 ≤ length w → bodyLength w ≡ 0 → framedOf w last ≡ framed.Cut
+  unfolding framedOf
+  framed-nought t e = rw (le-ltb (length w) 2 t, eq-eqb (bodyLength w) 0 e)
+
+  pub framed-short : 2 ≤ length w → 0 < bodyLength w → length w < 2 + bodyLength w → framedOf w last ≡ pick last framed.Cut framed.More
+  unfolding framedOf
+  framed-short t b k =
+      rw (le-ltb (length w) 2 t, ne-eqb (bodyLength w) 0 (λ e. omega arith), lt-ltb (length w) (2 + bodyLength w) k)
+
+  pub framed-whole : {body kind : ℕ} → Whole body kind w → framedOf w last ≡ framed.Whole body kind
+  unfolding framedOf
+  framed-whole {body} a =
+      rw (
+        le-ltb (length w) 2 (omega arith),
+        ← a .length-read,
+        ← a .kind-read,
+        ne-eqb body 0 (λ e. omega arith),
+        le-ltb (length w) (2 + body) (a .all-there),
+      )
+
+-- nothing and a single byte, where no more will come
+module _ (l : List ℕ) where
+  pub framed-nothing : length l ≡ 0 → framedOf l true ≡ framed.Nothing
+  unfolding scrapOf
+  framed-nothing e = framed-scrap l true (omega arith) ∙ rw (eq-eqb (length l) 0 e)
+
+  pub framed-byte : (length l ≡ 0 → ⊥) → length l < 2 → framedOf l true ≡ framed.Cut
+  unfolding scrapOf
+  framed-byte n h = framed-scrap l true h ∙ rw (ne-eqb (length l) 0 n)
+
+-- ---- the number
+
+not-lone : (first : Bool) (l : List ℕ) → 0 < length l → lone first l ≡ false
+not-lone first l h = rw (ne-eqb (length l) 0 (λ e. omega arith)) (go first)
   where
     go : (t : Bool) → t && false ≡ false
     go true = refl
     go false = refl
 
-module _ (at : ℕ) (l : List ℕ) where
-  pub lone-23 : at ≡ 1 → length l ≡ 0 → formatRefusal at l ≡ 23
-  unfolding formatRefusal
-  lone-23 e f = rw (eq-eqb at 1 e, eq-eqb (length l) 0 f)
+pub lone-23 : (l : List ℕ) → length l ≡ 0 → formatRefusal true l ≡ 23
+unfolding formatRefusal
+lone-23 l e = rw (eq-eqb (length l) 0 e)
 
-  pub scrap-21 : 0 < length l → length l < 2 → formatRefusal at l ≡ 21
+module _ (first : Bool) (l : List ℕ) where
+  pub scrap-21 : 0 < length l → length l < 2 → formatRefusal first l ≡ 21
   unfolding formatRefusal
-  scrap-21 h k = rw (not-lone at l h, lt-ltb (length l) 2 k)
+  scrap-21 h k = rw (not-lone first l h, lt-ltb (length l) 2 k)
 
-  pub nought-21 : 2 ≤ length l → bodyLength l ≡ 0 → formatRefusal at l ≡ 21
+  pub nought-21 : 2 ≤ length l → bodyLength l ≡ 0 → formatRefusal first l ≡ 21
   unfolding formatRefusal
-  nought-21 h e = rw (not-lone at l (omega arith), le-ltb (length l) 2 h, eq-eqb (bodyLength l) 0 e)
+  nought-21 h e = rw (not-lone first l (omega arith), le-ltb (length l) 2 h, eq-eqb (bodyLength l) 0 e)
 
-  pub short-21 : 2 ≤ length l → 0 < bodyLength l → length l < 2 + bodyLength l → formatRefusal at l ≡ 21
+  pub short-21 : 2 ≤ length l → 0 < bodyLength l → length l < 2 + bodyLength l → formatRefusal first l ≡ 21
   unfolding formatRefusal
   short-21 h b k =
       rw (
-        not-lone at l (omega arith),
+        not-lone first l (omega arith),
         le-ltb (length l) 2 h,
         ne-eqb (bodyLength l) 0 (λ e. omega arith),
         lt-ltb (length l) (2 + bodyLength l) k,
       )
 
--- of a record that is all there
-module _ {at body : ℕ} {l : List ℕ} (w : Whole at body l) where
-  pub there : formatRefusal at l ≡ pick (eqb body (kindLength (kindOf l))) (pick (inPlace at (kindOf l)) 0 23) 22
+  -- of a record that is all there
+  pub there : {body kind : ℕ} → Whole body kind l
+      → formatRefusal first l ≡ pick (eqb body (kindLength kind)) (pick (inPlace first kind) 0 23) 22
   unfolding formatRefusal
-  there =
+  there {body} w =
       rw (
-        not-lone at l (omega arith),
+        not-lone first l (omega arith),
         le-ltb (length l) 2 (omega arith),
         ← w .length-read,
+        ← w .kind-read,
         ne-eqb body 0 (λ e. omega arith),
         le-ltb (length l) (2 + body) (w .all-there),
       )
 
-  pub kind-22 : (body ≡ kindLength (kindOf l) → ⊥) → formatRefusal at l ≡ 22
-  kind-22 n = there ∙ rw (ne-eqb body (kindLength (kindOf l)) n)
+-- the bytes of a whole record whose length fits its kind
+module _ {body kind : ℕ} {l : List ℕ} (w : Whole body kind l) (fits : body ≡ kindLength kind) where
+  pub parameter-room : isParameters kind ≡ true → Room 18 l 0
+  parameter-room e = record { inside = omega (arith, w .all-there, fits, length-16 kind e) }
 
-  module _ (fits : body ≡ kindLength (kindOf l)) where
-    pub first-23 : at ≡ 1 → (kindOf l ≡ 1 → ⊥) → formatRefusal at l ≡ 23
-    first-23 e n = there ∙ rw (eq-eqb body (kindLength (kindOf l)) fits, eq-eqb at 1 e, ne-eqb (kindOf l) 1 n)
+  pub packet-body : isParameters kind ≡ false → (kind ≡ 2) × (body ≡ 14)
+  packet-body e =
+      let two = packet-kind kind e (omega (arith, w .some-body, fits)) in
+      (two, fits ∙ rw two length-14)
 
-    pub again-23 : (at ≡ 1 → ⊥) → kindOf l ≡ 1 → formatRefusal at l ≡ 23
-    again-23 n e = there ∙ rw (eq-eqb body (kindLength (kindOf l)) fits, ne-eqb at 1 n, eq-eqb (kindOf l) 1 e)
+  pub packet-room : isParameters kind ≡ false → Room 16 l 0
+  packet-room e = record { inside = omega (arith, w .all-there, packet-body e .1) }
 
-    pub first-0 : at ≡ 1 → kindOf l ≡ 1 → formatRefusal at l ≡ 0
-    first-0 e k = there ∙ rw (eq-eqb body (kindLength (kindOf l)) fits, eq-eqb at 1 e, eq-eqb (kindOf l) 1 k)
-
-    pub packet-0 : (at ≡ 1 → ⊥) → (kindOf l ≡ 1 → ⊥) → formatRefusal at l ≡ 0
-    packet-0 n k = there ∙ rw (eq-eqb body (kindLength (kindOf l)) fits, ne-eqb at 1 n, ne-eqb (kindOf l) 1 k)
-
-    pub parameter-room : kindOf l ≡ 1 → Room 18 l 0
-    parameter-room e = record { inside = omega (arith, w .all-there, fits, kind-1 (kindOf l) e) }
-
-    pub packet-room : (kindOf l ≡ 1 → ⊥) → Room 16 l 0
-    packet-room n = record { inside = omega (arith, w .all-there, fits, kind-2 (kindOf l) (omega arith) n) }
-
--- what a record that is not refused is: kind 1 at offset 1, kind 2 after it, of the length of its kind, and all there
-pub record Formed (at : ℕ) (l : List ℕ) : Type 0 where
+-- what a record that is not refused is: whole, of the length of its kind, and in its place
+pub record Formed (first : Bool) (l : List ℕ) : Type 0 where
   pub length-fits : bodyLength l ≡ kindLength (kindOf l)
   pub all-there : 2 + bodyLength l ≤ length l
   pub some-body : 0 < bodyLength l
-  pub in-place : inPlace at (kindOf l) ≡ true
+  pub in-place : inPlace first (kindOf l) ≡ true
 
-pub formed : (at : ℕ) (l : List ℕ) → formatRefusal at l ≡ 0 → Formed at l
+pub formed : (first : Bool) (l : List ℕ) → formatRefusal first l ≡ 0 → Formed first l
 unfolding formatRefusal
-formed at l =
-    let P : ℕ → Type 0 = λ n. n ≡ 0 → Formed at l in
-    pick-either P (lone at l) (λ h z. absurd (omega arith)) (λ h1.
+formed first l =
+    let P : ℕ → Type 0 = λ n. n ≡ 0 → Formed first l in
+    pick-either P (lone first l) (λ h z. absurd (omega arith)) (λ h1.
     pick-either P (ltb (length l) 2) (λ h z. absurd (omega arith)) (λ h2.
     pick-either P (eqb (bodyLength l) 0) (λ h z. absurd (omega arith)) (λ h3.
     pick-either P (ltb (length l) (2 + bodyLength l)) (λ h z. absurd (omega arith)) (λ h4.
     pick-either P (eqb (bodyLength l) (kindLength (kindOf l)))
-    (λ h5. pick-either P (inPlace at (kindOf l)) (λ h6 z. record {
+    (λ h5. pick-either P (inPlace first (kindOf l)) (λ h6 z. record {
       length-fits = eqb-true _ _ h5;
       all-there = ltb-false _ _ h4;
       some-body = let n = eqb-false (bodyLength l) 0 h3 in omega arith;

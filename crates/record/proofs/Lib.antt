@@ -1,8 +1,9 @@
 -- The theorems of this crate, file by file, lowest first; each file says in its first line what it shows.
 pub mod Format
-pub mod Items
-pub mod Standing
+pub mod Ways
 pub mod Reading
+pub mod Saying
+pub mod Standing
 pub mod Walking
 pub mod Opening
 pub mod Stores

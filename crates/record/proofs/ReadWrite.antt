@@ -26,7 +26,6 @@ use Rattle.record.specs.Paper.{versionFits, kindOf, parametersAt, packet
 use Rattle.record.specs.Paper.{Ending, done, stopped, Packets, packetsIn, file, refused, endedFile, asFile, fileOf}
 use Rattle.record.specs.Layout.{parameterRecord, recordsOf, bytesIn}
 use Rattle.record.proofs.Writing.{length-file, answers-done, writes-done}
-use Rattle.record.proofs.Format.{formed, kind-of-14}
 use Rattle.record.proofs.Reading.{neither, packet-here, parameters-here, packets-end, packets-stop, packets-go}
 use Rattle.record.proofs.Reading.{reading-20, reading-stop, reading-go}
 use Rattle.record.proofs.Fields.{packet-again, parameters-again}
@@ -42,37 +41,36 @@ empty [] e = refl
 empty (b ∷ l) e = absurd (omega arith)
 
 -- packets that were all read are the bytes that they were read from
-pub packets-again : (k : ℕ) (past : Past) (at : ℕ) (l : List ℕ) → length l ≤ k → 1 < at → Bytes l
+pub packets-again : (k : ℕ) (past : Past) (at : ℕ) (l : List ℕ) → length l ≤ k → Bytes l
     → packetsIn past at l .ending ≡ done → recordsOf (packetsIn past at l .accepted) ≡ l
 unfolding recordsOf
-packets-again zero past at l h o b e = rw (packets-end past at l (omega arith)) (sym (empty l (omega arith)))
-packets-again (suc k) past at l h o b e =
-    go (ℕ-discrete (length l) 0) (ℕ-discrete (packetRefusal past at l) 0)
+packets-again zero past at l h b e = rw (packets-end past at l (omega arith)) (sym (empty l (omega arith)))
+packets-again (suc k) past at l h b e =
+    go (ℕ-discrete (length l) 0) (ℕ-discrete (packetRefusal past l) 0)
     (packets-again k (nextOf past (packetAt l .time)) (at + 16) (drop 16 l))
   where
     next : Packets
     next = packetsIn (nextOf past (packetAt l .time)) (at + 16) (drop 16 l)
 
-    go : Dec (length l ≡ 0) → Dec (packetRefusal past at l ≡ 0)
-        → (length (drop 16 l) ≤ k → 1 < at + 16 → Bytes (drop 16 l) → next .ending ≡ done → recordsOf (next .accepted) ≡ drop 16 l)
+    go : Dec (length l ≡ 0) → Dec (packetRefusal past l ≡ 0)
+        → (length (drop 16 l) ≤ k → Bytes (drop 16 l) → next .ending ≡ done → recordsOf (next .accepted) ≡ drop 16 l)
         → recordsOf (packetsIn past at l .accepted) ≡ l
     go (yes z) d rest = rw (packets-end past at l z) (sym (empty l z))
     go (no n) (no r) rest =
         absurd (stopped-done _ _ (sym (ap (λ p. p .ending) (packets-stop past at l _ (omega arith) refl (omega arith))) ∙ e))
     go (no n) (yes r) rest =
-        let here = packet-here at l (λ z. omega arith) (neither _ _ r .0) in
-        let goes = packets-go past at l o r in
-        let kind = kind-of-14 (kindOf l) (sym (formed at l (neither _ _ r .0) .length-fits) ∙ here .body-14) in
-        rw (goes, rest (rw length-drop (omega arith)) (omega arith) (bytes-drop 16 l b) (sym (ap (λ p. p .ending) goes) ∙ e))
-        (packet-again l b (here .sixteen) (here .body-14) kind)
+        let here = packet-here l (neither _ _ r .0) in
+        let goes = packets-go past at l r in
+        rw (goes, rest (rw length-drop (omega arith)) (bytes-drop 16 l b) (sym (ap (λ p. p .ending) goes) ∙ e))
+        (packet-again l b (here .sixteen) (here .body-14) (here .kind-is-2))
 
 -- and the scan refuses none of them
-pub packets-scan : (k : ℕ) (past : Past) (begun : Bool) (closed at : ℕ) (l : List ℕ) → length l ≤ k → 1 < at
+pub packets-scan : (k : ℕ) (past : Past) (begun : Bool) (closed at : ℕ) (l : List ℕ) → length l ≤ k
     → packetsIn past at l .ending ≡ done → (n : ℕ) × (scanOf past begun closed (packetsIn past at l .accepted) ≡ scan.Fine n)
-packets-scan zero past begun closed at l h o e =
+packets-scan zero past begun closed at l h e =
     (closed, scan-ends past begun closed (ap (λ p. p .accepted) (packets-end past at l (omega arith))))
-packets-scan (suc k) past begun closed at l h o e =
-    go (ℕ-discrete (length l) 0) (ℕ-discrete (packetRefusal past at l) 0)
+packets-scan (suc k) past begun closed at l h e =
+    go (ℕ-discrete (length l) 0) (ℕ-discrete (packetRefusal past l) 0)
     (packets-scan k (nextOf past p-time) (begun || marked (packetAt l)) (closed + closes begun (packetAt l)) (at + 16) (drop 16 l))
   where
     p-time : ℕ
@@ -81,8 +79,8 @@ packets-scan (suc k) past begun closed at l h o e =
     next : Packets
     next = packetsIn (nextOf past p-time) (at + 16) (drop 16 l)
 
-    go : Dec (length l ≡ 0) → Dec (packetRefusal past at l ≡ 0)
-        → (length (drop 16 l) ≤ k → 1 < at + 16 → next .ending ≡ done
+    go : Dec (length l ≡ 0) → Dec (packetRefusal past l ≡ 0)
+        → (length (drop 16 l) ≤ k → next .ending ≡ done
         → (n : ℕ)
         × (scanOf (nextOf past p-time) (begun || marked (packetAt l)) (closed + closes begun (packetAt l)) (next .accepted) ≡ scan.Fine n))
         → (n : ℕ) × (scanOf past begun closed (packetsIn past at l .accepted) ≡ scan.Fine n)
@@ -90,9 +88,9 @@ packets-scan (suc k) past begun closed at l h o e =
     go (no n) (no r) rest =
         absurd (stopped-done _ _ (sym (ap (λ p. p .ending) (packets-stop past at l _ (omega arith) refl (omega arith))) ∙ e))
     go (no n) (yes r) rest =
-        let goes = packets-go past at l o r in
-        let more = rest (rw length-drop (omega arith)) (omega arith) (sym (ap (λ p. p .ending) goes) ∙ e) in
-        let fine = neither (formatRefusal at l) (numberOf past (packetAt l)) r .1 in
+        let goes = packets-go past at l r in
+        let more = rest (rw length-drop (omega arith)) (sym (ap (λ p. p .ending) goes) ∙ e) in
+        let fine = neither (formatRefusal false l) (numberOf past (packetAt l)) r .1 in
         (more .0, scan-goes past begun closed (ap (λ p. p .accepted) goes) fine ∙ more .1)
 
 version-again : (s : List ℕ) → getD s 0 0 ≡ 1 → 1 ∷ drop 1 s ≡ s
@@ -118,8 +116,8 @@ file-holds s numbers ps e = go (versionFits s) refl (ℕ-discrete (parametersRef
     ends done q f z =
         let e-numbers : parametersAt (drop 1 s) ≡ numbers = cc in
         let e-packets : r .accepted ≡ ps = cc in
-        let scans = packets-scan (length (drop 19 s)) nothing false 0 19 (drop 19 s) (omega arith) (omega arith) q in
-        let fine = neither (formatRefusal 1 (drop 1 s)) (setUpRefusal (parametersAt (drop 1 s))) z .1 in
+        let scans = packets-scan (length (drop 19 s)) nothing false 0 19 (drop 19 s) (omega arith) q in
+        let fine = neither (formatRefusal true (drop 1 s)) (setUpRefusal (parametersAt (drop 1 s))) z .1 in
         record {
           set-up = sym (ap setUpRefusal e-numbers) ∙ fine;
           all-read = λ j. record { accepted = e-packets j; ending = q j };
@@ -155,7 +153,7 @@ module _ (s : List ℕ) (b : Bytes s) where
       ends done q f v z =
           let e-numbers : parametersAt (drop 1 s) ≡ numbers = cc in
           let e-packets : r .accepted ≡ ps = cc in
-          let again = packets-again (length (drop 19 s)) nothing 19 (drop 19 s) (omega arith) (omega arith) (bytes-drop 19 s b) q in
+          let again = packets-again (length (drop 19 s)) nothing 19 (drop 19 s) (omega arith) (bytes-drop 19 s b) q in
           rw (← e-numbers, ← e-packets, again) (head-again v z)
 
       go : (t : Bool) → versionFits s ≡ t → Dec (parametersRefusal (drop 1 s) ≡ 0) → bytesIn numbers ps ≡ s

@@ -9,14 +9,14 @@ use native.Mathlib.Decide.{ℕ-discrete}
 use lib.Dec.{eqb}
 use lib.ListN.{length, drop, length-drop}
 use lib.Seq.{drop-drop}
-use borrow.Author.Tests.{eq-eqb, ne-eqb, eqb-true, eqb-false}
-use Rattle.laws.specs.Choose.{pick-either, false-true, orElse}
+use borrow.Author.Tests.{eq-eqb, ne-eqb, eqb-true, eqb-false, not-true}
+use Rattle.laws.specs.Choose.{pick-either, orElse}
 use Rattle.packet.specs.declared.Past.{Past}
 use Rattle.packet.specs.Step.{nothing, nextOf}
-use Rattle.record.specs.Paper.{versionFits, bodyLength, kindOf, inPlace, parametersAt, packetAt}
+use Rattle.record.specs.Paper.{versionFits, bodyLength, kindOf, parametersAt, packetAt}
 use Rattle.record.specs.Paper.{formatRefusal, parametersRefusal, packetRefusal, unread, read, readingOf}
 use Rattle.record.specs.Paper.{done, stopped, none, more, packetsBy, packetsIn}
-use Rattle.record.proofs.Format.{formed, kind-1, kind-2}
+use Rattle.record.proofs.Format.{formed, kind-1, packet-kind, length-14, length-16}
 
 -- two numbers of which the first goes before: none where both are none, the first where it is one
 pub neither : (a b : ℕ) → orElse a b ≡ 0 → (a ≡ 0) × (b ≡ 0)
@@ -31,34 +31,27 @@ before a b h = rw (ne-eqb a 0 (λ e. omega arith))
 -- a record that the format accepts after the parameters is a packet's, of 16 bytes
 pub record PacketHere (l : List ℕ) : Type 0 where
   pub body-14 : bodyLength l ≡ 14
-  pub kind-not-1 : kindOf l ≡ 1 → ⊥
+  pub kind-is-2 : kindOf l ≡ 2
   pub sixteen : 16 ≤ length l
 
-place-after : (at kind : ℕ) → (at ≡ 1 → ⊥) → inPlace at kind ≡ true → kind ≡ 1 → ⊥
-place-after at kind n e k = false-true (sym (rw (ne-eqb at 1 n, eq-eqb kind 1 k)) ∙ e)
-
-pub packet-here : (at : ℕ) (l : List ℕ) → (at ≡ 1 → ⊥) → formatRefusal at l ≡ 0 → PacketHere l
-packet-here at l n e =
-    let f = formed at l e in
-    let k = place-after at (kindOf l) n (f .in-place) in
-    let b : bodyLength l ≡ 14 = f .length-fits ∙ kind-2 (kindOf l) (omega (arith, f .some-body, f .length-fits)) k in
-    record { body-14 = b; kind-not-1 = k; sixteen = omega (arith, f .all-there) }
+pub packet-here : (l : List ℕ) → formatRefusal false l ≡ 0 → PacketHere l
+packet-here l e =
+    let f = formed false l e in
+    let k = packet-kind (kindOf l) (not-true _ (f .in-place)) (omega (arith, f .some-body, f .length-fits)) in
+    let b : bodyLength l ≡ 14 = f .length-fits ∙ rw k length-14 in
+    record { body-14 = b; kind-is-2 = k; sixteen = omega (arith, f .all-there) }
 
 -- and the first record that the format accepts is the parameters', of 18 bytes
-place-first : (kind : ℕ) → inPlace 1 kind ≡ true → kind ≡ 1
-place-first kind e = eqb-true kind 1 e
-
 pub record ParametersHere (l : List ℕ) : Type 0 where
   pub body-16 : bodyLength l ≡ 16
   pub kind-is-1 : kindOf l ≡ 1
   pub eighteen : 18 ≤ length l
 
-pub parameters-here : (l : List ℕ) → formatRefusal 1 l ≡ 0 → ParametersHere l
+pub parameters-here : (l : List ℕ) → formatRefusal true l ≡ 0 → ParametersHere l
 parameters-here l e =
-    let f = formed 1 l e in
-    let k = place-first (kindOf l) (f .in-place) in
-    let b : bodyLength l ≡ 16 = f .length-fits ∙ kind-1 (kindOf l) k in
-    record { body-16 = b; kind-is-1 = k; eighteen = omega (arith, f .all-there) }
+    let f = formed true l e in
+    let b : bodyLength l ≡ 16 = f .length-fits ∙ length-16 (kindOf l) (f .in-place) in
+    record { body-16 = b; kind-is-1 = kind-1 (kindOf l) (f .in-place); eighteen = omega (arith, f .all-there) }
 
 module _ (past : Past) (at : ℕ) (l : List ℕ) where
   by-end : (k : ℕ) → length l ≡ 0 → packetsBy k past at l ≡ none done
@@ -66,27 +59,27 @@ module _ (past : Past) (at : ℕ) (l : List ℕ) where
   by-end zero e = refl
   by-end (suc k) e = rw (eq-eqb (length l) 0 e)
 
-  by-stop : (k n : ℕ) → 0 < length l → packetRefusal past at l ≡ n → 0 < n → packetsBy (suc k) past at l ≡ none (stopped n at)
+  by-stop : (k n : ℕ) → 0 < length l → packetRefusal past l ≡ n → 0 < n → packetsBy (suc k) past at l ≡ none (stopped n at)
   unfolding packetsBy
   by-stop k n h e p = rw (ne-eqb (length l) 0 (λ z. omega arith), e, ne-eqb n 0 (λ z. omega arith))
 
-  by-go : (k : ℕ) → (at ≡ 1 → ⊥) → packetRefusal past at l ≡ 0
+  by-go : (k : ℕ) → packetRefusal past l ≡ 0
       → packetsBy (suc k) past at l ≡ more (packetAt l) (packetsBy k (nextOf past (packetAt l .time)) (at + 16) (drop 16 l))
   unfolding packetsBy
-  by-go k n e =
-      let h = packet-here at l n (neither _ _ e .0) in
-      rw (ne-eqb (length l) 0 (λ z. omega (arith, h .sixteen)), eq-eqb (packetRefusal past at l) 0 e, h .body-14)
+  by-go k e =
+      let h = packet-here l (neither _ _ e .0) in
+      rw (ne-eqb (length l) 0 (λ z. omega (arith, h .sixteen)), eq-eqb (packetRefusal past l) 0 e, h .body-14)
 
 -- as many records as there are bytes are enough
-by-same : (j k : ℕ) (past : Past) (at : ℕ) (l : List ℕ) → 1 < at → length l ≤ j → length l ≤ k
+by-same : (j k : ℕ) (past : Past) (at : ℕ) (l : List ℕ) → length l ≤ j → length l ≤ k
     → packetsBy j past at l ≡ packetsBy k past at l
-by-same zero k past at l h a b = by-end past at l 0 (omega arith) ∙ sym (by-end past at l k (omega arith))
-by-same (suc j) zero past at l h a b = by-end past at l (suc j) (omega arith) ∙ sym (by-end past at l 0 (omega arith))
-by-same (suc j) (suc k) past at l h a b =
-    go (ℕ-discrete (length l) 0) (ℕ-discrete (packetRefusal past at l) 0)
-    (by-same j k (nextOf past (packetAt l .time)) (at + 16) (drop 16 l) (omega arith))
+by-same zero k past at l a b = by-end past at l 0 (omega arith) ∙ sym (by-end past at l k (omega arith))
+by-same (suc j) zero past at l a b = by-end past at l (suc j) (omega arith) ∙ sym (by-end past at l 0 (omega arith))
+by-same (suc j) (suc k) past at l a b =
+    go (ℕ-discrete (length l) 0) (ℕ-discrete (packetRefusal past l) 0)
+    (by-same j k (nextOf past (packetAt l .time)) (at + 16) (drop 16 l))
   where
-    go : Dec (length l ≡ 0) → Dec (packetRefusal past at l ≡ 0)
+    go : Dec (length l ≡ 0) → Dec (packetRefusal past l ≡ 0)
         → (length (drop 16 l) ≤ j → length (drop 16 l) ≤ k
         → packetsBy j (nextOf past (packetAt l .time)) (at + 16) (drop 16 l)
         ≡ packetsBy k (nextOf past (packetAt l .time)) (at + 16) (drop 16 l))
@@ -96,35 +89,35 @@ by-same (suc j) (suc k) past at l h a b =
         by-stop past at l j _ (omega arith) refl (omega arith) ∙ sym (by-stop past at l k _ (omega arith) refl (omega arith))
     go (no n) (yes e) rest =
         let less : (i : ℕ) → length l ≤ suc i → length (drop 16 l) ≤ i = λ i m. rw length-drop (omega arith) in
-        by-go past at l j (λ z. omega arith) e
+        by-go past at l j e
         ∙ ap (more (packetAt l)) (rest (less j a) (less k b))
-        ∙ sym (by-go past at l k (λ z. omega arith) e)
+        ∙ sym (by-go past at l k e)
 
 module _ (past : Past) (at : ℕ) (l : List ℕ) where
   pub packets-end : length l ≡ 0 → packetsIn past at l ≡ none done
   packets-end e = by-end past at l (length l) e
 
-  pub packets-stop : (n : ℕ) → 0 < length l → packetRefusal past at l ≡ n → 0 < n → packetsIn past at l ≡ none (stopped n at)
+  pub packets-stop : (n : ℕ) → 0 < length l → packetRefusal past l ≡ n → 0 < n → packetsIn past at l ≡ none (stopped n at)
   packets-stop n h e p =
       let some : length l ≡ suc (length l - 1) = omega arith in
       ap (λ k. packetsBy k past at l) some ∙ by-stop past at l (length l - 1) n h e p
 
-  pub packets-go : 1 < at → packetRefusal past at l ≡ 0
+  pub packets-go : packetRefusal past l ≡ 0
       → packetsIn past at l ≡ more (packetAt l) (packetsIn (nextOf past (packetAt l .time)) (at + 16) (drop 16 l))
-  packets-go h e =
-      let here = packet-here at l (λ z. omega arith) (neither _ _ e .0) in
+  packets-go e =
+      let here = packet-here l (neither _ _ e .0) in
       let some : length l ≡ suc (length l - 1) = omega (arith, here .sixteen) in
       ap (λ k. packetsBy k past at l) some
-      ∙ by-go past at l (length l - 1) (λ z. omega arith) e
+      ∙ by-go past at l (length l - 1) e
       ∙ ap (more (packetAt l))
-      (by-same (length l - 1) (length (drop 16 l)) (nextOf past (packetAt l .time)) (at + 16) (drop 16 l) (omega arith)
+      (by-same (length l - 1) (length (drop 16 l)) (nextOf past (packetAt l .time)) (at + 16) (drop 16 l)
       (rw length-drop (omega (arith, here .sixteen))) (omega arith))
 
   -- where nothing is refused up to the end, what is there is a packet's record, and it is accepted
-  pub packets-accepted : 1 < at → 0 < length l → packetsIn past at l .ending ≡ done → packetRefusal past at l ≡ 0
-  packets-accepted h some e = go (ℕ-discrete (packetRefusal past at l) 0)
+  pub packets-accepted : 0 < length l → packetsIn past at l .ending ≡ done → packetRefusal past l ≡ 0
+  packets-accepted some e = go (ℕ-discrete (packetRefusal past l) 0)
     where
-      go : Dec (packetRefusal past at l ≡ 0) → packetRefusal past at l ≡ 0
+      go : Dec (packetRefusal past l ≡ 0) → packetRefusal past l ≡ 0
       go (yes f) = f
       go (no n) =
           let stops = ap (λ r. r .ending) (packets-stop _ some refl (omega arith)) in

@@ -1,10 +1,10 @@
 -- The record file both ways, on one page. `bytesIn s ps` are the bytes of a file, `fileOf` what bytes read as, `Writes` what the writer
--- ensures, `callsOf` what the reader answers, call after call. The hypotheses bound numbers by what their types and slices always hold.
+-- ensures, `allCalls` what the reader answers, call after call. The hypotheses bound numbers by what their types and slices always hold.
 -- The work is in WriteRead, ReadWrite, Writing and Answered.
 use mathlib.Core.Path.{_≡_, ap, _∙_}
 use mathlib.Core.Bool.{false}
-use mathlib.Core.List.{List, [], _∷_, _++_}
-use Prim.Native.Nat.{ℕ, suc, _^_, _≤_, _<_}
+use mathlib.Core.List.{List}
+use Prim.Native.Nat.{ℕ, _^_, _≤_, _<_}
 use lib.ListN.{length, take, getD}
 use Rattle.packet.specs.declared.Scanned.the-variants as scan
 use Rattle.packet.specs.declared.Packet.{Packet}
@@ -15,10 +15,9 @@ use Rattle.packet.proofs.Declared.{scan-declared}
 use Rattle.limits.specs.declared.Parameters.{Parameters}
 use Rattle.record.specs.declared.Written.{Written}
 use Rattle.record.specs.declared.Written.the-variants.{Done}
-use Rattle.record.specs.declared.Read.the-variants.{End}
 use Rattle.limits.specs.Paper.{setUpRefusal}
 use Rattle.record.specs.Paper.{readingOf, file, asFile, fileOf}
-use Rattle.record.specs.Pieces.{callsOf, told, Answered}
+use Rattle.record.specs.Pieces.{allCalls, told, Answered}
 use Rattle.limits.specs.Steps.{ParametersHeld}
 use Rattle.record.specs.Layout.{bytesIn, PacketsHeld}
 use Rattle.record.specs.Write.{Writes}
@@ -33,15 +32,16 @@ pub reading-written : (s : Parameters) (ps : List Packet) (closed : ℕ) → Par
     → setUpRefusal s ≡ 0 → declared ps ≡ scan.Fine closed → fileOf (bytesIn s ps) ≡ file s ps
 reading-written s ps closed hs hp e f = ap asFile (file-written s ps closed hs hp e (scan-declared ps ∙ f))
 
--- What a file reads as is what the reader gives. Of any bytes: the records up to the first refusal, which has its number and offset, or
--- all of them and the end. A refusal by 20 to 23 is the reader's own answer; one of set-up or of a packet is of the record that it gives.
+-- What a file reads as is what the reader gives. Of any bytes: the head, and the records up to the first refusal, which has its number
+-- and offset, or all of them and the end. A refusal by 20 to 23 is the reader's own answer; one of set-up or of a packet is of the record
+-- that it gives.
 pub read-by-cursor : (bytes : List ℕ) (calls : ℕ) → length bytes < 2 ^ 64 → length bytes < calls
-    → Answered (readingOf bytes) (callsOf (suc (suc calls)) 0 bytes)
+    → Answered (readingOf bytes) (allCalls calls bytes)
 read-by-cursor = reader-answers
 
--- so an accepted file is answered as version, parameters, each packet in order, end
+-- so an accepted file is answered as its head with the parameters, each packet in order, end
 pub file-by-cursor : (bytes : List ℕ) (calls : ℕ) → length bytes < 2 ^ 64 → length bytes < calls
-    → (s : Parameters) (ps : List Packet) → fileOf bytes ≡ file s ps → callsOf (suc (suc calls)) 0 bytes ≡ told s ps ++ (End ∷ [])
+    → (s : Parameters) (ps : List Packet) → fileOf bytes ≡ file s ps → allCalls calls bytes ≡ told s ps
 file-by-cursor bytes calls w h s ps e = answered-file (readingOf bytes) _ s ps e (reader-answers bytes calls w h)
 
 -- for every accepted file, writing what was read gives the same bytes

@@ -1,6 +1,6 @@
--- A packet's record that stands whole in front, seen at once: it is what the cursor answers there. By its length, its body's
+-- A packet's record that stands whole in front, seen at once: it is what the reader answers there. By its length, its body's
 -- length and its kind, which are all that the format looks at.
-use mathlib.Core.Path.{_≡_, refl, sym, _∙_}
+use mathlib.Core.Path.{_≡_, refl, sym, ap, _∙_}
 use mathlib.Core.Bool.{Bool, true, false, _&&_, and-false}
 use mathlib.Core.List.{List}
 use Prim.Native.Nat.{ℕ, _≤_, _<_}
@@ -9,9 +9,9 @@ use lib.Dec.{leb, eqb}
 use lib.ListN.{length}
 use borrow.Author.Tests.{eq-eqb, ne-eqb, le-leb, lt-leb, leb-true, eqb-true}
 use Rattle.laws.specs.Choose.{false-true}
-use Rattle.record.specs.Paper.{bodyLength, kindOf, kindLength}
-use Rattle.record.specs.Step.{after, packetOf, pieceOf, standsIn, Whole}
-use Rattle.record.proofs.Items.{piece-whole, whole-packet}
+use Rattle.record.specs.Paper.{bodyLength, kindOf}
+use Rattle.record.specs.Step.{after, packetOf, wholeOf, nextBy, nextPiece, standsIn, Whole}
+use Rattle.record.proofs.Format.{packet-2, length-14, framed-whole}
 
 module _ (l : List ℕ) where
   pub no-room : length l < 16 → false ≡ standsIn l
@@ -47,14 +47,13 @@ module _ (l : List ℕ) where
       }
 
   -- the answer is the packet, whatever comes after it
-  pub stands-packet : (at : ℕ) (last : Bool) → 1 < at → Stands → packetOf l (after at 16) ≡ pieceOf at l last
-  unfolding kindLength
-  stands-packet at last h s =
-      let whole : Whole at 14 l = record {
-        past-version = omega arith;
+  pub stands-packet : (at : ℕ) (last : Bool) → Stands → packetOf l (after at 16) ≡ nextPiece at l last
+  unfolding nextPiece wholeOf
+  stands-packet at last s =
+      let here : Whole 14 2 l = record {
         length-read = sym (s .body);
+        kind-read = sym (s .kind);
         some-body = omega arith;
         all-there = omega (arith, s .sixteen);
       } in
-      let length-fits : 14 ≡ kindLength (kindOf l) = rw (s .kind) in
-      sym (piece-whole last whole ∙ whole-packet whole length-fits (λ z. omega arith) (λ z. omega (arith, s .kind)))
+      sym (ap (nextBy at l) (framed-whole l last here) ∙ rw (length-14, packet-2))

@@ -1,122 +1,176 @@
 -- More is answered only where another piece could change the answer: two continuations of the window that the whole file's reading
--- tells apart. By what the window lacks: with nothing after it the record is cut short, with enough after it, it is not.
-use mathlib.Core.Path.{_≡_, refl, sym, ap, subst, _∙_}
+-- tells apart. By what the window lacks: with nothing after it there is no record or it is cut short, with enough after it, it is not.
+use mathlib.Core.Path.{_≡_, refl, sym, ap, _∙_}
 use mathlib.Core.Bool.{Bool, true, false}
 use mathlib.Core.List.{List, [], _∷_, _++_, append-nil}
 use Prim.Native.Nat.{ℕ, _+_, _*_, _<_}
 use native.Mathlib.Omega.{arith}
-use native.Mathlib.Decide.{ℕ-discrete}
 use lib.Dec.{eqb}
-use lib.ListN.{replicate, length-append, length-replicate}
-use Rattle.laws.specs.Choose.{pick-either, false-true}
+use lib.ListN.{length, replicate, length-append, length-replicate}
+use Rattle.laws.specs.Choose.{pick, pick-either, false-true}
 use Rattle.endian.specs.Number.{numberOf}
-use Rattle.record.specs.declared.Read.the-variants.{Refused}
-use Rattle.record.specs.Paper.{bodyLength, kindOf, kindLength, inPlace, formatRefusal}
-use Rattle.record.specs.Step.{itemOf, enough, pieceOf, Whole}
-use Rattle.record.specs.Pieces.{wantsMore}
-use Rattle.record.proofs.Format.{there, lone-23, scrap-21, nought-21, short-21}
-use Rattle.record.proofs.Items.{item-end, item-refused-1, item-refused, item-parameters, item-packet, piece-enough}
-use Rattle.record.proofs.Window.{Unshown, no-version, no-length, no-body, unshown, item-within, number-front}
+use Rattle.record.specs.declared.Framed.{Framed}
+use Rattle.record.specs.declared.Framed.the-variants as framed
+use Rattle.record.specs.declared.Head.{Head}
+use Rattle.record.specs.declared.Head.the-variants as head
+use Rattle.record.specs.declared.Next.{Next}
+use Rattle.record.specs.Paper.{bodyLength, kindOf, isParameters, kindLength}
+use Rattle.record.specs.Step.{framedOf, Whole, firstOf, headBy, headPiece, headRead, wholeOf, nextBy, nextPiece, nextRead}
+use Rattle.record.specs.Pieces.{readNumber, wantsMore, headWaits, headNumber}
+use Rattle.record.proofs.Format.{Front, scrap, nought, short, whole, front, framed-nothing, framed-byte, framed-nought, framed-short}
+use Rattle.record.proofs.Format.{framed-whole}
+use Rattle.record.proofs.Ways.{head-none, head-cons}
+use Rattle.record.proofs.Window.{number-front, next-known, head-known}
 
--- a record that is all there is not refused by 21
-not-21 : {at body : ℕ} {l : List ℕ} → Whole at body l → formatRefusal at l ≡ 21 → ⊥
-not-21 {at} {body} {l} w e =
-    pick-either (λ n. n ≡ 21 → ⊥) (eqb body (kindLength (kindOf l)))
-    (λ t. pick-either (λ n. n ≡ 21 → ⊥) (inPlace at (kindOf l)) (λ u f. omega arith) (λ u f. omega arith))
-    (λ t f. omega arith) (sym (there w) ∙ e)
+-- two continuations: nothing there and a length of 0, or a record cut short and the whole of it
+pub data Apart (w : List ℕ) : Type 0 where
+  nothing-there : (other : List ℕ) → framedOf w true ≡ framed.Nothing → framedOf (w ++ other) true ≡ framed.Cut → Apart w
+  cut-short : (other : List ℕ) (body kind : ℕ) → framedOf w true ≡ framed.Cut → framedOf (w ++ other) true ≡ framed.Whole body kind → Apart w
 
-whole-not-21 : {at body : ℕ} {l : List ℕ} → Whole at body l → itemOf at l ≡ Refused 21 at → ⊥
-whole-not-21 {at} {body} {l} w e = go (ℕ-discrete (formatRefusal at l) 0) (ℕ-discrete at 1)
+zeros : ℕ → List ℕ
+zeros n = replicate n 0
+
+apart : (w : List ℕ) → (framedOf w false ≡ framed.More) → Apart w
+unfolding numberOf zeros
+apart w e = go w (front w) e
   where
-    go : Dec (formatRefusal at l ≡ 0) → Dec (at ≡ 1) → ⊥
-    go (yes f) (yes o) =
-        let i = item-parameters at l (omega arith) (omega arith) f o in
-        let z : _≡_ {A = ℕ} 0 1 = cc in omega arith
-    go (yes f) (no n) =
-        let i = item-packet at l (omega arith) (omega arith) f n in
-        let z : _≡_ {A = ℕ} 0 1 = cc in omega arith
-    go (no f) d =
-        let i = item-refused at l (omega arith) (omega arith) _ refl (omega arith) in
-        let same : formatRefusal at l ≡ 21 = cc in not-21 w same
+    known : (w : List ℕ) {f : Framed} → framedOf w false ≡ f → framedOf w false ≡ framed.More → f ≡ framed.More
+    known w q e = sym q ∙ e
+
+    go : (w : List ℕ) → Front w → framedOf w false ≡ framed.More → Apart w
+    go [] (scrap h) e = nothing-there (0 ∷ 0 ∷ []) (framed-nothing [] refl) (framed-nought (0 ∷ 0 ∷ []) true (omega arith) refl)
+    go (b ∷ []) (scrap h) e =
+        cut-short (1 ∷ zeros (b * 256 + 1)) (b * 256 + 1) (kindOf (b ∷ 1 ∷ zeros (b * 256 + 1))) (framed-byte (b ∷ []) (λ z. omega arith) h)
+        (framed-whole (b ∷ 1 ∷ zeros (b * 256 + 1)) true (record {
+          length-read = omega arith;
+          kind-read = refl;
+          some-body = omega arith;
+          all-there = omega (arith, length-replicate {A = ℕ} (b * 256 + 1) 0);
+        }))
+    go (b ∷ c ∷ w) (scrap h) e = absurd (omega arith)
+    go w (nought t z) e = let q = known w (framed-nought w false t z) e in let n : _≡_ {A = ℕ} 0 1 = cc in absurd (omega arith)
+    go w (whole a) e = let q = known w (framed-whole w false a) e in let n : _≡_ {A = ℕ} 0 1 = cc in absurd (omega arith)
+    go w (short t b k) e =
+        cut-short (zeros (bodyLength w)) (bodyLength w) (kindOf (w ++ zeros (bodyLength w))) (framed-short w true t b k)
+        (framed-whole (w ++ zeros (bodyLength w)) true (record {
+          length-read = sym (number-front w (zeros (bodyLength w)) 2 0 (omega arith));
+          kind-read = refl;
+          some-body = b;
+          all-there = omega (arith, length-append w (zeros (bodyLength w)), length-replicate {A = ℕ} (bodyLength w) 0);
+        }))
+
+-- ---- after the head
 
 -- two continuations that are told apart
 pub record Hangs (at : ℕ) (w : List ℕ) : Type 0 where
   pub one : List ℕ
   pub other : List ℕ
-  pub differ : itemOf at (w ++ one) ≡ itemOf at (w ++ other) → ⊥
+  pub differ : nextRead at (w ++ one) ≡ nextRead at (w ++ other) → ⊥
 
--- nothing follows: the record is cut short; enough follows: it is not
-cut-or-whole : (at body : ℕ) (w v : List ℕ) → 0 < at → itemOf at w ≡ Refused 21 at → Whole at body (w ++ v) → Hangs at w
-cut-or-whole at body w v h e whole = record {
+-- a whole record is not refused by 21
+not-21 : (at body kind : ℕ) (l : List ℕ) → readNumber (wholeOf at body kind l) ≡ 21 → ⊥
+unfolding wholeOf
+not-21 at body kind l =
+    let P : Next → Type 0 = λ r. readNumber r ≡ 21 → ⊥ in
+    pick-either P (eqb body (kindLength kind))
+    (λ e. pick-either P (isParameters kind) (λ p z. omega arith) (λ p z. omega arith)) (λ e z. omega arith)
+
+number-by : (at : ℕ) (l : List ℕ) {f : Framed} → framedOf l true ≡ f → readNumber (nextRead at l) ≡ readNumber (nextBy at l f)
+unfolding nextPiece
+number-by at l e = ap (λ g. readNumber (nextBy at l g)) e
+
+hangs : (at : ℕ) (w : List ℕ) → Apart w → Hangs at w
+hangs at w (nothing-there other a b) = record {
   one = [];
-  other = v;
-  differ = λ same. whole-not-21 whole (sym same ∙ ap (itemOf at) (append-nil w) ∙ e);
+  other = other;
+  differ = λ same.
+      let n = sym (number-by at w a) ∙ ap (λ l. readNumber (nextRead at l)) (sym (append-nil w)) ∙ ap readNumber same
+      ∙ number-by at (w ++ other) b in omega (arith, n);
 }
-
-nought-item : (at : ℕ) → 0 < at → itemOf at (0 ∷ 0 ∷ []) ≡ Refused 21 at
-unfolding numberOf
-nought-item at h = item-refused at (0 ∷ 0 ∷ []) h (omega arith) 21 (nought-21 at (0 ∷ 0 ∷ []) (omega arith) refl) (omega arith)
-
--- no byte, and the version byte 1; no byte, and a length of 0
-told-apart : (at : ℕ) → at ≡ 0 → itemOf at [] ≡ itemOf at (1 ∷ []) → ⊥
-unfolding itemOf
-told-apart at e same =
-    let both = subst (λ i. itemOf i [] ≡ itemOf i (1 ∷ [])) e same in
-    let z : _≡_ {A = ℕ} 0 1 = cc in omega arith
-
-nothing-or-nought : (at : ℕ) → 0 < at → itemOf at [] ≡ itemOf at (0 ∷ 0 ∷ []) → ⊥
-nothing-or-nought at h same = go (ℕ-discrete at 1)
-  where
-    go : Dec (at ≡ 1) → ⊥
-    go (yes o) =
-        let i = item-refused-1 23 at [] o (lone-23 at [] o refl) (omega arith) in
-        let q = nought-item at h in
-        let z : _≡_ {A = ℕ} 23 21 = cc in omega arith
-    go (no n) =
-        let i = item-end at [] h n refl in
-        let q = nought-item at h in
-        let z : _≡_ {A = ℕ} 0 1 = cc in omega arith
-
-zeros : ℕ → List ℕ
-zeros n = replicate n 0
-
-hangs : (at : ℕ) (w : List ℕ) → Unshown at w → Hangs at w
-unfolding numberOf zeros
-hangs at [] (no-version e z) = record {
+hangs at w (cut-short other body kind a b) = record {
   one = [];
-  other = 1 ∷ [];
-  differ = λ same. told-apart at e same;
+  other = other;
+  differ = λ same.
+      let n = sym (number-by at w a) ∙ ap (λ l. readNumber (nextRead at l)) (sym (append-nil w)) ∙ ap readNumber same
+      ∙ number-by at (w ++ other) b in not-21 at body kind (w ++ other) (sym n);
 }
-hangs at (b ∷ w) (no-version e z) = absurd (omega arith)
-hangs at [] (no-length h t) = record {
-  one = [];
-  other = 0 ∷ 0 ∷ [];
-  differ = λ same. nothing-or-nought at h same;
-}
-hangs at (b ∷ []) (no-length h t) =
-    cut-or-whole at (b * 256 + 1) (b ∷ []) (1 ∷ zeros (b * 256 + 1)) h
-    (item-refused at (b ∷ []) h (omega arith) 21 (scrap-21 at (b ∷ []) (omega arith) (omega arith)) (omega arith))
-    (record {
-      past-version = h;
-      length-read = omega arith;
-      some-body = omega arith;
-      all-there = omega (arith, length-replicate {A = ℕ} (b * 256 + 1) 0);
-    })
-hangs at (b ∷ c ∷ w) (no-length h t) = absurd (omega arith)
-hangs at w (no-body h t b k) =
-    cut-or-whole at (bodyLength w) w (zeros (bodyLength w)) h
-    (item-refused at w h (omega arith) 21 (short-21 at w t b k) (omega arith))
-    (record {
-      past-version = h;
-      length-read = sym (number-front w (zeros (bodyLength w)) 2 0 (omega arith));
-      some-body = b;
-      all-there = omega (arith, length-append w (zeros (bodyLength w)), length-replicate {A = ℕ} (bodyLength w) 0);
-    })
 
 -- more is wanted only where the answer hangs on what follows
-pub more-needed : (at : ℕ) (w : List ℕ) → wantsMore (pieceOf at w false) ≡ true → Hangs at w
-more-needed at w m = go (enough at w) refl
+pub more-needed : (at : ℕ) (w : List ℕ) → wantsMore (nextPiece at w false) ≡ true → Hangs at w
+unfolding nextPiece
+more-needed at w m = go (framedOf w false) refl
   where
-    go : (t : Bool) → enough at w ≡ t → Hangs at w
-    go true e = absurd (false-true (sym (ap wantsMore (piece-enough at w false e) ∙ item-within at w .0) ∙ m))
-    go false e = hangs at w (unshown at w e)
+    go : (f : Framed) → framedOf w false ≡ f → Hangs at w
+    go framed.More e = hangs at w (apart w e)
+    go framed.Nothing e = absurd (false-true (sym (ap (λ g. wantsMore (nextBy at w g)) e) ∙ m))
+    go framed.Cut e = absurd (false-true (sym (ap (λ g. wantsMore (nextBy at w g)) e) ∙ m))
+    go (framed.Whole body kind) e =
+        let known = next-known at w (framed.Whole body kind) (λ q. let n : _≡_ {A = ℕ} 0 1 = cc in omega arith) in
+        absurd (false-true (sym (ap (λ g. wantsMore (nextBy at w g)) e ∙ known) ∙ m))
+
+-- ---- the head
+
+pub record HeadHangs (w : List ℕ) : Type 0 where
+  pub one : List ℕ
+  pub other : List ℕ
+  pub differ : headRead (w ++ one) ≡ headRead (w ++ other) → ⊥
+
+first-not-21 : (version body kind : ℕ) (l : List ℕ) → headNumber (firstOf version body kind l) ≡ 21 → ⊥
+unfolding firstOf
+first-not-21 version body kind l =
+    let P : Head → Type 0 = λ r. headNumber r ≡ 21 → ⊥ in
+    pick-either P (eqb body (kindLength kind))
+    (λ e. pick-either P (isParameters kind) (λ p z. omega arith) (λ p z. omega arith)) (λ e z. omega arith)
+
+-- behind the version byte
+module _ (b : ℕ) (v : eqb b 1 ≡ true) where
+  head-by : (l : List ℕ) {f : Framed} → framedOf l true ≡ f → headNumber (headRead (b ∷ l)) ≡ headNumber (headBy b l f)
+  head-by l e = ap headNumber (head-cons b l true) ∙ rw (v, e)
+
+  head-hangs : (l : List ℕ) → Apart l → HeadHangs (b ∷ l)
+  head-hangs l (nothing-there other x y) = record {
+    one = [];
+    other = other;
+    differ = λ same.
+        let n = sym (head-by l x) ∙ ap (λ m. headNumber (headRead (b ∷ m))) (sym (append-nil l)) ∙ ap headNumber same
+        ∙ head-by (l ++ other) y in omega (arith, n);
+  }
+  head-hangs l (cut-short other body kind x y) = record {
+    one = [];
+    other = other;
+    differ = λ same.
+        let n = sym (head-by l x) ∙ ap (λ m. headNumber (headRead (b ∷ m))) (sym (append-nil l)) ∙ ap headNumber same
+        ∙ head-by (l ++ other) y in first-not-21 b body kind (l ++ other) (sym n);
+  }
+
+  first-needed : (l : List ℕ) → headWaits (headBy b l (framedOf l false)) ≡ true → HeadHangs (b ∷ l)
+  first-needed l m = go (framedOf l false) refl
+    where
+      go : (f : Framed) → framedOf l false ≡ f → HeadHangs (b ∷ l)
+      go framed.More e = head-hangs l (apart l e)
+      go framed.Nothing e = absurd (false-true (sym (ap (λ g. headWaits (headBy b l g)) e) ∙ m))
+      go framed.Cut e = absurd (false-true (sym (ap (λ g. headWaits (headBy b l g)) e) ∙ m))
+      go (framed.Whole body kind) e =
+          let known = head-known b l (framed.Whole body kind) (λ q. let n : _≡_ {A = ℕ} 0 1 = cc in omega arith) in
+          absurd (false-true (sym (ap (λ g. headWaits (headBy b l g)) e ∙ known) ∙ m))
+
+-- no byte, and the version byte 1
+no-byte : HeadHangs []
+no-byte = record {
+  one = [];
+  other = 1 ∷ [];
+  differ = λ same.
+      let n = sym (ap headNumber (head-none [] true refl refl)) ∙ ap headNumber same ∙ head-by 1 refl [] (framed-nothing [] refl) in omega (arith, n);
+}
+
+pub head-needed : (w : List ℕ) → headWaits (headPiece w false) ≡ true → HeadHangs w
+head-needed [] m = no-byte
+head-needed (b ∷ l) m = go (eqb b 1) refl
+  where
+    go : (t : Bool) → eqb b 1 ≡ t → HeadHangs (b ∷ l)
+    go true v =
+        let same : headPiece (b ∷ l) false ≡ headBy b l (framedOf l false) = head-cons b l false ∙ rw v in
+        first-needed b v l (sym (ap headWaits same) ∙ m)
+    go false v =
+        let same : headPiece (b ∷ l) false ≡ head.Refused 20 0 = head-cons b l false ∙ rw v in
+        absurd (false-true (sym (ap headWaits same) ∙ m))

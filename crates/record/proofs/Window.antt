@@ -1,28 +1,32 @@
--- A window that shows a whole record answers as the whole file does, whatever bytes follow it. By the record's front: all that is
--- looked at lies within the window.
-use mathlib.Core.Path.{_≡_, refl, sym, ap, subst, _∙_}
-use mathlib.Core.Logic.{_⊎_, inl, inr}
-use mathlib.Core.Bool.{true, false}
+-- A window that shows enough answers as the whole file does, whatever bytes follow it, and a window of 65,537 bytes shows enough. By what
+-- stands in front: all that is looked at lies within the window.
+use mathlib.Core.Path.{_≡_, refl, sym, ap, _∙_}
+use mathlib.Core.Bool.{Bool, true, false}
 use mathlib.Core.List.{List, [], _∷_, _++_}
 use Prim.Native.Nat.{ℕ, _+_, _≤_, _<_}
 use native.Mathlib.Omega.{arith}
-use native.Mathlib.Decide.{ℕ-discrete, decLe}
 use lib.Dec.{eqb}
 use lib.ListN.{length, take, drop, getD, length-append, length-drop, List·getD-append}
 use lib.Seq.{take-append-le, drop-append-le, length-take-le}
-use borrow.Author.Tests.{le-ltb, le-leb, lt-leb, eq-eqb, ne-eqb, eqb-true}
-use Rattle.laws.specs.Choose.{pick-either, false-true}
+use borrow.Author.Tests.{eqb-true}
+use Rattle.laws.specs.Choose.{pick, pick-either, false-true}
 use Rattle.endian.specs.Number.{numberAt, Bytes}
 use Rattle.endian.proofs.Width.{number-small, bytes-take}
-use Rattle.record.specs.declared.Read.{Read}
-use Rattle.record.specs.declared.Read.the-variants.{Parameters, Packet}
-use Rattle.record.specs.Paper.{bodyLength, kindOf, kindLength, parametersAt, packetAt, formatRefusal}
-use Rattle.record.specs.Step.{cursor, after, itemOf, enough, Whole}
-use Rattle.record.specs.Pieces.{goesOn, taken, wantsMore}
-use Rattle.record.proofs.Reading.{packet-here, parameters-here}
-use Rattle.record.proofs.Format.{lone-23, nought-21, parameter-room, packet-room}
-use Rattle.record.proofs.Items.{item-end, item-refused-1, item-refused, item-parameters, item-packet, scrap-waits}
-use Rattle.record.proofs.Items.{whole-22, whole-first-23, whole-again-23, whole-parameters, whole-packet}
+use Rattle.record.specs.declared.Framed.{Framed}
+use Rattle.record.specs.declared.Framed.the-variants as framed
+use Rattle.record.specs.declared.Head.{Head}
+use Rattle.record.specs.declared.Head.the-variants as head
+use Rattle.record.specs.declared.Next.{Next}
+use Rattle.record.specs.declared.Next.the-variants.{Packet, End, More, Refused}
+use Rattle.record.specs.Paper.{bodyLength, kindOf, isParameters, kindLength, parametersAt, packetAt}
+use Rattle.record.specs.Step.{cursor, scrapOf, framedOf, Whole, firstOf, headBy, headPiece, headRead}
+use Rattle.record.specs.Step.{after, packetOf, wholeOf, nextBy, nextPiece, nextRead}
+use Rattle.record.specs.Pieces.{goesOn, taken, wantsMore, headWaits}
+use Rattle.record.proofs.Format.{Front, scrap, nought, short, whole, front, framed-scrap, framed-nought, framed-short, framed-whole}
+use Rattle.record.proofs.Format.{parameter-room, packet-room}
+use Rattle.record.proofs.Ways.{head-waits, head-cons}
+use Rattle.record.proofs.Reading.{packet-here}
+use Rattle.record.proofs.Saying.{Says, next-says, SaysHead, head-says}
 
 module _ (w v : List ℕ) where
   pub number-front : (k at : ℕ) → at + k ≤ length w → numberAt k (w ++ v) at ≡ numberAt k w at
@@ -35,8 +39,8 @@ module _ (w v : List ℕ) where
   longer : length w ≤ length (w ++ v)
   longer = omega (arith, length-append w v)
 
-  numbers-front : 18 ≤ length w → parametersAt (w ++ v) ≡ parametersAt w
-  numbers-front h =
+  parameters-front : 18 ≤ length w → parametersAt (w ++ v) ≡ parametersAt w
+  parameters-front h =
       rw (
         byte-front 3 (omega arith),
         byte-front 4 (omega arith),
@@ -50,166 +54,164 @@ module _ (w v : List ℕ) where
   packet-front : 16 ≤ length w → packetAt (w ++ v) ≡ packetAt w
   packet-front h = rw (number-front 8 3 (omega arith), number-front 4 11 (omega arith), byte-front 15 (omega arith))
 
-  -- the version byte
-  version-front : 0 < length w → itemOf 0 (w ++ v) ≡ itemOf 0 w
-  unfolding itemOf
-  version-front h = rw (byte-front 0 h)
+  -- a length of 0, and a whole record
+  nought-longer : (last : Bool) → 2 ≤ length w → bodyLength w ≡ 0 → framedOf (w ++ v) last ≡ framed.Cut
+  nought-longer last t e = framed-nought (w ++ v) last (omega (arith, longer)) (number-front 2 0 (omega arith) ∙ e)
 
-  -- a length of 0
-  nought-front : (at : ℕ) → 0 < at → 2 ≤ length w → bodyLength w ≡ 0 → itemOf at (w ++ v) ≡ itemOf at w
-  nought-front at h two e =
-      let same = number-front 2 0 (omega arith) in
-      item-refused at (w ++ v) h (omega (arith, longer)) 21 (nought-21 at (w ++ v) (omega (arith, longer)) (same ∙ e)) (omega arith)
-      ∙ sym (item-refused at w h (omega arith) 21 (nought-21 at w two e) (omega arith))
-
-  -- a whole record
-  module _ {at body : ℕ} (a : Whole at body w) where
-    whole-longer : Whole at body (w ++ v)
+  module _ {body kind : ℕ} (a : Whole body kind w) where
+    pub whole-longer : Whole body kind (w ++ v)
     whole-longer = record {
-      past-version = a .past-version;
       length-read = a .length-read ∙ sym (number-front 2 0 (omega arith));
+      kind-read = a .kind-read ∙ sym (byte-front 2 (omega arith));
       some-body = a .some-body;
       all-there = omega (arith, longer);
     }
 
-    same-kind : kindOf (w ++ v) ≡ kindOf w
-    same-kind = byte-front 2 (omega arith)
-
-    whole-front : itemOf at (w ++ v) ≡ itemOf at w
-    whole-front = go (ℕ-discrete body (kindLength (kindOf w))) (ℕ-discrete at 1) (ℕ-discrete (kindOf w) 1)
+    next-front : (at : ℕ) → wholeOf at body kind (w ++ v) ≡ wholeOf at body kind w
+    unfolding wholeOf
+    next-front at = go (eqb body (kindLength kind)) refl (isParameters kind) refl
       where
-        b : Whole at body (w ++ v)
-        b = whole-longer
+        r : Bool → Bool → List ℕ → Next
+        r t p l = pick t (pick p (Refused 23 at (2 + body)) (packetOf l (after at 16))) (Refused 22 at (2 + body))
 
-        fits-longer : body ≡ kindLength (kindOf w) → body ≡ kindLength (kindOf (w ++ v))
-        fits-longer f = f ∙ sym (ap kindLength same-kind)
+        go : (t : Bool) → eqb body (kindLength kind) ≡ t → (p : Bool) → isParameters kind ≡ p → r t p (w ++ v) ≡ r t p w
+        go true e true p = refl
+        go true e false p =
+            ap (λ q. Packet q (after at 16))
+            (packet-front (omega (arith, packet-room a (eqb-true body (kindLength kind) e) p .inside)))
+        go false e b p = refl
 
-        go : Dec (body ≡ kindLength (kindOf w)) → Dec (at ≡ 1) → Dec (kindOf w ≡ 1) → itemOf at (w ++ v) ≡ itemOf at w
-        go (no n) d k = whole-22 b (λ e. n (e ∙ ap kindLength same-kind)) ∙ sym (whole-22 a n)
-        go (yes f) (yes e) (yes k) =
-            whole-parameters b (fits-longer f) e (same-kind ∙ k)
-            ∙ ap (λ s. Parameters s (cursor 19)) (numbers-front (omega (arith, parameter-room a f k .inside)))
-            ∙ sym (whole-parameters a f e k)
-        go (yes f) (yes e) (no n) =
-            whole-first-23 b (fits-longer f) e (λ k. n (sym same-kind ∙ k)) ∙ sym (whole-first-23 a f e n)
-        go (yes f) (no m) (yes k) = whole-again-23 b (fits-longer f) m (same-kind ∙ k) ∙ sym (whole-again-23 a f m k)
-        go (yes f) (no m) (no n) =
-            whole-packet b (fits-longer f) m (λ k. n (sym same-kind ∙ k))
-            ∙ ap (λ p. Packet (p .time) (p .stamp) (p .marker) (after at 16)) (packet-front (omega (arith, packet-room a f n .inside)))
-            ∙ sym (whole-packet a f m n)
+    first-front : (version : ℕ) → firstOf version body kind (w ++ v) ≡ firstOf version body kind w
+    unfolding firstOf
+    first-front version = go (eqb body (kindLength kind)) refl (isParameters kind) refl
+      where
+        r : Bool → Bool → List ℕ → Head
+        r t p l = pick t (pick p (head.Ready version kind (parametersAt l) (cursor 19)) (head.Refused 23 1)) (head.Refused 22 1)
 
--- what a window must show
-pub data Shown (at : ℕ) (w : List ℕ) : Type 0 where
-  shows-version : at ≡ 0 → 0 < length w → Shown at w
-  shows-nought : 0 < at → 2 ≤ length w → bodyLength w ≡ 0 → Shown at w
-  shows-whole : Whole at (bodyLength w) w → Shown at w
+        go : (t : Bool) → eqb body (kindLength kind) ≡ t → (p : Bool) → isParameters kind ≡ p → r t p (w ++ v) ≡ r t p w
+        go true e true p =
+            ap (λ x. head.Ready version kind x (cursor 19))
+            (parameters-front (omega (arith, parameter-room a (eqb-true body (kindLength kind) e) p .inside)))
+        go true e false p = refl
+        go false e b p = refl
 
--- and what keeps it from that
-pub data Unshown (at : ℕ) (w : List ℕ) : Type 0 where
-  no-version : at ≡ 0 → length w ≡ 0 → Unshown at w
-  no-length : 0 < at → length w < 2 → Unshown at w
-  no-body : 0 < at → 2 ≤ length w → 0 < bodyLength w → length w < 2 + bodyLength w → Unshown at w
+-- ---- more is answered where the framing wants more, and nowhere else
 
-look : (at : ℕ) (w : List ℕ) → Shown at w ⊎ Unshown at w
-look at w =
-    go (ℕ-discrete at 0) (decLe 2 (length w)) (ℕ-discrete (length w) 0) (ℕ-discrete (bodyLength w) 0)
-    (decLe (2 + bodyLength w) (length w))
+whole-known : (at body kind : ℕ) (l : List ℕ) → wantsMore (wholeOf at body kind l) ≡ false
+unfolding wholeOf
+whole-known at body kind l =
+    let P : Next → Type 0 = λ r. wantsMore r ≡ false in
+    pick-either P (eqb body (kindLength kind)) (λ e. pick-either P (isParameters kind) (λ p. refl) (λ p. refl)) (λ e. refl)
+
+pub next-known : (at : ℕ) (l : List ℕ) (f : Framed) → (f ≡ framed.More → ⊥) → wantsMore (nextBy at l f) ≡ false
+next-known at l framed.Nothing n = refl
+next-known at l framed.Cut n = refl
+next-known at l (framed.Whole body kind) n = whole-known at body kind l
+next-known at l framed.More n = absurd (n refl)
+
+first-known : (version body kind : ℕ) (l : List ℕ) → headWaits (firstOf version body kind l) ≡ false
+unfolding firstOf
+first-known version body kind l =
+    let P : Head → Type 0 = λ r. headWaits r ≡ false in
+    pick-either P (eqb body (kindLength kind)) (λ e. pick-either P (isParameters kind) (λ p. refl) (λ p. refl)) (λ e. refl)
+
+pub head-known : (version : ℕ) (l : List ℕ) (f : Framed) → (f ≡ framed.More → ⊥) → headWaits (headBy version l f) ≡ false
+head-known version l framed.Nothing n = refl
+head-known version l framed.Cut n = refl
+head-known version l (framed.Whole body kind) n = first-known version body kind l
+head-known version l framed.More n = absurd (n refl)
+
+-- ---- whatever follows a window that shows enough
+
+scrap-waits : (w : List ℕ) → length w < 2 → framedOf w false ≡ framed.More
+unfolding scrapOf
+scrap-waits w h = framed-scrap w false h
+
+pub next-same : (at : ℕ) (w v : List ℕ) (last : Bool) → wantsMore (nextPiece at w false) ≡ false
+    → nextPiece at (w ++ v) last ≡ nextPiece at w false
+unfolding nextPiece
+next-same at w v last m = go (front w)
   where
-    go : Dec (at ≡ 0) → Dec (2 ≤ length w) → Dec (length w ≡ 0) → Dec (bodyLength w ≡ 0) → Dec (2 + bodyLength w ≤ length w)
-        → Shown at w ⊎ Unshown at w
-    go (yes e) t (yes z) b d = inr (no-version e z)
-    go (yes e) t (no n) b d = inl (shows-version e (omega arith))
-    go (no e) (no t) z b d = inr (no-length (omega arith) (omega arith))
-    go (no e) (yes t) z (yes b) d = inl (shows-nought (omega arith) t b)
-    go (no e) (yes t) z (no b) (yes d) =
-        inl (shows-whole (record { past-version = omega arith; length-read = refl; some-body = omega arith; all-there = d }))
-    go (no e) (yes t) z (no b) (no d) = inr (no-body (omega arith) t (omega arith) (omega arith))
+    waits : framedOf w false ≡ framed.More → ⊥
+    waits e = false-true (sym m ∙ ap (λ f. wantsMore (nextBy at w f)) e)
 
-shown-enough : (at : ℕ) (w : List ℕ) → Shown at w → enough at w ≡ true
-unfolding enough
-shown-enough at w (shows-version e h) = rw (e, le-leb 1 (length w) h)
-shown-enough at w (shows-nought h t b) = rw (ne-eqb at 0 (λ z. omega arith), le-ltb (length w) 2 t, eq-eqb (bodyLength w) 0 b)
-shown-enough at w (shows-whole a) =
-    rw (
-      ne-eqb at 0 (λ z. omega (arith, a .past-version)),
-      le-ltb (length w) 2 (omega (arith, a .all-there)),
-      ne-eqb (bodyLength w) 0 (λ z. omega (arith, a .some-body)),
-      le-leb (2 + bodyLength w) (length w) (a .all-there),
-    )
+    go : Front w → nextBy at (w ++ v) (framedOf (w ++ v) last) ≡ nextBy at w (framedOf w false)
+    go (scrap h) = absurd (waits (scrap-waits w h))
+    go (nought t e) = rw (nought-longer w v last t e, framed-nought w false t e)
+    go (short t b k) = absurd (waits (framed-short w false t b k))
+    go (whole a) = rw (framed-whole (w ++ v) last (whole-longer w v a), framed-whole w false a) (next-front w v a at)
 
-unshown-not : (at : ℕ) (w : List ℕ) → Unshown at w → enough at w ≡ false
-unfolding enough
-unshown-not at w (no-version e h) = rw (e, h)
-unshown-not at w (no-length h t) = scrap-waits at w h t
-unshown-not at w (no-body h t b k) =
-    rw (
-      ne-eqb at 0 (λ z. omega arith),
-      le-ltb (length w) 2 t,
-      ne-eqb (bodyLength w) 0 (λ z. omega arith),
-      lt-leb (2 + bodyLength w) (length w) k,
-    )
-
-pub unshown : (at : ℕ) (w : List ℕ) → enough at w ≡ false → Unshown at w
-unshown at w e = go (look at w)
+first-same : (b : ℕ) (l v : List ℕ) (last : Bool) → headWaits (headBy b l (framedOf l false)) ≡ false
+    → headBy b (l ++ v) (framedOf (l ++ v) last) ≡ headBy b l (framedOf l false)
+first-same version l v last m = go (front l)
   where
-    go : Shown at w ⊎ Unshown at w → Unshown at w
-    go (inl s) = absurd (false-true (sym e ∙ shown-enough at w s))
-    go (inr u) = u
+    waits : framedOf l false ≡ framed.More → ⊥
+    waits e = false-true (sym m ∙ ap (λ f. headWaits (headBy version l f)) e)
 
--- whatever follows a window that shows enough
-pub window-same : (at : ℕ) (w v : List ℕ) → enough at w ≡ true → itemOf at (w ++ v) ≡ itemOf at w
-window-same at w v e = go (look at w)
+    go : Front l → headBy version (l ++ v) (framedOf (l ++ v) last) ≡ headBy version l (framedOf l false)
+    go (scrap h) = absurd (waits (scrap-waits l h))
+    go (nought t e) = rw (nought-longer l v last t e, framed-nought l false t e)
+    go (short t b k) = absurd (waits (framed-short l false t b k))
+    go (whole a) = rw (framed-whole (l ++ v) last (whole-longer l v a), framed-whole l false a) (first-front l v a version)
+
+pub head-same : (w v : List ℕ) (last : Bool) → headWaits (headPiece w false) ≡ false → headPiece (w ++ v) last ≡ headPiece w false
+head-same [] v last m = absurd (false-true (sym m ∙ ap headWaits (head-waits [] false refl refl)))
+head-same (b ∷ l) v last m = head-cons b (l ++ v) last ∙ go (eqb b 1) refl ∙ sym (head-cons b l false)
   where
-    go : Shown at w ⊎ Unshown at w → itemOf at (w ++ v) ≡ itemOf at w
-    go (inl (shows-version z h)) = rw z (version-front w v h)
-    go (inl (shows-nought h t b)) = nought-front w v at h t b
-    go (inl (shows-whole a)) = whole-front w v a
-    go (inr u) = absurd (false-true (sym (unshown-not at w u) ∙ e))
+    r : Bool → Head → Head
+    r t h = pick t h (head.Refused 20 0)
 
--- a window of 65,537 bytes shows enough: a body has at most 65,535
-pub window-enough : (at : ℕ) (w : List ℕ) → Bytes w → 65537 ≤ length w → enough at w ≡ true
-window-enough at w b h = go (look at w)
+    go : (t : Bool) → eqb b 1 ≡ t → r t (headBy b (l ++ v) (framedOf (l ++ v) last)) ≡ r t (headBy b l (framedOf l false))
+    go false e = refl
+    go true e =
+        let same : headPiece (b ∷ l) false ≡ headBy b l (framedOf l false) = head-cons b l false ∙ rw e in
+        first-same b l v last (sym (ap headWaits same) ∙ m)
+
+-- ---- a window of 65,537 bytes, and one more with the version byte, is never answered More: a body has at most 65,535
+
+full : (w : List ℕ) (last : Bool) → Bytes w → 65537 ≤ length w → framedOf w last ≡ framed.More → ⊥
+full w last b h e = go (front w)
   where
-    body-small : bodyLength w < 65536
-    body-small =
-        let front = take 2 w in
-        let long : length front ≡ 2 = length-take-le 2 w (omega arith) in
-        omega (arith, rw long at (number-small front (bytes-take 2 w b)))
+    small : bodyLength w < 65536
+    small =
+        let long : length (take 2 w) ≡ 2 = length-take-le 2 w (omega arith) in
+        omega (arith, rw long at (number-small (take 2 w) (bytes-take 2 w b)))
 
-    go : Shown at w ⊎ Unshown at w → enough at w ≡ true
-    go (inl s) = shown-enough at w s
-    go (inr (no-version e z)) = absurd (omega arith)
-    go (inr (no-length p t)) = absurd (omega arith)
-    go (inr (no-body p t q k)) = absurd (omega (arith, body-small))
+    go : Front w → ⊥
+    go (scrap k) = omega arith
+    go (nought t z) = let q = sym e ∙ framed-nought w last t z in let n : _≡_ {A = ℕ} 0 1 = cc in omega arith
+    go (short t z k) = omega (arith, small)
+    go (whole a) = let q = sym e ∙ framed-whole w last a in let n : _≡_ {A = ℕ} 0 1 = cc in omega arith
 
--- what an answer says of its window: nothing of it is More, and what it took lies within
-abbrev Within : List ℕ → Read → Type 0
+pub next-full : (at : ℕ) (w : List ℕ) (last : Bool) → Bytes w → 65537 ≤ length w → wantsMore (nextPiece at w last) ≡ false
+unfolding nextPiece
+next-full at w last b h = next-known at w (framedOf w last) (full w last b h)
+
+pub head-full : (w : List ℕ) (last : Bool) → Bytes w → 65538 ≤ length w → headWaits (headPiece w last) ≡ false
+head-full [] last h n = absurd (omega arith)
+head-full (b ∷ l) last h n =
+    ap headWaits (head-cons b l last)
+    ∙ pick-either (λ (r : Head). headWaits r ≡ false) (eqb b 1)
+    (λ e. head-known b l (framedOf l last) (full l last (h .1) (omega arith))) (λ e. refl)
+
+-- ---- what an answer of the whole rest says: it is not More, and what it took lies within
+
+abbrev Within : List ℕ → Next → Type 0
 Within l r = (wantsMore r ≡ false) × (taken r ≤ length l) × (goesOn r ≡ true → 0 < taken r)
 
-some-byte : (l : List ℕ) → getD l 0 0 ≡ 1 → 1 ≤ length l
-some-byte [] e = absurd (omega arith)
-some-byte (b ∷ l) e = omega arith
-
-version-within : (l : List ℕ) → Within l (itemOf 0 l)
-unfolding itemOf
-version-within l =
-    pick-either (Within l) (eqb (getD l 0 0) 1)
-    (λ e. (refl, some-byte l (eqb-true (getD l 0 0) 1 e), λ g. omega arith))
-    (λ e. (refl, omega arith, λ g. absurd (false-true g)))
-
-pub item-within : (at : ℕ) (l : List ℕ) → Within l (itemOf at l)
-item-within at l = go (ℕ-discrete at 0) (ℕ-discrete at 1) (ℕ-discrete (length l) 0) (ℕ-discrete (formatRefusal at l) 0)
+pub read-within : (at : ℕ) (l : List ℕ) → Within l (nextRead at l)
+read-within at l = go (nextRead at l) (next-says at l)
   where
-    go : Dec (at ≡ 0) → Dec (at ≡ 1) → Dec (length l ≡ 0) → Dec (formatRefusal at l ≡ 0) → Within l (itemOf at l)
-    go (yes z) d e f = subst (λ i. Within l (itemOf i l)) (sym z) (version-within l)
-    go (no z) (yes o) (yes e) f =
-        subst (Within l) (sym (item-refused-1 23 at l o (lone-23 at l o e) (omega arith))) (refl, omega arith, λ g. absurd (false-true g))
-    go (no z) (no n) (yes e) f = subst (Within l) (sym (item-end at l (omega arith) n e)) (refl, omega arith, λ g. absurd (false-true g))
-    go (no z) d (no e) (no f) =
-        subst (Within l) (sym (item-refused at l (omega arith) (omega arith) _ refl (omega arith)))
-        (refl, omega arith, λ g. absurd (false-true g))
-    go (no z) (yes o) (no e) (yes f) =
-        subst (Within l) (sym (item-parameters at l (omega arith) (omega arith) f o))
-        (refl, parameters-here l (subst (λ i. formatRefusal i l ≡ 0) o f) .eighteen, λ g. omega arith)
-    go (no z) (no n) (no e) (yes f) =
-        subst (Within l) (sym (item-packet at l (omega arith) (omega arith) f n)) (refl, packet-here at l n f .sixteen, λ g. omega arith)
+    go : (r : Next) → Says at l r → Within l r
+    go (Packet p c) s = (refl, packet-here l (s .0) .sixteen, λ g. omega arith)
+    go End s = (refl, omega arith, λ g. absurd (false-true g))
+    go More s = absurd s
+    go (Refused n o size) s = (refl, omega arith, λ g. absurd (false-true g))
+
+pub head-answers : (s : List ℕ) → headWaits (headRead s) ≡ false
+head-answers s = go (headRead s) (head-says s)
+  where
+    go : (h : Head) → SaysHead s h → headWaits h ≡ false
+    go (head.Ready version kind parameters c) w = refl
+    go head.More w = absurd w
+    go (head.Refused n o) w = refl

@@ -1,7 +1,7 @@
 -- Reading what was written: each record stands at the front with its own fields, is accepted as it was, and the rest follows.
 -- By the list of packets.
 use mathlib.Core.Path.{_≡_, refl, sym, ap, _∙_}
-use mathlib.Core.Bool.{Bool, false, _||_}
+use mathlib.Core.Bool.{true, Bool, false, _||_}
 use mathlib.Core.List.{List, [], _∷_, _++_}
 use Prim.Native.Nat.{ℕ, _+_, _<_}
 use native.Mathlib.Omega.{arith}
@@ -23,7 +23,7 @@ use Rattle.record.specs.Layout.{packetWidths, packetFields, parameterRec
 use Rattle.record.specs.Layout.{PacketsHeld}
 use Rattle.limits.specs.Steps.{ParametersHeld}
 use Rattle.record.specs.Step.{Whole}
-use Rattle.record.proofs.Format.{kind-1, kind-2-length, first-0, packet-0}
+use Rattle.record.proofs.Format.{packet-2, parameters-1, length-14, length-16, there}
 use Rattle.record.proofs.Reading.{second, packets-end, packets-go, reading-go}
 use Rattle.record.proofs.Stores.{length-packet}
 use Rattle.record.proofs.Writing.{length-head}
@@ -39,39 +39,38 @@ fits past p ht hs e =
     (omega arith, (omega arith, (ht, (hs, (omega (arith, accepted past (p .time) (p .marker) e .marker-small), tt)))))
 
 -- a packet's record in front of anything is accepted as that packet
-packet-format : (at : ℕ) (p : Packet) (rest : List ℕ) → 1 < at → Fit packetWidths (packetFields p)
-    → formatRefusal at (packetRecord p ++ rest) ≡ 0
-packet-format at p rest h f =
+packet-format : (p : Packet) (rest : List ℕ) → Fit packetWidths (packetFields p) → formatRefusal false (packetRecord p ++ rest) ≡ 0
+packet-format p rest f =
     let l = packetRecord p ++ rest in
     let back = packet-back p rest f in
     let long : length l ≡ 16 + length rest = length-append (packetRecord p) rest ∙ rw (length-packet p) in
-    let whole : Whole at 14 l = record {
-      past-version = omega arith;
+    let here : Whole 14 2 l = record {
       length-read = sym (back .body-14);
+      kind-read = sym (back .kind-2);
       some-body = omega arith;
       all-there = omega arith;
     } in
-    packet-0 whole (sym (kind-2-length (kindOf l) (back .kind-2))) (λ z. omega arith) (λ z. omega (arith, back .kind-2))
+    there false l here ∙ rw (length-14, packet-2)
 
-pub packets-written : (ps : List Packet) (past : Past) (begun : Bool) (closed n at : ℕ) → 1 < at → PacketsHeld ps
+pub packets-written : (ps : List Packet) (past : Past) (begun : Bool) (closed n at : ℕ) → PacketsHeld ps
     → scanOf past begun closed ps ≡ scan.Fine n → packetsIn past at (recordsOf ps) ≡ every ps
 unfolding recordsOf
-packets-written [] past begun closed n at h held e = packets-end past at [] refl
-packets-written (p ∷ ps) past begun closed n at h held e =
+packets-written [] past begun closed n at held e = packets-end past at [] refl
+packets-written (p ∷ ps) past begun closed n at held e =
     let l = packetRecord p ++ recordsOf ps in
     let ok = ready-accepted past begun closed {p = p} {l = p ∷ ps} {ps = ps} refl n (fine-ready _ n n e (omega arith)) in
     let f = fits past p (held .0) (held .1) ok in
     let back = packet-back p (recordsOf ps) f in
     let go = sym (scan-goes past begun closed {p = p} {l = p ∷ ps} {ps = ps} refl ok) ∙ e in
-    let fine : packetRefusal past at l ≡ 0 =
-    second _ _ (packet-format at p (recordsOf ps) h f) ∙ ap (numberOf past) (back .same) ∙ ok in
+    let fine : packetRefusal past l ≡ 0 =
+    second _ _ (packet-format p (recordsOf ps) f) ∙ ap (numberOf past) (back .same) ∙ ok in
     let then =
-    packets-written ps (nextOf past (p .time)) (begun || marked p) (closed + closes begun p) n (at + 16) (omega arith) (held .2) go in
+    packets-written ps (nextOf past (p .time)) (begun || marked p) (closed + closes begun p) n (at + 16) (held .2) go in
     let rest : packetsIn (nextOf past (packetAt l .time)) (at + 16) (drop 16 l) ≡ every ps =
     ap (λ q. packetsIn (nextOf past (q .time)) (at + 16) (drop 16 l)) (back .same)
     ∙ ap (packetsIn (nextOf past (p .time)) (at + 16)) (drop-at (packetRecord p) (recordsOf ps) 16 (length-packet p))
     ∙ then in
-    packets-go past at l h fine ∙ ap (more (packetAt l)) rest ∙ ap (λ q. more q (every ps)) (back .same)
+    packets-go past at l fine ∙ ap (more (packetAt l)) rest ∙ ap (λ q. more q (every ps)) (back .same)
 
 -- the whole file
 pub file-written : (s : Parameters) (ps : List Packet) (n : ℕ) → ParametersHeld s → PacketsHeld ps
@@ -82,12 +81,12 @@ file-written s ps n hs hp e f =
     let back = parameters-back s (recordsOf ps) hs in
     let long : length (parameterRecord s) ≡ 18 = omega (arith, length-head s) in
     let size : length l ≡ 18 + length (recordsOf ps) = length-append (parameterRecord s) (recordsOf ps) ∙ rw long in
-    let whole : Whole 1 16 l = record {
-      past-version = omega arith;
+    let here : Whole 16 1 l = record {
       length-read = sym (back .body-16);
+      kind-read = sym (back .kind-1);
       some-body = omega arith;
       all-there = omega arith;
     } in
-    let format = first-0 whole (sym (kind-1 (kindOf l) (back .kind-1))) refl (back .kind-1) in
+    let format : formatRefusal true l ≡ 0 = there true l here ∙ rw (length-16 1 parameters-1, parameters-1) in
     reading-go (1 ∷ l) refl (second _ _ format ∙ ap setUpRefusal (back .same) ∙ e)
-    ∙ rw (back .same, drop-at (parameterRecord s) (recordsOf ps) 18 long, packets-written ps nothing false 0 n 19 (omega arith) hp f)
+    ∙ rw (back .same, drop-at (parameterRecord s) (recordsOf ps) 18 long, packets-written ps nothing false 0 n 19 hp f)

@@ -1,6 +1,6 @@
 -- The record file: the sentences of document 01, each above what renders it. A list of bytes is read from its front:
 -- `l` is the rest of a file from one record's length on, and `at` that record's offset.
-use mathlib.Core.Bool.{Bool, not, _&&_}
+use mathlib.Core.Bool.{Bool, true, false, not, _&&_}
 use mathlib.Core.List.{List, [], _∷_}
 use Prim.Native.Nat.{ℕ, zero, suc, _+_}
 use lib.Dec.{ltb, eqb}
@@ -41,36 +41,40 @@ parametersAt l = record {
 abbrev pub packetAt : List ℕ → Packet
 packetAt l = record { time = numberAt 8 l 3; stamp = numberAt 4 l 11; marker = getD l 15 0 }
 
--- the length of each kind's body, by its number; 0 for an unknown kind
+-- the kinds whose records hold the parameters
+unfoldable pub isParameters : ℕ → Bool
+isParameters kind = eqb kind 1
+
+-- the length of each kind's body; 0, which no record has, for an unknown kind
 unfoldable pub kindLength : ℕ → ℕ
-kindLength kind = getD (0 ∷ 16 ∷ 14 ∷ []) kind 0
+kindLength kind = pick (isParameters kind) 16 (pick (eqb kind 2) 14 0)
 
 -- "A lone version byte is 23 at offset 1."
-abbrev pub lone : ℕ → List ℕ → Bool
-lone at l = eqb at 1 && eqb (length l) 0
+abbrev pub lone : Bool → List ℕ → Bool
+lone first l = first && eqb (length l) 0
 
 -- what 23 is not: "no parameters first, or parameters again"
-abbrev pub inPlace : ℕ → ℕ → Bool
-inPlace at kind = pick (eqb at 1) (eqb kind 1) (not (eqb kind 1))
+abbrev pub inPlace : Bool → ℕ → Bool
+inPlace first kind = pick first (isParameters kind) (not (isParameters kind))
 
 -- "21 record cut short, or its length 0; 22 unknown kind, or wrong length for its kind; 23 no parameters first, or parameters again":
--- "at one record 21, 22, 23 come in that order"; 0 where none is given
-unfoldable pub formatRefusal : ℕ → List ℕ → ℕ
-formatRefusal at l =
-    pick (lone at l) 23
+-- "at one record 21, 22, 23 come in that order"; 0 where none is given. `first`: it is the first record of the file
+unfoldable pub formatRefusal : Bool → List ℕ → ℕ
+formatRefusal first l =
+    pick (lone first l) 23
     (pick (ltb (length l) 2) 21
     (pick (eqb (bodyLength l) 0) 21
     (pick (ltb (length l) (2 + bodyLength l)) 21
     (pick (eqb (bodyLength l) (kindLength (kindOf l)))
-    (pick (inPlace at (kindOf l)) 0 23)
+    (pick (inPlace first (kindOf l)) 0 23)
     22))))
 
 -- 21 to 23 come "before set-up and packet refusals"
 abbrev pub parametersRefusal : List ℕ → ℕ
-parametersRefusal l = orElse (formatRefusal 1 l) (setUpRefusal (parametersAt l))
+parametersRefusal l = orElse (formatRefusal true l) (setUpRefusal (parametersAt l))
 
-abbrev pub packetRefusal : Past → ℕ → List ℕ → ℕ
-packetRefusal past at l = orElse (formatRefusal at l) (numberOf past (packetAt l))
+abbrev pub packetRefusal : Past → List ℕ → ℕ
+packetRefusal past l = orElse (formatRefusal false l) (numberOf past (packetAt l))
 
 -- "Reading stops at the first record that is refused and gives its offset"
 
@@ -95,9 +99,9 @@ unfoldable pub packetsBy : ℕ → Past → ℕ → List ℕ → Packets
 packetsBy zero past at l = none done
 packetsBy (suc k) past at l =
     pick (eqb (length l) 0) (none done)
-    (pick (eqb (packetRefusal past at l) 0)
+    (pick (eqb (packetRefusal past l) 0)
     (more (packetAt l) (packetsBy k (nextOf past (packetAt l .time)) (at + (2 + bodyLength l)) (drop (2 + bodyLength l) l)))
-    (none (stopped (packetRefusal past at l) at)))
+    (none (stopped (packetRefusal past l) at)))
 
 abbrev pub packetsIn : Past → ℕ → List ℕ → Packets
 packetsIn past at l = packetsBy (length l) past at l

@@ -5,129 +5,165 @@ use mathlib.Core.List.{List, [], _∷_, _++_}
 use Prim.Native.Nat.{ℕ, zero, suc, _+_, _*_, _<_}
 use lib.ListN.{length, drop}
 use Rattle.laws.specs.Choose.{pick}
+use Rattle.limits.specs.declared.Parameters.{Parameters}
+use Rattle.limits.specs.Paper.{setUpRefusal}
 use Rattle.packet.specs.declared.Past.{Past}
 use Rattle.packet.specs.declared.Packet as packet
-use Rattle.packet.specs.Step.{nothing, refusalOf}
+use Rattle.packet.specs.Step.{nothing, numberOf}
 use Rattle.packet.specs.Calls.{pastAfter}
-use Rattle.limits.specs.declared.Parameters as limits
-use Rattle.record.specs.declared.Read.{Read}
-use Rattle.record.specs.declared.Read.the-variants.{Version, Parameters, Packet, End, More, Refused}
-use Rattle.limits.specs.Paper.{setUpRefusal}
+use Rattle.record.specs.declared.Head.{Head}
+use Rattle.record.specs.declared.Head.the-variants as head
+use Rattle.record.specs.declared.Next.{Next}
+use Rattle.record.specs.declared.Next.the-variants.{Packet, End, More, Refused}
 use Rattle.record.specs.Paper.{Ending, done, stopped, Reading, unread, read}
-use Rattle.record.specs.Step.{cursor, itemOf, pieceOf}
+use Rattle.record.specs.Step.{cursor, headPiece, headRead, nextPiece, nextRead}
 
 -- whether reading goes on after an answer, at what offset, and how many bytes it took
-abbrev pub goesOn : Read → Bool
-goesOn (Version c) = true
-goesOn (Parameters s c) = true
-goesOn (Packet t stamp marker c) = true
+abbrev pub goesOn : Next → Bool
+goesOn (Packet p c) = true
 goesOn End = false
 goesOn More = false
-goesOn (Refused number offset) = false
+goesOn (Refused number offset size) = false
 
-abbrev pub nextAt : Read → ℕ
-nextAt (Version c) = c .at
-nextAt (Parameters s c) = c .at
-nextAt (Packet t stamp marker c) = c .at
+abbrev pub nextAt : Next → ℕ
+nextAt (Packet p c) = c .at
 nextAt End = 0
 nextAt More = 0
-nextAt (Refused number offset) = 0
+nextAt (Refused number offset size) = 0
 
-abbrev pub taken : Read → ℕ
-taken (Version c) = 1
-taken (Parameters s c) = 18
-taken (Packet t stamp marker c) = 16
+abbrev pub taken : Next → ℕ
+taken (Packet p c) = 16
 taken End = 0
 taken More = 0
-taken (Refused number offset) = 0
+taken (Refused number offset size) = 0
 
 -- the paper's number, 0 where nothing is refused, and its offset
-abbrev pub readNumber : Read → ℕ
-readNumber (Version c) = 0
-readNumber (Parameters s c) = 0
-readNumber (Packet t stamp marker c) = 0
+abbrev pub readNumber : Next → ℕ
+readNumber (Packet p c) = 0
 readNumber End = 0
 readNumber More = 0
-readNumber (Refused number offset) = number
+readNumber (Refused number offset size) = number
 
-abbrev pub readOffset : Read → ℕ
-readOffset (Version c) = 0
-readOffset (Parameters s c) = 0
-readOffset (Packet t stamp marker c) = 0
+abbrev pub readOffset : Next → ℕ
+readOffset (Packet p c) = 0
 readOffset End = 0
 readOffset More = 0
-readOffset (Refused number offset) = offset
+readOffset (Refused number offset size) = offset
 
-abbrev pub wantsMore : Read → Bool
-wantsMore (Version c) = false
-wantsMore (Parameters s c) = false
-wantsMore (Packet t stamp marker c) = false
+abbrev pub wantsMore : Next → Bool
+wantsMore (Packet p c) = false
 wantsMore End = false
 wantsMore More = true
-wantsMore (Refused number offset) = false
+wantsMore (Refused number offset size) = false
+
+abbrev pub headWaits : Head → Bool
+headWaits (head.Ready version kind parameters c) = false
+headWaits head.More = true
+headWaits (head.Refused number offset) = false
+
+abbrev pub headNumber : Head → ℕ
+headNumber (head.Ready version kind parameters c) = 0
+headNumber head.More = 0
+headNumber (head.Refused number offset) = number
+
+-- all that the reader answers: the head, and what comes after it, which is nothing where the head is refused
+pub record Heard : Type 0 where
+  pub head : Head
+  pub after : List Next
+
+abbrev pub afterHead : Head → (ℕ → List Next) → List Next
+afterHead (head.Ready version kind parameters c) on = on (c .at)
+afterHead head.More on = []
+afterHead (head.Refused number offset) on = []
+
+abbrev pub heard : Head → (ℕ → List Next) → Heard
+heard h on = record { head = h; after = afterHead h on }
 
 -- `Cursor::read` called on a whole file again and again, each time with the cursor that the answer before gave, up to the end or the
 -- first refusal; by at most so many calls
-unfoldable pub callsOf : ℕ → ℕ → List ℕ → List Read
+unfoldable pub callsOf : ℕ → ℕ → List ℕ → List Next
 callsOf zero at s = []
-callsOf (suc k) at s = itemOf at (drop at s) ∷ pick (goesOn (itemOf at (drop at s))) (callsOf k (nextAt (itemOf at (drop at s))) s) []
+callsOf (suc k) at s = nextRead at (drop at s) ∷ pick (goesOn (nextRead at (drop at s))) (callsOf k (nextAt (nextRead at (drop at s))) s) []
+
+-- `read_head`, and then those calls
+abbrev pub allCalls : ℕ → List ℕ → Heard
+allCalls k s = heard (headRead s) (λ at. callsOf k at s)
 
 -- the same of the rest of a file, read from its front
-unfoldable pub answers : ℕ → ℕ → List ℕ → List Read
+unfoldable pub answers : ℕ → ℕ → List ℕ → List Next
 answers zero at l = []
 answers (suc k) at l =
-    itemOf at l ∷ pick (goesOn (itemOf at l)) (answers k (nextAt (itemOf at l)) (drop (taken (itemOf at l)) l)) []
+    nextRead at l ∷ pick (goesOn (nextRead at l)) (answers k (nextAt (nextRead at l)) (drop (taken (nextRead at l)) l)) []
+
+abbrev pub allAnswers : ℕ → List ℕ → Heard
+allAnswers k s = heard (headRead s) (λ at. answers k at (drop 19 s))
 
 -- the same of a file in pieces: the bytes held, and the pieces still to come; by at most so many steps
-unfoldable pub inPieces : ℕ → ℕ → List ℕ → List (List ℕ) → List Read
+unfoldable pub inPieces : ℕ → ℕ → List ℕ → List (List ℕ) → List Next
 inPieces zero at held pieces = []
 inPieces (suc k) at held [] =
-    pieceOf at held true
-    ∷ pick (goesOn (pieceOf at held true)) (inPieces k (nextAt (pieceOf at held true)) (drop (taken (pieceOf at held true)) held) []) []
+    nextPiece at held true
+    ∷ pick (goesOn (nextPiece at held true))
+    (inPieces k (nextAt (nextPiece at held true)) (drop (taken (nextPiece at held true)) held) []) []
 inPieces (suc k) at held (p ∷ pieces) =
-    pick (wantsMore (pieceOf at held false))
+    pick (wantsMore (nextPiece at held false))
     (inPieces k at (held ++ p) pieces)
-    (pieceOf at held false
-    ∷ pick (goesOn (pieceOf at held false))
-    (inPieces k (nextAt (pieceOf at held false)) (drop (taken (pieceOf at held false)) held) (p ∷ pieces)) [])
+    (nextPiece at held false
+    ∷ pick (goesOn (nextPiece at held false))
+    (inPieces k (nextAt (nextPiece at held false)) (drop (taken (nextPiece at held false)) held) (p ∷ pieces)) [])
 
--- ---- the records that the cursor gives, call after call, and what the file reads as
+-- from the first byte on: the head has 19 bytes
+unfoldable pub allInPieces : ℕ → List ℕ → List (List ℕ) → Heard
+allInPieces k held [] = heard (headPiece held true) (λ at. inPieces k at (drop 19 held) [])
+allInPieces k held (p ∷ pieces) =
+    pick (headWaits (headPiece held false))
+    (allInPieces k (held ++ p) pieces)
+    (heard (headPiece held false) (λ at. inPieces k at (drop 19 held) (p ∷ pieces)))
+
+-- ---- the records that the reader gives, call after call, and what the file reads as
 
 -- packets from an offset on, one after the other
-unfoldable pub toldPackets : ℕ → List packet.Packet → List Read
+unfoldable pub toldPackets : ℕ → List packet.Packet → List Next
 toldPackets at [] = []
-toldPackets at (p ∷ ps) = Packet (p .time) (p .stamp) (p .marker) (cursor (at + 16)) ∷ toldPackets (at + 16) ps
+toldPackets at (p ∷ ps) = Packet p (cursor (at + 16)) ∷ toldPackets (at + 16) ps
 
--- version, parameters, each packet in order
-abbrev pub told : limits.Parameters → List packet.Packet → List Read
-told s ps = Version (cursor 1) ∷ Parameters s (cursor 19) ∷ toldPackets 19 ps
+-- version 1 and kind 1 with the parameters
+abbrev pub toldHead : Parameters → Head
+toldHead parameters = head.Ready 1 1 parameters (cursor 19)
 
--- the number by which the record is refused that an answer gives: the cursor's own, or set-up's or the packet's after what came before
-abbrev pub refusalIn : Past → Read → ℕ
-refusalIn past (Version c) = 0
-refusalIn past (Parameters s c) = setUpRefusal s
-refusalIn past (Packet t stamp marker c) = refusalOf past t marker
+-- the head, each packet in order, the end
+abbrev pub told : Parameters → List packet.Packet → Heard
+told parameters ps = record { head = toldHead parameters; after = toldPackets 19 ps ++ (End ∷ []) }
+
+-- a head is refused with this number and offset: by the reader itself, or by set-up, which refuses the parameters at offset 1
+abbrev pub HeadRefused : ℕ → ℕ → Head → Type 0
+HeadRefused number offset (head.Ready version kind parameters c) = (setUpRefusal parameters ≡ number) × (offset ≡ 1)
+HeadRefused number offset head.More = ⊥
+HeadRefused number offset (head.Refused n o) = (n ≡ number) × (o ≡ offset)
+
+-- the number by which the record is refused that an answer gives: the reader's own, or the packet's after what came before
+abbrev pub refusalIn : Past → Next → ℕ
+refusalIn past (Packet p c) = numberOf past p
 refusalIn past End = 0
 refusalIn past More = 0
-refusalIn past (Refused number offset) = number
+refusalIn past (Refused number offset size) = number
 
 -- reading stopped at this answer, to the record at `at`, with this number and offset
-pub record StopsAt (past : Past) (at number offset : ℕ) (r : Read) : Type 0 where
+pub record StopsAt (past : Past) (at number offset : ℕ) (r : Next) : Type 0 where
   pub number-is : refusalIn past r ≡ number
   pub offset-is : offset ≡ at
   pub own : 0 < readNumber r → readOffset r ≡ offset
 
--- some answers, and then that one; more may follow where the cursor itself does not refuse
-abbrev pub Then : List Read → (Read → Type 0) → List Read → Type 0
-Then front P l = (r : Read) × (more : List Read) × (l ≡ front ++ (r ∷ more)) × P r
+-- some answers, and then that one; more may follow where the reader itself does not refuse
+abbrev pub Then : List Next → (Next → Type 0) → List Next → Type 0
+Then front P l = (r : Next) × (more : List Next) × (l ≡ front ++ (r ∷ more)) × P r
 
-abbrev pub AnsweredBy : limits.Parameters → List packet.Packet → Ending → List Read → Type 0
-AnsweredBy s ps done l = l ≡ told s ps ++ (End ∷ [])
-AnsweredBy s ps (stopped number offset) l =
-    Then (told s ps) (StopsAt (pastAfter nothing ps) (19 + 16 * length ps) number offset) l
+abbrev pub AnsweredBy : Past → ℕ → List packet.Packet → Ending → List Next → Type 0
+AnsweredBy past at ps done l = l ≡ toldPackets at ps ++ (End ∷ [])
+AnsweredBy past at ps (stopped number offset) l =
+    Then (toldPackets at ps) (StopsAt (pastAfter past ps) (at + 16 * length ps) number offset) l
 
 -- the answers of a file are its records: all of them and the end, or those up to the refusal, with its number and offset
-abbrev pub Answered : Reading → List Read → Type 0
-Answered (unread number zero) l = l ≡ Refused number 0 ∷ []
-Answered (unread number (suc offset)) l = Then (Version (cursor 1) ∷ []) (StopsAt nothing 1 number (suc offset)) l
-Answered (read s r) l = AnsweredBy s (r .accepted) (r .ending) l
+abbrev pub Answered : Reading → Heard → Type 0
+Answered (unread number offset) y = HeadRefused number offset (y .head)
+Answered (read parameters r) y = (y .head ≡ toldHead parameters) × AnsweredBy nothing 19 (r .accepted) (r .ending) (y .after)

@@ -1,67 +1,101 @@
--- What the cursor answers at an offset, of the whole rest of a file and of a piece of it: what the contracts cite.
+-- What the reader answers: how a record is framed, and from that the head of a file and what comes after it, of the whole rest of a file
+-- and of a piece of it. What the contracts cite; proofs/Saying.antt says what it is in the paper's words.
 use mathlib.Core.Path.{_≡_}
-use mathlib.Core.Bool.{Bool, true, false, not, _&&_, _||_}
+use mathlib.Core.Bool.{Bool, true, _&&_}
 use mathlib.Core.List.{List}
 use Prim.Native.Nat.{ℕ, _+_, _%_, _^_, _≤_, _<_}
 use lib.Dec.{ltb, leb, eqb}
-use lib.ListN.{length}
+use lib.ListN.{length, drop, getD}
 use Rattle.laws.specs.Choose.{pick}
 use Rattle.record.specs.declared.Cursor.{Cursor}
-use Rattle.record.specs.declared.Read.{Read}
-use Rattle.record.specs.declared.Read.the-variants.{Version, Parameters, Packet, End, More, Refused}
-use Rattle.record.specs.Paper.{versionFits, bodyLength, kindOf, parametersAt, packetAt, formatRefusal}
+use Rattle.record.specs.declared.Framed.{Framed}
+use Rattle.record.specs.declared.Framed.the-variants as framed
+use Rattle.record.specs.declared.Head.{Head}
+use Rattle.record.specs.declared.Head.the-variants as head
+use Rattle.record.specs.declared.Next.{Next}
+use Rattle.record.specs.declared.Next.the-variants as next
+use Rattle.record.specs.Paper.{versionFits, bodyLength, kindOf, parametersAt, packetAt, isParameters, kindLength}
+
+-- ---- framing: what stands in front of a window, after which more may come unless it is the last
+
+-- fewer than the two bytes of a length
+unfoldable pub scrapOf : ℕ → Bool → Framed
+scrapOf size last = pick last (pick (eqb size 0) framed.Nothing framed.Cut) framed.More
+
+unfoldable pub framedOf : List ℕ → Bool → Framed
+framedOf w last =
+    pick (ltb (length w) 2) (scrapOf (length w) last)
+    (pick (eqb (bodyLength w) 0) framed.Cut
+    (pick (ltb (length w) (2 + bodyLength w)) (pick last framed.Cut framed.More)
+    (framed.Whole (bodyLength w) (kindOf w))))
+
+-- a record that is all there, with its body's length and its kind
+pub record Whole (body kind : ℕ) (l : List ℕ) : Type 0 where
+  pub length-read : body ≡ bodyLength l
+  pub kind-read : kind ≡ kindOf l
+  pub some-body : 0 < body
+  pub all-there : 2 + body ≤ length l
+
+-- ---- the head of a file
 
 abbrev pub cursor : ℕ → Cursor
 cursor at = record { at = at }
+
+-- the first record, by its length and its kind
+unfoldable pub firstOf : ℕ → ℕ → ℕ → List ℕ → Head
+firstOf version body kind l =
+    pick (eqb body (kindLength kind))
+    (pick (isParameters kind) (head.Ready version kind (parametersAt l) (cursor 19)) (head.Refused 23 1))
+    (head.Refused 22 1)
+
+abbrev pub headBy : ℕ → List ℕ → Framed → Head
+headBy version l framed.Nothing = head.Refused 23 1
+headBy version l framed.Cut = head.Refused 21 1
+headBy version l (framed.Whole body kind) = firstOf version body kind l
+headBy version l framed.More = head.More
+
+-- of a window from the first byte on
+unfoldable pub headPiece : List ℕ → Bool → Head
+headPiece w last =
+    pick (eqb (length w) 0) (pick last (head.Refused 20 0) head.More)
+    (pick (versionFits w) (headBy (getD w 0 0) (drop 1 w) (framedOf (drop 1 w) last)) (head.Refused 20 0))
+
+abbrev pub headRead : List ℕ → Head
+headRead s = headPiece s true
+
+-- ---- what comes after it
 
 -- an offset past 2^64 wraps: no file is that long
 abbrev pub after : ℕ → ℕ → Cursor
 after at size = cursor ((at + size) % 2 ^ 64)
 
-abbrev pub packetOf : List ℕ → Cursor → Read
-packetOf l next = Packet (packetAt l .time) (packetAt l .stamp) (packetAt l .marker) next
+abbrev pub packetOf : List ℕ → Cursor → Next
+packetOf l c = next.Packet (packetAt l) c
 
-abbrev pub versionOf : List ℕ → Read
-versionOf l = pick (versionFits l) (Version (cursor 1)) (Refused 20 0)
+-- the bytes of a refused record, its length among them: behind them the next one begins. At 21 there is no length to go by
+abbrev pub stepOver : ℕ → List ℕ → ℕ
+stepOver number l = pick (eqb number 21) 0 (2 + bodyLength l)
 
--- an accepted record: the parameters are 18 bytes, a packet 16
-abbrev pub recordOf : ℕ → List ℕ → Read
-recordOf at l = pick (eqb at 1) (Parameters (parametersAt l) (cursor 19)) (packetOf l (after at 16))
+-- a record, by its length and its kind; one that is refused tells its size, so that it can be stepped over
+unfoldable pub wholeOf : ℕ → ℕ → ℕ → List ℕ → Next
+wholeOf at body kind l =
+    pick (eqb body (kindLength kind))
+    (pick (isParameters kind) (next.Refused 23 at (2 + body)) (packetOf l (after at 16)))
+    (next.Refused 22 at (2 + body))
 
--- nothing is left after the parameters or a packet
-abbrev pub ended : ℕ → List ℕ → Bool
-ended at l = not (eqb at 1) && eqb (length l) 0
+abbrev pub nextBy : ℕ → List ℕ → Framed → Next
+nextBy at l framed.Nothing = next.End
+nextBy at l framed.Cut = next.Refused 21 at 0
+nextBy at l (framed.Whole body kind) = wholeOf at body kind l
+nextBy at l framed.More = next.More
 
--- what stands at an offset, l being the whole rest of the file from there on
-unfoldable pub itemOf : ℕ → List ℕ → Read
-itemOf at l =
-    pick (eqb at 0) (versionOf l)
-    (pick (ended at l) End
-    (pick (eqb (formatRefusal at l) 0) (recordOf at l) (Refused (formatRefusal at l) at)))
+-- of a window from an offset on
+unfoldable pub nextPiece : ℕ → List ℕ → Bool → Next
+nextPiece at w last = nextBy at w (framedOf w last)
 
--- the window shows all that the answer hangs on: the version byte; a length of 0, or a whole record
-unfoldable pub enough : ℕ → List ℕ → Bool
-enough at w =
-    pick (eqb at 0) (leb 1 (length w))
-    (pick (ltb (length w) 2) false
-    (pick (eqb (bodyLength w) 0) true
-    (leb (2 + bodyLength w) (length w))))
-
--- the answer to a window, after which more may come
-unfoldable pub pieceOf : ℕ → List ℕ → Bool → Read
-pieceOf at w last = pick (last || enough at w) (itemOf at w) More
-
--- the answer where fewer than the two bytes of a length are left
-unfoldable pub scrapOf : ℕ → ℕ → Bool → Read
-scrapOf at size last = pick last (pick (eqb size 0) (pick (eqb at 1) (Refused 23 1) End) (Refused 21 at)) More
+abbrev pub nextRead : ℕ → List ℕ → Next
+nextRead at l = nextPiece at l true
 
 -- a whole packet's record stands in front
 unfoldable pub standsIn : List ℕ → Bool
 standsIn l = leb 16 (length l) && (eqb (bodyLength l) 14 && eqb (kindOf l) 2)
-
--- a record is all there, and its length is not 0
-pub record Whole (at body : ℕ) (l : List ℕ) : Type 0 where
-  pub past-version : 0 < at
-  pub length-read : body ≡ bodyLength l
-  pub some-body : 0 < body
-  pub all-there : 2 + body ≤ length l

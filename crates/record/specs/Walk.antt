@@ -8,8 +8,10 @@ use Rattle.packet.specs.Paper.{closesAt}
 use Rattle.packet.specs.Step.{tallyOf}
 use Rattle.limits.specs.declared.Parameters.{Parameters}
 use Rattle.packet.specs.declared.Tally.{Tally}
-use Rattle.record.specs.declared.Read.{Read}
-use Rattle.record.specs.declared.Read.the-variants as item
+use Rattle.record.specs.declared.Head.{Head}
+use Rattle.record.specs.declared.Head.the-variants as head
+use Rattle.record.specs.declared.Next.{Next}
+use Rattle.record.specs.declared.Next.the-variants as next
 use Rattle.record.specs.declared.Checked.{Checked}
 use Rattle.record.specs.declared.Checked.the-variants.{Fine, Refused}
 use Rattle.record.specs.Paper.{Ending, done, stopped, Packets, File, file, refused, fileOf}
@@ -42,19 +44,14 @@ finishBy numbers y ps (stopped number offset) = Refused number offset
 abbrev pub finish : Parameters → Tally → Packets → Checked
 finish numbers y r = finishBy numbers y (r .accepted) (r .ending)
 
--- an item at which reading stops
-unfoldable pub closing : Read → Parameters → Tally → Checked
-closing (item.Version c) numbers y = fineWith numbers y
-closing (item.Parameters s c) numbers y = fineWith numbers y
-closing (item.Packet t stamp marker c) numbers y = fineWith numbers y
-closing item.End numbers y = fineWith numbers y
-closing item.More numbers y = fineWith numbers y
-closing (item.Refused number offset) numbers y = Refused number offset
+-- what stands where the walk stops, and a head that is none
+unfoldable pub closing : Next → Parameters → Tally → Checked
+closing (next.Packet p c) parameters y = fineWith parameters y
+closing next.End parameters y = fineWith parameters y
+closing next.More parameters y = fineWith parameters y
+closing (next.Refused number offset size) parameters y = Refused number offset
 
-unfoldable pub refusedBy : Read → Checked
-refusedBy (item.Version c) = Refused 0 0
-refusedBy (item.Parameters s c) = Refused 0 0
-refusedBy (item.Packet t stamp marker c) = Refused 0 0
-refusedBy item.End = Refused 0 0
-refusedBy item.More = Refused 0 0
-refusedBy (item.Refused number offset) = Refused number offset
+unfoldable pub refusedBy : Head → Checked
+refusedBy (head.Ready version kind parameters c) = Refused 0 0
+refusedBy head.More = Refused 0 0
+refusedBy (head.Refused number offset) = Refused number offset

@@ -1,5 +1,5 @@
-// The record file: a cursor that reads one record after the other, of a whole file or of pieces as they come, the check of a
-// whole file, and the writer. It knows the file's layout, and asks `limits` and `packet` what they refuse.
+// The record file: its head and a cursor that reads one record after the other, of a whole file or of pieces as they come, the check
+// of a whole file, and the writer. It knows the file's layout, and asks `limits` and `packet` what they refuse.
 // It must never know what is measured: no bucket, no frame, no verdict. No body is read before its length is checked.
 use endian::read16;
 use endian::read32;
@@ -13,44 +13,56 @@ use packet::Past;
 use packet::Scanned;
 use packet::Tally;
 ghost use mathlib.Core.Path.{_≡_};
+ghost use mathlib.Core.Bool.{true};
 ghost use Prim.Native.Nat.{_<_};
 ghost use lib.ListN.{drop};
 ghost use lib.Seq.{sets};
 ghost use Rattle.endian.specs.Number.{Room};
+ghost use Rattle.record.specs.declared.Head.the-variants.{Refused};
 ghost use Rattle.packet.specs.Paper.{packets};
 ghost use Rattle.packet.specs.Step.{nothing, noPackets};
-ghost use Rattle.record.specs.Paper.{parametersAt, packetAt, kindLength, packetsIn};
-ghost use Rattle.record.specs.Step.{after, itemOf, pieceOf, scrapOf, Whole, standsIn, packetOf};
+ghost use Rattle.record.specs.Paper.{parametersAt, packetAt, isParameters, kindLength, packetsIn};
+ghost use Rattle.record.specs.Step.{scrapOf, framedOf, Whole, firstOf, headBy, headPiece, after, packetOf, wholeOf, nextPiece, standsIn};
 ghost use Rattle.record.specs.Layout.{packetWith, packetRecord, headOf, recordsOf};
 ghost use Rattle.record.specs.Write.{scanning, writtenOf, Writes, Fitting};
 ghost use Rattle.record.specs.Walk.{closing, refusedBy, finish, checkedOf};
 
-// Where the reader stands: at 0 the version byte is next, at 1 the parameters, further on a packet or the end.
+// Where the reader stands after the head of a file: at a packet, or at the end.
 pub struct Cursor {
     pub at: u64,
 }
 
-// What stands at a cursor. More is answered of a piece alone: it ends before the answer is known.
-pub enum Read {
-    Version {
+// What stands in front, before what it holds is looked at: nothing; a record that is cut short or whose length is 0; a whole
+// record. More is answered of a piece alone: it ends before the answer is known.
+pub enum Framed {
+    Nothing,
+    Cut,
+    Whole { body: u16, kind: u8 },
+    More,
+}
+
+// The head of a file, its version byte and its parameters; version and kind are kept as written.
+pub enum Head {
+    Ready {
+        version: u8,
+        kind: u8,
+        parameters: Parameters,
         next: Cursor,
     },
-    Parameters {
-        numbers: Parameters,
-        next: Cursor,
-    },
-    Packet {
-        t: u64,
-        stamp: u32,
-        marker: u8,
-        next: Cursor,
-    },
-    End,
     More,
     Refused {
         number: u8,
         offset: u64,
     },
+}
+
+// What stands at a cursor. A refused record tells its size, its length among it: the next one begins so far behind it, and 0 is
+// told where it has no length.
+pub enum Next {
+    Packet { packet: Packet, next: Cursor },
+    End,
+    More,
+    Refused { number: u8, offset: u64, size: u64 },
 }
 
 // A whole file: fine, with the numbers of packets and of frames that close; or the number and offset of its first refusal.
@@ -72,19 +84,30 @@ pub enum Written {
     Refused { number: u8, place: u64 },
 }
 
+const VERSION: u8 = 1;
+
 const PARAMETERS: u8 = 1;
 
 const PACKET: u8 = 2;
+
+// The one place that tells which kinds hold the parameters.
+fn is_parameters(kind: u8) -> bool
+    ensures { λ r. ⌜ r ≡ isParameters kind ⌝ }
+{
+    kind == PARAMETERS
+}
 
 // The one place that tells what lengths the kinds have; 0, which no record has, for an unknown kind.
 fn kind_length(kind: u8) -> u16
     ensures { λ r. ⌜ r ≡ kindLength kind ⌝ }
 {
-    match kind {
-        1 => 16,
-        2 => 14,
-        _ => 0,
+    if is_parameters(kind) {
+        return 16;
     }
+    if kind == PACKET {
+        return 14;
+    }
+    0
 }
 
 //  0        2      3      4          5       6        8     12       14    18
@@ -119,15 +142,12 @@ pub fn packet_at(s: &[u8]) -> Packet
     }
 }
 
-fn packet_of(s: &[u8], next: Cursor) -> Read
+fn packet_of(s: &[u8], next: Cursor) -> Next
     requires { ⌜ Room 16 (now s) 0 ⌝ }
     ensures { λ r. ⌜ r ≡ packetOf (now (s .entry)) next ⌝ }
 {
-    let packet = packet_at(s);
-    Read::Packet {
-        t: packet.time,
-        stamp: packet.stamp,
-        marker: packet.marker,
+    Next::Packet {
+        packet: packet_at(s),
         next: next,
     }
 }
@@ -154,53 +174,104 @@ fn after_packet(at: u64) -> Cursor
     }
 }
 
-// At offset 0.
-fn version(window: &[u8], last: bool) -> Read
-    ensures { λ r. ⌜ r ≡ pieceOf 0 (now (window .entry)) last ⌝ }
+// Too few bytes for a length.
+fn scrap(size: usize, last: bool) -> Framed
+    ensures { λ r. ⌜ r ≡ scrapOf size last ⌝ }
 {
-    if window.len() == 0 {
+    if !last {
+        return Framed::More;
+    }
+    if size == 0 {
+        return Framed::Nothing;
+    }
+    Framed::Cut
+}
+
+// What stands in front of `window`; `last`: no more will come.
+pub fn frame(window: &[u8], last: bool) -> Framed
+    ensures { λ r. ⌜ r ≡ framedOf (now (window .entry)) last ⌝ }
+{
+    if window.len() < 2 {
+        return scrap(window.len(), last);
+    }
+    let body = read16(window, 0);
+    if body == 0 {
+        return Framed::Cut;
+    }
+    if window.len() - 2 < body as usize {
         if last {
-            return Read::Refused {
-                number: 20,
-                offset: 0,
-            };
+            return Framed::Cut;
         }
-        return Read::More;
+        return Framed::More;
     }
-    if window[0] != 1 {
-        return Read::Refused {
-            number: 20,
-            offset: 0,
-        };
-    }
-    Read::Version {
-        next: Cursor { at: 1 },
+    Framed::Whole {
+        body: body,
+        kind: window[2],
     }
 }
 
-impl Cursor {
-    // At the start of a file.
-    pub fn start() -> Cursor
-        ensures { λ r. ⌜ r .at ≡ 0 ⌝ }
-    {
-        Cursor { at: 0 }
+fn head_refused(number: u8, offset: u64) -> Head
+    ensures { λ r. ⌜ r ≡ Refused number offset ⌝ }
+{
+    Head::Refused {
+        number: number,
+        offset: offset,
     }
+}
 
-    // What stands at the cursor in the whole file `s`.
-    pub fn read(self, s: &[u8]) -> Read
-        ensures { λ r. ⌜ r ≡ itemOf (self .at) (drop (self .at) (now (s .entry))) ⌝ }
-    {
-        let at = self.at as usize;
-        if s.len() < at {
-            return self.read_piece(&s[s.len()..], true);
+// A first record that is all there.
+fn first_record(version: u8, body: u16, kind: u8, s: &[u8]) -> Head
+    requires { ⌜ Whole body kind (now s) ⌝ }
+    ensures { λ r. ⌜ r ≡ firstOf version body kind (now (s .entry)) ⌝ }
+{
+    if body != kind_length(kind) {
+        return head_refused(22, 1);
+    }
+    if !is_parameters(kind) {
+        return head_refused(23, 1);
+    }
+    Head::Ready {
+        version: version,
+        kind: kind,
+        parameters: parameters_of(s),
+        next: Cursor { at: 19 },
+    }
+}
+
+// What follows the version byte.
+fn first(version: u8, window: &[u8], last: bool) -> Head
+    ensures { λ r. ⌜ r ≡ headBy version (now (window .entry)) (framedOf (now (window .entry)) last) ⌝ }
+{
+    let framed = frame(window, last);
+    match framed {
+        Framed::Nothing => head_refused(23, 1),
+        Framed::Cut => head_refused(21, 1),
+        Framed::Whole { body, kind } => first_record(version, body, kind, window),
+        Framed::More => Head::More,
+    }
+}
+
+// The head of a file, of which `window` shows the bytes from the first on; `last`: no more will come.
+pub fn read_head(window: &[u8], last: bool) -> Head
+    ensures { λ r. ⌜ r ≡ headPiece (now (window .entry)) last ⌝ }
+{
+    if window.len() == 0 {
+        if last {
+            return head_refused(20, 0);
         }
-        self.read_piece(&s[at..], true)
+        return Head::More;
     }
+    if window[0] != VERSION {
+        return head_refused(20, 0);
+    }
+    first(window[0], &window[1..], last)
+}
 
-    // The same after the parameters, in the walk over a file: a packet's record is looked for here, so that each costs no call.
-    fn read_next(self, s: &[u8]) -> Read
-        requires { ⌜ 1 < self .at ⌝ }
-        ensures { λ r. ⌜ r ≡ itemOf (self .at) (drop (self .at) (now (s .entry))) ⌝ }
+impl Cursor {
+    // What stands at the cursor in the whole file `s`. A packet's record is looked for here, so that in a walk over a file each
+    // costs no call.
+    pub fn read(self, s: &[u8]) -> Next
+        ensures { λ r. ⌜ r ≡ nextPiece (self .at) (drop (self .at) (now (s .entry))) true ⌝ }
     {
         let at = self.at as usize;
         if s.len() < at {
@@ -213,111 +284,67 @@ impl Cursor {
     }
 
     // What stands at the cursor, of which `window` shows the bytes from there on; `last`: no more will come.
-    // After the parameters a packet's record mostly stands there, and that is seen at once.
-    pub fn read_piece(self, window: &[u8], last: bool) -> Read
-        ensures { λ r. ⌜ r ≡ pieceOf (self .at) (now (window .entry)) last ⌝ }
+    // A packet's record mostly stands there, and that is seen at once.
+    pub fn read_piece(self, window: &[u8], last: bool) -> Next
+        ensures { λ r. ⌜ r ≡ nextPiece (self .at) (now (window .entry)) last ⌝ }
     {
-        let at = self.at;
-        if 1 < at {
-            if packet_stands(window) {
-                return packet_of(window, after_packet(at));
-            }
+        if packet_stands(window) {
+            return packet_of(window, after_packet(self.at));
         }
         self.read_any(window, last)
     }
 
     // The same, whatever stands there.
-    fn read_any(self, window: &[u8], last: bool) -> Read
-        ensures { λ r. ⌜ r ≡ pieceOf (self .at) (now (window .entry)) last ⌝ }
+    fn read_any(self, window: &[u8], last: bool) -> Next
+        ensures { λ r. ⌜ r ≡ nextPiece (self .at) (now (window .entry)) last ⌝ }
     {
-        let at = self.at;
-        if at == 0 {
-            return version(window, last);
-        }
-        if window.len() < 2 {
-            return self.scrap(window.len(), last);
-        }
-        let body = read16(window, 0);
-        if body == 0 {
-            return Read::Refused {
+        let framed = frame(window, last);
+        match framed {
+            Framed::Nothing => Next::End,
+            Framed::Cut => Next::Refused {
                 number: 21,
-                offset: at,
-            };
-        }
-        if window.len() - 2 < body as usize {
-            if last {
-                return Read::Refused {
-                    number: 21,
-                    offset: at,
-                };
-            }
-            return Read::More;
-        }
-        self.whole_record(body, window)
-    }
-
-    // Too few bytes for a length.
-    fn scrap(self, size: usize, last: bool) -> Read
-        ensures { λ r. ⌜ r ≡ scrapOf (self .at) size last ⌝ }
-    {
-        if !last {
-            return Read::More;
-        }
-        if size == 0 {
-            if self.at == 1 {
-                return Read::Refused {
-                    number: 23,
-                    offset: 1,
-                };
-            }
-            return Read::End;
-        }
-        Read::Refused {
-            number: 21,
-            offset: self.at,
+                offset: self.at,
+                size: 0,
+            },
+            Framed::Whole { body, kind } => self.whole_record(body, kind, window),
+            Framed::More => Next::More,
         }
     }
 
-    // A record that is all there, with the length of its body.
-    fn whole_record(self, body: u16, s: &[u8]) -> Read
-        requires { ⌜ Whole (self .at) body (now s) ⌝ }
-        ensures { λ r. ⌜ r ≡ itemOf (self .at) (now (s .entry)) ⌝ }
+    // A record that is all there, with the length of its body and its kind.
+    fn whole_record(self, body: u16, kind: u8, s: &[u8]) -> Next
+        requires { ⌜ Whole body kind (now s) ⌝ }
+        ensures { λ r. ⌜ r ≡ wholeOf (self .at) body kind (now (s .entry)) ⌝ }
     {
-        let at = self.at;
-        let kind = s[2];
+        let size = 2 + body as u64;
         if body != kind_length(kind) {
-            return Read::Refused {
+            return Next::Refused {
                 number: 22,
-                offset: at,
+                offset: self.at,
+                size: size,
             };
         }
-        if at == 1 {
-            if kind != PARAMETERS {
-                return Read::Refused {
-                    number: 23,
-                    offset: at,
-                };
-            }
-            return Read::Parameters {
-                numbers: parameters_of(s),
-                next: Cursor { at: 19 },
-            };
-        }
-        if kind == PARAMETERS {
-            return Read::Refused {
+        if is_parameters(kind) {
+            return Next::Refused {
                 number: 23,
-                offset: at,
+                offset: self.at,
+                size: size,
             };
         }
-        packet_of(s, after_packet(at))
+        packet_of(s, after_packet(self.at))
     }
 }
 
 // The answer where reading stops: at a refusal, or else at the end.
-fn closed(tally: Tally, item: Read, numbers: Parameters) -> Checked
+fn closed(tally: Tally, item: Next, numbers: Parameters) -> Checked
     ensures { λ r. ⌜ r ≡ closing item numbers tally ⌝ }
 {
-    let Read::Refused { number, offset } = item else {
+    let Next::Refused {
+        number,
+        offset,
+        size: _,
+    } = item
+    else {
         let past = tally.past;
         return Checked::Fine {
             numbers: numbers,
@@ -332,10 +359,10 @@ fn closed(tally: Tally, item: Read, numbers: Parameters) -> Checked
 }
 
 // The answer where reading stops before there are stream numbers: at a refusal, and at nothing else.
-fn refused_by(item: Read) -> Checked
-    ensures { λ r. ⌜ r ≡ refusedBy item ⌝ }
+fn refused_by(head: Head) -> Checked
+    ensures { λ r. ⌜ r ≡ refusedBy head ⌝ }
 {
-    let Read::Refused { number, offset } = item else {
+    let Head::Refused { number, offset } = head else {
         return Checked::Refused {
             number: 0,
             offset: 0,
@@ -351,46 +378,36 @@ fn refused_by(item: Read) -> Checked
 pub fn check(s: &[u8]) -> Checked
     ensures { λ r. ⌜ r ≡ checkedOf (now (s .entry)) ⌝ }
 {
-    let opening = Cursor::start().read(s);
-    let Read::Version { next } = opening else {
-        return refused_by(opening);
+    let head = read_head(s, true);
+    let Head::Ready {
+        version: _,
+        kind: _,
+        parameters,
+        next,
+    } = head
+    else {
+        return refused_by(head);
     };
-    let first = next.read(s);
-    let Read::Parameters { numbers, next } = first else {
-        return refused_by(first);
-    };
-    let number = numbers.refusal();
+    let number = parameters.refusal();
     if number != 0 {
         return Checked::Refused {
             number: number,
             offset: 1,
         };
     }
-    check_packets(numbers, next, s)
+    check_packets(parameters, next, s)
 }
 
 // The packets from an offset on, after the parameters.
 fn check_packets(numbers: Parameters, from: Cursor, s: &[u8]) -> Checked
-    requires { ⌜ 1 < from .at ⌝ }
     ensures { λ r. ⌜ r ≡ finish numbers noPackets (packetsIn nothing (from .at) (drop (from .at) (now (s .entry)))) ⌝ }
 {
     let mut cursor = from;
     let mut tally = Tally::none();
     loop {
-        let item = cursor.read_next(s);
-        let Read::Packet {
-            t,
-            stamp,
-            marker,
-            next,
-        } = item
-        else {
+        let item = cursor.read(s);
+        let Next::Packet { packet, next } = item else {
             return closed(tally, item, numbers);
-        };
-        let packet = Packet {
-            time: t,
-            stamp,
-            marker,
         };
         let past = tally.past;
         let number = past.refusal(packet);
@@ -474,7 +491,7 @@ fn write_parameters(numbers: Parameters, out: &mut [u8])
     requires { ⌜ Room 19 (now out) 0 ⌝ }
     ensures { λ _. ⌜ now (out .exit) ≡ sets (now (out .entry)) 0 (headOf numbers) ⌝ }
 {
-    out[0] = 1;
+    out[0] = VERSION;
     out[1] = 0;
     out[2] = 16;
     out[3] = PARAMETERS;

@@ -31,7 +31,7 @@ use Rattle.timing.specs.Laws.Scanning.{scan-runs}
 use Rattle.timing.specs.Laws.Running.{numbers-append, step-past, closes-rows, runs-arrives, runs-closed, runs-lays, next-runs, turn-marked}
 use Rattle.timing.specs.Laws.Running.{turn-plain}
 use Rattle.record.specs.Paper.{packetAt, done, Packets, packetRefusal, packetsIn}
-use Rattle.record.proofs.Items.{rest-all}
+use Rattle.record.proofs.Ways.{rest-all}
 use Rattle.record.proofs.Reading.{neither, packet-here, packets-end, packets-go, packets-accepted}
 use Rattle.record.proofs.ReadWrite.{packets-scan}
 use Rattle.report.specs.Paper.{inBytes, encoded, stateOf}
@@ -68,13 +68,12 @@ pub record Loop (x : StreamNumbers) (file out₀ : List ℕ) (rules : Rules) (s 
       ≡ sets out₀ 72 (encoded (numbers (rowsAfter (rulesOf x) (freshOf x) (packetsOf file))))
   pub runs : Runs rules s (rest file s from .accepted) at (length out / 8)
   pub ends : rest file s from .ending ≡ done
-  pub far : 1 < from
   pub same-length : length out ≡ length out₀
 
 pub loop-begins : (x : StreamNumbers) (file out : List ℕ) {rules : Rules} {s : State} → Measurable x file (length out) → rules ≡ rulesOf x
     → s ≡ freshOf x → Loop x file out rules s 19 9 out
 loop-begins x file out m er es =
-    let scans = packets-scan (length (drop 19 file)) nothing false 0 19 (drop 19 file) (omega arith) (omega arith) (m .whole) in
+    let scans = packets-scan (length (drop 19 file)) nothing false 0 19 (drop 19 file) (omega arith) (m .whole) in
     rw (er, es) (record {
       state = refl;
       all-stored = refl;
@@ -85,7 +84,6 @@ loop-begins x file out m er es =
         fits = m .fits;
       };
       ends = m .whole;
-      far = omega arith;
       same-length = refl;
     })
 
@@ -98,19 +96,19 @@ module _ {x : StreamNumbers} {file out₀ : List ℕ} {rules : Rules} {s : State
     abbrev p : Packet
     p = packetAt l
 
-    fine : packetRefusal (s .past) from l ≡ 0
-    fine = packets-accepted (s .past) from l (k .far) (omega (arith, length-drop from file, some)) (k .ends)
+    fine : packetRefusal (s .past) l ≡ 0
+    fine = packets-accepted (s .past) from l (omega (arith, length-drop from file, some)) (k .ends)
 
     pub sixteen : from + 16 ≤ length file
     sixteen =
-        let here = packet-here from l (λ z. omega (arith, k .far)) (neither _ _ fine .0) in
+        let here = packet-here l (neither _ _ fine .0) in
         omega (arith, here .sixteen, length-drop from file)
 
     abbrev next : Packets
     next = packetsIn (nextOf (s .past) (p .time)) (from + 16) (drop 16 l)
 
     goes : rest file s from ≡ record { accepted = p ∷ next .accepted; ending = next .ending }
-    goes = packets-go (s .past) from l (k .far) fine
+    goes = packets-go (s .past) from l fine
 
     these : Runs rules s (p ∷ next .accepted) at (length out / 8)
     these = subst (λ (r : Packets). Runs rules s (r .accepted) at (length out / 8)) goes (k .runs)
@@ -157,7 +155,6 @@ module _ {x : StreamNumbers} {file out₀ : List ℕ} {rules : Rules} {s : State
           all-stored = rw here left-stored;
           runs = rw (here, same) (next-runs these);
           ends = ap (λ (r : Packets). r .ending) (here ∙ refl) ∙ sym (ap (λ (r : Packets). r .ending) goes) ∙ k .ends;
-          far = omega (arith, k .far);
           same-length = same ∙ k .same-length;
         })
 
@@ -226,7 +223,7 @@ module _ {x : StreamNumbers} {file out₀ : List ℕ} {rules : Rules} {s : State
 pub measured-in-range : {x : StreamNumbers} {file before after : List ℕ} {room : ℕ} {s : State} → Measurable x file room
     → Measured x file before s after → inRange s ≡ true
 measured-in-range {x} {file} {s = s} m d =
-    let scans = packets-scan (length (drop 19 file)) nothing false 0 19 (drop 19 file) (omega arith) (omega arith) (m .whole) in
+    let scans = packets-scan (length (drop 19 file)) nothing false 0 19 (drop 19 file) (omega arith) (m .whole) in
     let passes = scan-runs (packetsOf file) (rulesOf x) (freshOf x) 0 (scans .0) (scans .1) .0 in
     of-sound s (subst Sound (sym (d .state-is)) (sound-after (packetsOf file) (freshOf x) (sound-fresh x (m .set-up)) passes))
 

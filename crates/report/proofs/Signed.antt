@@ -54,7 +54,7 @@ stamps-by (suc k) past from l b =
     let next = packetsBy k (nextOf past (packetAt l .time)) (from + size) (drop size l) in
     let more = stamps-by k (nextOf past (packetAt l .time)) (from + size) (drop size l) (bytes-drop size l b) in
     pick-either (λ (r : Packets). Held (r .accepted)) (eqb (length l) 0) (λ e i. omega arith) (λ e.
-    pick-either (λ (r : Packets). Held (r .accepted)) (eqb (packetRefusal past from l) 0)
+    pick-either (λ (r : Packets). Held (r .accepted)) (eqb (packetRefusal past l) 0)
     (λ e. one-more (packetAt l) (next .accepted) (read-small 4 l 11 b) more) (λ e i. omega arith))
 
 -- ---- the numbers of a report

@@ -1,6 +1,6 @@
 -- A refusal's line, else the sum's line where reading ends, else nothing.
 use mathlib.Core.Path.{sym, ap, _∙_}
-use Rattle.record.specs.declared.Read.{Read}
+use Rattle.record.specs.declared.Next.{Next}
 use Rattle.printer.specs.Step.{lineOf}
 use Rattle.printer.proofs.Answers.{last-sum, last-none, put-is, put-none}
 use borrow.Author.Needs.{needs}
@@ -41,7 +41,7 @@ returns-3 : tie.Need-returns-3
 unfolding lineOf
 returns-3 c = let i = c .before .before .before .before .before in
     let start = i .before .before .before in
-    put-is (ap (λ (r : Read). lineOf r (start .args .s)) (sym (i .item .given .1))) (c .before .before .put-refusal .ensures)
+    put-is (ap (λ (r : Next). lineOf r (start .args .s)) (sym (i .item .given .1))) (c .before .before .put-refusal .ensures)
 
 pub put-last-spec : {M : Type 1} → statement M
 put-last-spec =

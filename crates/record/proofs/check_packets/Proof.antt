@@ -18,7 +18,7 @@ abbrev Inv-loop : tie.InvT-loop
 Inv-loop numbers s cursor₀ tally₀ cursor tally =
     (finish numbers tally (packetsIn (tally .past) (cursor .at) (drop (cursor .at) s))
     ≡ finish numbers noPackets (packetsIn nothing (cursor₀ .at) (drop (cursor₀ .at) s)))
-    × (1 < cursor .at) × (tally .closed ≤ tally .past .packets)
+    × (tally .closed ≤ tally .past .packets)
 
 abbrev μ-loop : tie.MeasureT-loop
 μ-loop numbers s cursor₀ tally₀ cursor tally = length s - cursor .at
@@ -27,10 +27,10 @@ none-requires : tie.Need-none-requires Inv-loop μ-loop
 none-requires c κs = search needs
 
 loop-holds : tie.Need-loop-holds Inv-loop μ-loop
-loop-holds c = (rw (c .none .ensures), search needs, rw (c .none .ensures) (omega arith))
+loop-holds c = (rw (c .none .ensures), rw (c .none .ensures) (omega arith))
 
-read-next-requires : tie.Need-read-next-requires Inv-loop μ-loop
-read-next-requires c κs = c .loop .inv .1
+read-requires : tie.Need-read-requires Inv-loop μ-loop
+read-requires c κs = search needs
 
 enum-known-item : tie.Need-enum-known-item Inv-loop μ-loop
 enum-known-item c = search needs
@@ -42,7 +42,7 @@ returns : tie.Need-returns Inv-loop μ-loop
 returns c =
     let after-read = c .before .before in
     let at = after-read .before .loop in
-    c .closed .ensures ∙ sym (stops _ _ _ _ _ (at .inv .1) (c .before .match .keys2) (sym (after-read .read-next .ensures))) ∙ at .inv .0
+    c .closed .ensures ∙ sym (stops _ _ _ _ _ (c .before .match .keys2) (sym (after-read .read .ensures))) ∙ at .inv .0
 
 refusal-requires : tie.Need-refusal-requires Inv-loop μ-loop
 refusal-requires c κs = search needs
@@ -52,13 +52,13 @@ returns-2 c =
     let after-item = c .before .before .before .before in
     let after-read = after-item .before .before in
     let at = after-read .before .loop in
-    let here = sym (after-read .read-next .ensures) ∙ after-item .item .given .1 in
-    sym (refuses _ (at .inv .1) (omega arith) here _ (at .tally) _ (sym (c .before .refusal .ensures)) (omega arith)) ∙ at .inv .0
+    let here = sym (after-read .read .ensures) ∙ after-item .item .given .1 in
+    sym (refuses _ _ (omega arith) here _ (at .tally) _ (sym (c .before .refusal .ensures)) (omega arith)) ∙ at .inv .0
 
 with-requires : tie.Need-with-requires Inv-loop μ-loop
 with-requires c κs =
     let at = c .before .before .before .before .before .before .before .loop in
-    record { few = accepted _ _ _ (sym (c .before .refusal .ensures) ∙ c .if1 .left) .few; no-more = at .inv .2 }
+    record { few = accepted _ _ _ (sym (c .before .refusal .ensures) ∙ c .if1 .left) .few; no-more = at .inv .1 }
 
 loop-less : tie.Need-loop-less Inv-loop μ-loop
 loop-less c =
@@ -66,8 +66,8 @@ loop-less c =
     let after-read = after-item .before .before in
     let at = after-read .before .loop in
     let start = after-read .before .before .before .before in
-    let here = sym (after-read .read-next .ensures) ∙ after-item .item .given .1 in
-    omega (arith, next-at _ (at .inv .1) (omega (arith, start .good)) here, next-within _ (at .inv .1) (omega (arith, start .good)) here)
+    let here = sym (after-read .read .ensures) ∙ after-item .item .given .1 in
+    omega (arith, next-at _ _ (omega (arith, start .good)) here, next-within _ _ (omega (arith, start .good)) here)
 
 loop-again : tie.Need-loop-again Inv-loop μ-loop
 loop-again c =
@@ -76,11 +76,10 @@ loop-again c =
     let after-read = after-item .before .before in
     let at = after-read .before .loop in
     let start = after-read .before .before .before .before in
-    let here = sym (after-read .read-next .ensures) ∙ after-item .item .given .1 in
+    let here = sym (after-read .read .ensures) ∙ after-item .item .given .1 in
     let fine = sym (not-refused .before .refusal .ensures) ∙ not-refused .if1 .left in (
-      rw (c .with .ensures) (sym (goes _ (at .inv .1) (omega (arith, start .good)) here _ (at .tally) fine) ∙ at .inv .0),
-      omega (arith, next-at _ (at .inv .1) (omega (arith, start .good)) here),
-      rw (c .with .ensures) (tally-keeps (at .tally) _ (at .inv .2)),
+      rw (c .with .ensures) (sym (goes _ _ (omega (arith, start .good)) here _ (at .tally) fine) ∙ at .inv .0),
+      rw (c .with .ensures) (tally-keeps (at .tally) _ (at .inv .1)),
     )
 
 pub check-packets-spec : {M : Type 1} → statement M
@@ -91,7 +90,7 @@ check-packets-spec =
     μ-loop
     none-requires
     loop-holds
-    read-next-requires
+    read-requires
     enum-known-item
     closed-requires
     returns

@@ -1,17 +1,23 @@
--- Each kind looked up in the table of the paper; a kind outside has none.
-use mathlib.Core.Path.{sym}
-use Rattle.record.proofs.Format.{kind-1, kind-2-length, no-kind}
+-- The length of each kind, by the two tests.
+use mathlib.Core.Path.{sym, _∙_}
+use Rattle.record.proofs.Format.{length-14, length-16}
+use Rattle.record.proofs.Ways.{length-none}
+use borrow.Author.Tests.{not-false}
+use borrow.Author.Needs.{needs}
 use Rattle.record.proofs.kind_length.Statement.{statement}
 use Rattle.record.proofs.kind_length.Tie as tie
 
+is-parameters-requires : tie.Need-is-parameters-requires
+is-parameters-requires c κs = search needs
+
 returns : tie.Need-returns
-returns c = sym (kind-1 _ (c .match .keys1))
+returns c = sym (length-16 _ (sym (c .before .is-parameters .ensures) ∙ c .if1 .taken))
 
 returns-2 : tie.Need-returns-2
-returns-2 c = sym (kind-2-length _ (c .match .keys2))
+returns-2 c = rw (c .if2 .taken) (sym length-14)
 
 returns-3 : tie.Need-returns-3
-returns-3 c = sym (no-kind _ (c .match .rest .0 .1) (c .match .rest .1))
+returns-3 c = sym (length-none _ (sym (c .before .before .is-parameters .ensures) ∙ c .before .if1 .left) (c .if2 .left))
 
 pub kind-length-spec : {M : Type 1} → statement M
-kind-length-spec = tie.close (tie.spec returns returns-2 returns-3)
+kind-length-spec = tie.close (tie.spec is-parameters-requires returns returns-2 returns-3)

@@ -1,7 +1,7 @@
 -- The room, the body's length and the kind, in that order: one law each (Standing).
 use mathlib.Core.Path.{sym, _∙_}
 use native.Mathlib.Omega.{arith}
-use Rattle.record.specs.Paper.{kindLength}
+use Rattle.record.proofs.Format.{length-14}
 use Rattle.record.proofs.Standing.{no-room, other-length, by-kind}
 use borrow.Author.Needs.{needs}
 use Rattle.record.proofs.packet_stands.Statement.{statement}
@@ -17,17 +17,15 @@ kind-length-requires : tie.Need-kind-length-requires
 kind-length-requires c κs = search needs
 
 returns-2 : tie.Need-returns-2
-unfolding kindLength
-returns-2 c = other-length _ (λ e. c .if2 .taken (c .before .before .read16 .ensures ∙ e ∙ sym (c .before .kind-length .ensures)))
+returns-2 c = other-length _ (λ e. c .if2 .taken (c .before .before .read16 .ensures ∙ e ∙ sym (c .before .kind-length .ensures ∙ length-14)))
 
 shared-slice-read-result : tie.Need-shared-slice-read-result
 shared-slice-read-result c = search needs
 
 returns-3 : tie.Need-returns-3
-unfolding kindLength
 returns-3 c =
     let lengths = c .before .before in
-    by-kind _ (omega arith) (sym (lengths .before .read16 .ensures) ∙ c .before .if2 .left ∙ lengths .kind-length .ensures)
+    by-kind _ (omega arith) (sym (lengths .before .read16 .ensures) ∙ c .before .if2 .left ∙ lengths .kind-length .ensures ∙ length-14)
 
 pub packet-stands-spec : {M : Type 1} → statement M
 packet-stands-spec =

@@ -11,9 +11,9 @@ use Rattle.printer.proofs.Turning.{walk-full, walk-stops, walk-refuses,
 use Rattle.printer.proofs.Turning.{turn-marked, turn-plain, Loop, loop-begins, loop-stops, next-inside, next-turn}
 use Rattle.printer.proofs.Turning.{stays-takes, takes-length}
 use Rattle.printer.proofs.Answers.{read-rest}
-use Rattle.record.specs.declared.Read.{Read}
+use Rattle.record.specs.declared.Next.{Next}
 use Rattle.printer.specs.declared.Walk.{Walk}
-use Rattle.printer.specs.Step.{stopsAt, packetOf, walkOf, Ready}
+use Rattle.printer.specs.Step.{stopsAt, walkOf, Ready}
 use Rattle.printer.proofs.Walk.run.Statement.{statement}
 use Rattle.printer.proofs.Walk.run.Tie as tie
 
@@ -96,32 +96,32 @@ returns-2 c =
     let here = read-rest (now (a .window)) (a .last) _ (l .used) (r .read-piece .ensures) ∙ i .item .given .1 in
     let stops = walk-refuses (a .rules) walk (drop (l .used) (now (a .window))) (a .last) _ (turn .loop-test .taken) here _
     (refused .before .refusal .ensures) (refused .if1 .taken) in
-    loop-stops (l .inv .0) (stops ∙ ap (λ (x : Read). stopsAt x walk) (sym (named .refused .ensures))) (c .before .before .stop2 .ensures)
+    loop-stops (l .inv .0) (stops ∙ ap (λ (x : Next). stopsAt x walk) (sym (named .refused .ensures))) (c .before .before .stop2 .ensures)
 
 arrive-requires : tie.Need-arrive-requires Inv-loop μ-loop
 arrive-requires c κs =
     let l = c .before .before .before .before .before .before .before .before .before .loop in
-    ready-arrives (l .inv .1) (packetOf _ 0 _) (sym (c .if1 .left) ∙ c .before .refusal .ensures)
+    ready-arrives (l .inv .1) (record { time = _; stamp = 0; marker = _ }) (sym (c .if1 .left) ∙ c .before .refusal .ensures)
 
 put-closed-requires : tie.Need-put-closed-requires Inv-loop μ-loop
 put-closed-requires c κs =
-    let fine = c .before .before .before in
+    let fine = c .before .before .before .before in
     let turn = fine .before .before .before .before .before .before .before .before in
     let l = turn .before .loop in
-    rw (c .before .before .arrive .ensures)
-    (ready-closes (l .inv .1) (packetOf _ _ _) (sym (fine .if1 .left) ∙ fine .before .refusal .ensures) _ _
+    rw (c .before .before .before .arrive .ensures)
+    (ready-closes (l .inv .1) _ (sym (fine .if1 .left) ∙ fine .before .refusal .ensures) _ _
     (omega (arith, turn .loop-test .taken, l .inv .3)))
 
 mark-requires : tie.Need-mark-requires Inv-loop μ-loop
 mark-requires c κs =
-    let fine = c .before .before .before .before .before .before in
+    let fine = c .before .before .before .before .before .before .before in
     let l = fine .before .before .before .before .before .before .before .before .before .loop in
-    rw (c .before .before .before .before .before .arrive .ensures)
-    (ready-closed (l .inv .1) (packetOf _ _ _) (sym (fine .if1 .left) ∙ fine .before .refusal .ensures))
+    rw (c .before .before .before .before .before .before .arrive .ensures)
+    (ready-closed (l .inv .1) _ (sym (fine .if1 .left) ∙ fine .before .refusal .ensures))
 
 add-used : tie.Need-add-used Inv-loop μ-loop
 add-used c =
-    let fine = c .before .before in
+    let fine = c .before .before .before in
     let i = fine .before .before .before .before in
     let r = i .before .before in
     let turn = r .before .before in
@@ -136,7 +136,7 @@ add-used c =
 
 loop-less : tie.Need-loop-less Inv-loop μ-loop
 loop-less c =
-    let fine = c .before .before in
+    let fine = c .before .before .before in
     let i = fine .before .before .before .before in
     let r = i .before .before in
     let turn = r .before .before in
@@ -151,7 +151,7 @@ loop-less c =
 
 loop-again : tie.Need-loop-again Inv-loop μ-loop
 loop-again c =
-    let fine = c .before .before in
+    let fine = c .before .before .before in
     let i = fine .before .before .before .before in
     let r = i .before .before in
     let turn = r .before .before in
@@ -165,10 +165,10 @@ loop-again c =
     (l .inv .1) (l .inv .2)
     (⊎-elim
     (λ w. rw (w .6, w .7, w .8)
-    (turn-marked (a .rules) (l .s) (packetOf _ _ _) (l .written) (l .out) (c .before .arrive .ensures) (w .0 .taken) (w .5 .ensures)
+    (turn-marked (a .rules) (l .s) _ (l .written) (l .out) (c .before .before .arrive .ensures) (w .0 .taken) (w .5 .ensures)
     (w .2 .ensures)))
     (λ w. rw (w .1, w .2, w .3)
-    (turn-plain (a .rules) (l .s) (packetOf _ _ _) (l .written) (l .out) (c .before .arrive .ensures) (w .0 .left)))
+    (turn-plain (a .rules) (l .s) _ (l .written) (l .out) (c .before .before .arrive .ensures) (w .0 .left)))
     (c .if2 .came))
 
 same-length-3 : tie.Need-same-length-3 Inv-loop μ-loop

@@ -15,14 +15,14 @@ after-packet-requires c κs = search needs
 packet-of-requires : tie.Need-packet-of-requires
 packet-of-requires c κs =
     let seen = c .before in
-    let there = stands _ (sym (seen .before .packet-stands .ensures) ∙ seen .if2 .taken) in
+    let there = stands _ (sym (seen .before .packet-stands .ensures) ∙ seen .if1 .taken) in
     record { inside = omega (arith, there .sixteen) }
 
 returns : tie.Need-returns
 returns c =
     let seen = c .before .before in
-    let there = stands _ (sym (seen .before .packet-stands .ensures) ∙ seen .if2 .taken) in
-    c .packet-of .ensures ∙ rw (c .before .after-packet .ensures) (stands-packet _ _ _ (seen .before .before .if1 .taken) there)
+    let there = stands _ (sym (seen .before .packet-stands .ensures) ∙ seen .if1 .taken) in
+    c .packet-of .ensures ∙ rw (c .before .after-packet .ensures) (stands-packet _ _ _ there)
 
 read-any-requires : tie.Need-read-any-requires
 read-any-requires c κs = search needs

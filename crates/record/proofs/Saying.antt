@@ -1,0 +1,139 @@
+-- What the reader answers, in the paper's words: a predicate on the answer, proved once for every answer. By what stands in front.
+use mathlib.Core.Path.{_≡_, refl, sym, ap, subst, _∙_}
+use mathlib.Core.Bool.{Bool, true, false}
+use mathlib.Core.List.{List, [], _∷_}
+use Prim.Native.Nat.{ℕ, _+_, _≤_, _<_}
+use native.Mathlib.Omega.{arith}
+use native.Mathlib.Decide.{ℕ-discrete}
+use lib.Dec.{eqb}
+use lib.ListN.{length, drop, getD, length-drop}
+use borrow.Author.Tests.{eqb-true}
+use Rattle.laws.specs.Choose.{pick, pick-either}
+use Rattle.limits.specs.declared.Parameters.{Parameters}
+use Rattle.limits.specs.Paper.{setUpRefusal}
+use Rattle.packet.specs.Step.{nothing}
+use Rattle.record.specs.declared.Cursor.{Cursor}
+use Rattle.record.specs.declared.Framed.{Framed}
+use Rattle.record.specs.declared.Framed.the-variants as framed
+use Rattle.record.specs.declared.Head.{Head}
+use Rattle.record.specs.declared.Head.the-variants as head
+use Rattle.record.specs.declared.Next.{Next}
+use Rattle.record.specs.declared.Next.the-variants.{Packet, End, More, Refused}
+use Rattle.record.specs.Paper.{versionFits, bodyLength, kindOf, isParameters, kindLength, parametersAt, formatRefusal}
+use Rattle.record.specs.Paper.{parametersRefusal, packetsIn, unread, read, readingOf}
+use Rattle.record.specs.Step.{cursor, after, packetOf, stepOver, framedOf, Whole, firstOf, headBy, headPiece, headRead}
+use Rattle.record.specs.Step.{wholeOf, nextBy, nextPiece, nextRead}
+use Rattle.record.proofs.Format.{Front, scrap, nought, short, whole, front, framed-nothing, framed-byte, framed-nought}
+use Rattle.record.proofs.Format.{framed-short, framed-whole, lone-23, scrap-21, nought-21, short-21, there}
+use Rattle.record.proofs.Ways.{head-cons}
+use Rattle.record.proofs.Reading.{second, before, parameters-here, reading-20, reading-stop, reading-go}
+
+-- ---- after the head
+
+-- what an answer says of the rest of the file: a packet whose format is not refused, nothing left, or the number of the format with
+-- the record's own offset, and how far behind it the next one begins, which is no further than the end
+abbrev pub Says : ℕ → List ℕ → Next → Type 0
+Says at l (Packet p c) = (formatRefusal false l ≡ 0) × (packetOf l (after at 16) ≡ Packet p c)
+Says at l End = length l ≡ 0
+Says at l More = ⊥
+Says at l (Refused n o size) = (0 < length l) × (formatRefusal false l ≡ n) × (0 < n) × (o ≡ at) × (size ≡ stepOver n l) × (size ≤ length l)
+
+pub next-says : (at : ℕ) (l : List ℕ) → Says at l (nextRead at l)
+unfolding nextPiece wholeOf
+next-says at l = go (front l) (ℕ-discrete (length l) 0)
+  where
+    by : Framed → Type 0
+    by f = Says at l (nextBy at l f)
+
+    of-whole : Whole (bodyLength l) (kindOf l) l → Says at l (wholeOf at (bodyLength l) (kindOf l) l)
+    of-whole w =
+        pick-either (Says at l) (eqb (bodyLength l) (kindLength (kindOf l)))
+        (λ e. pick-either (Says at l) (isParameters (kindOf l))
+        (λ p. (omega (arith, w .all-there), there false l w ∙ rw (e, p), omega arith, refl, refl, w .all-there))
+        (λ p. (there false l w ∙ rw (e, p), refl)))
+        (λ e. (omega (arith, w .all-there), there false l w ∙ rw e, omega arith, refl, refl, w .all-there))
+
+    go : Front l → Dec (length l ≡ 0) → by (framedOf l true)
+    go (scrap h) (yes e) = subst by (sym (framed-nothing l e)) e
+    go (scrap h) (no n) = subst by (sym (framed-byte l n h)) (omega arith, scrap-21 false l (omega arith) h, omega arith, refl, refl, omega arith)
+    go (nought t e) d = subst by (sym (framed-nought l true t e)) (omega arith, nought-21 false l t e, omega arith, refl, refl, omega arith)
+    go (short t b k) d = subst by (sym (framed-short l true t b k)) (omega arith, short-21 false l t b k, omega arith, refl, refl, omega arith)
+    go (whole w) d = subst by (sym (framed-whole l true w)) (of-whole w)
+
+-- ---- the head
+
+-- version 1, and parameters that the format accepts, of kind 1
+pub record Stood (s : List ℕ) (version kind : ℕ) (parameters : Parameters) (c : Cursor) : Type 0 where
+  pub version-1 : version ≡ 1
+  pub kind-is-1 : kind ≡ 1
+  pub next-19 : c ≡ cursor 19
+  pub nineteen : 19 ≤ length s
+  pub version-fits : versionFits s ≡ true
+  pub format-fits : formatRefusal true (drop 1 s) ≡ 0
+  pub parameters-are : parameters ≡ parametersAt (drop 1 s)
+
+-- what an answer says of the file: it stands so, or this is what it reads as
+abbrev pub SaysHead : List ℕ → Head → Type 0
+SaysHead s (head.Ready version kind parameters c) = Stood s version kind parameters c
+SaysHead s head.More = ⊥
+SaysHead s (head.Refused n o) = readingOf s ≡ unread n o
+
+module _ (b : ℕ) (l : List ℕ) (v : eqb b 1 ≡ true) where
+  stops : (n : ℕ) → formatRefusal true l ≡ n → 0 < n → readingOf (b ∷ l) ≡ unread n 1
+  stops n e p = reading-stop (b ∷ l) n v (before _ _ (rw e p) ∙ e) p
+
+  stood : formatRefusal true l ≡ 0 → Stood (b ∷ l) b (kindOf l) (parametersAt l) (cursor 19)
+  stood f =
+      let here = parameters-here l f in
+      record {
+        version-1 = eqb-true b 1 v;
+        kind-is-1 = here .kind-is-1;
+        next-19 = refl;
+        nineteen = omega (arith, here .eighteen);
+        version-fits = v;
+        format-fits = f;
+        parameters-are = refl;
+      }
+
+  -- what follows the version byte
+  first-says : SaysHead (b ∷ l) (headBy b l (framedOf l true))
+  unfolding firstOf
+  first-says = go (front l) (ℕ-discrete (length l) 0)
+    where
+      by : Framed → Type 0
+      by f = SaysHead (b ∷ l) (headBy b l f)
+
+      of-whole : Whole (bodyLength l) (kindOf l) l → SaysHead (b ∷ l) (firstOf b (bodyLength l) (kindOf l) l)
+      of-whole w =
+          pick-either (SaysHead (b ∷ l)) (eqb (bodyLength l) (kindLength (kindOf l)))
+          (λ e. pick-either (SaysHead (b ∷ l)) (isParameters (kindOf l))
+          (λ p. stood (there true l w ∙ rw (e, p)))
+          (λ p. stops 23 (there true l w ∙ rw (e, p)) (omega arith)))
+          (λ e. stops 22 (there true l w ∙ rw e) (omega arith))
+
+      go : Front l → Dec (length l ≡ 0) → by (framedOf l true)
+      go (scrap h) (yes e) = subst by (sym (framed-nothing l e)) (stops 23 (lone-23 l e) (omega arith))
+      go (scrap h) (no n) = subst by (sym (framed-byte l n h)) (stops 21 (scrap-21 true l (omega arith) h) (omega arith))
+      go (nought t e) d = subst by (sym (framed-nought l true t e)) (stops 21 (nought-21 true l t e) (omega arith))
+      go (short t c k) d = subst by (sym (framed-short l true t c k)) (stops 21 (short-21 true l t c k) (omega arith))
+      go (whole w) d = subst by (sym (framed-whole l true w)) (of-whole w)
+
+pub head-says : (s : List ℕ) → SaysHead s (headRead s)
+unfolding headPiece
+head-says [] = reading-20 [] refl
+head-says (b ∷ l) = subst (SaysHead (b ∷ l)) (sym (head-cons b l true)) (go (eqb b 1) refl)
+  where
+    go : (t : Bool) → eqb b 1 ≡ t → SaysHead (b ∷ l) (pick t (headBy b l (framedOf l true)) (head.Refused 20 0))
+    go true v = first-says b l v
+    go false v = reading-20 (b ∷ l) v
+
+-- and what a file with such a head reads as: set-up refuses it, or its packets follow
+module _ {s : List ℕ} {version kind : ℕ} {parameters : Parameters} {c : Cursor} (h : Stood s version kind parameters c) where
+  set-up-is : parametersRefusal (drop 1 s) ≡ setUpRefusal parameters
+  set-up-is = second _ _ (h .format-fits) ∙ ap setUpRefusal (sym (h .parameters-are))
+
+  pub reads-refused : (n : ℕ) → setUpRefusal parameters ≡ n → 0 < n → readingOf s ≡ unread n 1
+  reads-refused n e p = reading-stop s n (h .version-fits) (set-up-is ∙ e) p
+
+  pub reads-packets : setUpRefusal parameters ≡ 0 → readingOf s ≡ read parameters (packetsIn nothing 19 (drop 19 s))
+  reads-packets e = reading-go s (h .version-fits) (set-up-is ∙ e) ∙ rw (h .parameters-are)

@@ -1,0 +1,12 @@
+-- The test that the paper's predicate is.
+use mathlib.Core.Path.{refl}
+use Rattle.record.specs.Paper.{isParameters}
+use Rattle.record.proofs.is_parameters.Statement.{statement}
+use Rattle.record.proofs.is_parameters.Tie as tie
+
+returns : tie.Need-returns
+unfolding isParameters
+returns c = refl
+
+pub is-parameters-spec : {M : Type 1} → statement M
+is-parameters-spec = tie.close (tie.spec returns)
