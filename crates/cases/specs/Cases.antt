@@ -1,5 +1,5 @@
 -- "Both sides of each limit": the twelve cases of document 01 as one list under one claim, that what the definitions give
--- is what the paper gives. Each case stands under its words. Parameters of any kind are written as integers, one list a side.
+-- is what the paper gives. Each case stands under its words. Numbers of any kind are written as integers, one list a side.
 use mathlib.Core.Path.{_≡_, refl}
 use mathlib.Core.List.{List, [], _∷_, map}
 use Prim.Native.Nat.{ℕ}

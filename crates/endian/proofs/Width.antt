@@ -9,6 +9,7 @@ use lib.Arith.{digits-lt, digits-div, digits-mod}
 use lib.Pow.{pow-add}
 use lib.ListN.{length, take, drop, getD, set, length-append, length-drop}
 use lib.Seq.{sets, take-add, drop-drop, length-take-le}
+use Rattle.laws.specs.Lay.{sets-join}
 use Rattle.endian.specs.Number.{numberOf, numberAt, bytesOf, Bytes, Room}
 
 positive : (k : ℕ) → 0 < 256 ^ k
@@ -122,13 +123,6 @@ four-read {s} {at} h ea eb ec ed =
     let three = number-halves 2 1 s at (omega (arith, h .inside)) in
     let all = number-halves 3 1 s at (omega (arith, h .inside)) in
     omega (arith, two, three, all, byte at, byte (at + 1), byte (at + 2), byte (at + 3), ea, eb, ec, ed)
-
--- bytes stored one after the other
-pub sets-join : (u v d : List ℕ) (at : ℕ) → sets d at (u ++ v) ≡ sets (sets d at u) (at + length u) v
-sets-join [] v d at = rw (add-zero at)
-sets-join (b ∷ u) v d at =
-    let e : suc at + length u ≡ at + suc (length u) = omega arith in
-    sets-join u v (set d at b) (suc at) ∙ rw e
 
 -- the two bytes of a number
 pub two-stored : (x : ℕ) (d : List ℕ) (at : ℕ) → set (set d at (x / 256)) (at + 1) (x % 256) ≡ sets d at (bytesOf 2 x)

@@ -1,12 +1,12 @@
 -- The buffer answer is that of the first whole frame that fails: each frame's own answer first, then their joining, place by place.
 use mathlib.Core.Path.{_≡_, refl, sym, ap, _∙_, subst}
 use mathlib.Core.Bool.{Bool, true, false}
-use Prim.Native.Nat.{ℕ, zero, suc, _+_, _-_, _≤_, _<_}
+use Prim.Native.Nat.{ℕ, zero, suc, _+_, _≤_, _<_}
 use native.Mathlib.Omega.{arith}
 use native.Mathlib.Nat.{not-suc-le-zero}
 use native.Mathlib.Decide.{decLt}
 use lib.Dec.{ltb, eqb}
-use lib.IntN.{ℤ, pos, subℕ}
+use lib.IntN.{ℤ, pos, negsuc, subℕ}
 use lib.Signed.{_<ℤ_}
 use borrow.Author.Tests.{ltb-true, lt-ltb, eqb-true, eqb-false}
 use Rattle.laws.specs.Choose.{pick, false-true, up-to}
@@ -18,7 +18,7 @@ use Rattle.frame.specs.declared.Place.{Place}
 use Rattle.frame.specs.declared.Buffer.{Buffer}
 use Rattle.frame.specs.declared.Buffer.the-variants.{None, Pass, Under, Over}
 use Rattle.frame.specs.Paper.{History, closesAt, numberAt, since, kindAt, arrival, firstRead, readsTo, arrivedBy, PeakIs}
-use Rattle.frame.specs.Paper.{late, Dry, Overfull, OverIs, AnswerIs, BufferIs}
+use Rattle.frame.specs.Paper.{late, Dry, Overfull, Whole, PassIs, OverIs, AnswerIs, BufferIs}
 use Rattle.frame.specs.Paper.{hasFailed, isNone, Fails, FirstDecides, failed, passed, unjudged}
 use Rattle.frame.specs.Step.{answerOf, joined}
 use Rattle.frame.specs.ByPlace.{closedAt, answerAt, bufferAt}
@@ -121,6 +121,27 @@ module _ (plan : Plan) (h : History) where
       let places : q .place ≡ r .place = cc in
       λ j. Over (record { frame = frames j; place = places j })
 
+  -- a whole frame that does not fail passes: there is no other way to fail
+  pub not-failing : (i : ℕ) → Whole plan h i → ¬ Fails (AnswerIs plan h) i → PassIs plan h i
+  not-failing i w f = record { whole = w; not-dry = calm; not-over = λ o. go (o .0) (o .1) (o .2) }
+    where
+      calm : ¬ Dry plan h (since h i)
+      calm d = f (
+        Under (record { frame = numberAt h i; place = seek (late plan h (since h i)) (plan .packets) }),
+        record { whole = w; frame = refl; dry = d; place = seek-is (late plan h (since h i)) (plan .packets) },
+        refl,
+      )
+
+      go : (z : ℤ) → PeakIs plan h (since h i) z → pos (plan .full) <ℤ z → ⊥
+      go (pos n) peak l =
+          let over = lt-differ (pos (plan .full)) (pos n) (plan .full) 0 n 0 (omega arith) (omega arith) l in
+          f (
+            Over (record { frame = numberAt h i; place = n }),
+            record { whole = w; frame = refl; not-dry = calm; peak = peak; over = omega (arith, over) },
+            refl,
+          )
+      go (negsuc n) peak l = l .lt
+
   pub buffer-unique : (b c : Buffer) → BufferIs plan h b → BufferIs plan h c → b ≡ c
   buffer-unique b c x y = decides-unique (AnswerIs plan h) answer-unique (h .packets) b c x y
 
@@ -131,12 +152,12 @@ module _ (plan : Plan) (p : Planned plan) (h : History) (ordered : Climbs (h .ti
     -- the lack and the top that were kept, over the frame's arrivals
     lacks : (j : ℕ) → j < plan .packets → suc j ≤ arrivedBy plan h (since h i) j + (closedAt plan h i) .deficit
     lacks j l = rw (deficit-is plan h ordered i inside p whole)
-        (D.lack-bound (plan .packets) (firstRead plan h (since h i)) (plan .num) (plan .den) (arrival plan h (since h i))
+        (D.lack-bound (plan .packets) (firstRead plan h (since h i)) (plan .reads .num) (plan .reads .den) (arrival plan h (since h i))
         (up plan h ordered i inside p whole) j l)
 
     tops : (j : ℕ) → j < plan .packets → suc j ≤ (closedAt plan h i) .top + readsTo plan h (since h i) j
     tops j l = rw (top-is plan h ordered i inside p whole)
-        (D.top-bound (plan .packets) (firstRead plan h (since h i)) (plan .num) (plan .den) (arrival plan h (since h i))
+        (D.top-bound (plan .packets) (firstRead plan h (since h i)) (plan .reads .num) (plan .reads .den) (arrival plan h (since h i))
         (up plan h ordered i inside p whole) j l)
 
     -- "The buffer runs dry where least is below 0.": where there was a lack
@@ -163,7 +184,7 @@ module _ (plan : Plan) (p : Planned plan) (h : History) (ordered : Climbs (h .ti
       where
         same : seek (late plan h (since h i)) (plan .packets) ≡ seek (λ j. ltb j (readsTo plan h (since h i) j)) (plan .packets)
         same = seek-same (late plan h (since h i)) (λ j. ltb j (readsTo plan h (since h i) j)) (plan .packets)
-            (D.late-is (plan .packets) (firstRead plan h (since h i)) (plan .num) (plan .den) (arrival plan h (since h i))
+            (D.late-is (plan .packets) (firstRead plan h (since h i)) (plan .reads .num) (plan .reads .den) (arrival plan h (since h i))
             (up plan h ordered i inside p whole))
 
     pub not-overfull : (closedAt plan h i) .top ≤ plan .full → ¬ Overfull plan h (since h i)
@@ -182,11 +203,11 @@ module _ (plan : Plan) (p : Planned plan) (h : History) (ordered : Climbs (h .ti
         go : Dec (0 < (closedAt plan h i) .deficit) → (j : ℕ) × (j < plan .packets) × (late plan h (since h i) j ≡ true)
         go (yes l) =
             let u = up plan h ordered i inside p whole in
-            let w = D.dry-late (plan .packets) (firstRead plan h (since h i)) (plan .num) (plan .den) (arrival plan h (since h i)) u
+            let w = D.dry-late (plan .packets) (firstRead plan h (since h i)) (plan .reads .num) (plan .reads .den) (arrival plan h (since h i)) u
             (omega (arith, deficit-is plan h ordered i inside p whole)) in (
               w .0,
               w .1,
-              D.late-is (plan .packets) (firstRead plan h (since h i)) (plan .num) (plan .den) (arrival plan h (since h i)) u (w .0) (w .1)
+              D.late-is (plan .packets) (firstRead plan h (since h i)) (plan .reads .num) (plan .reads .den) (arrival plan h (since h i)) u (w .0) (w .1)
                   ∙ lt-ltb (w .0) (readsTo plan h (since h i) (w .0)) (w .2),
             )
         go (no g) = absurd (not-dry (omega arith) d)
@@ -195,11 +216,11 @@ module _ (plan : Plan) (p : Planned plan) (h : History) (ordered : Climbs (h .ti
     late-dry j l e =
         let u = up plan h ordered i inside p whole in
         let more = ltb-true j (readsTo plan h (since h i) j)
-        (sym (D.late-is (plan .packets) (firstRead plan h (since h i)) (plan .num) (plan .den) (arrival plan h (since h i)) u j l) ∙ e) in
+        (sym (D.late-is (plan .packets) (firstRead plan h (since h i)) (plan .reads .num) (plan .reads .den) (arrival plan h (since h i)) u j l) ∙ e) in
         is-dry (omega (
           arith,
           deficit-is plan h ordered i inside p whole,
-          D.late-dry (plan .packets) (firstRead plan h (since h i)) (plan .num) (plan .den) (arrival plan h (since h i)) u j l more,
+          D.late-dry (plan .packets) (firstRead plan h (since h i)) (plan .reads .num) (plan .reads .den) (arrival plan h (since h i)) u j l more,
         ))
 
   judged : (i : ℕ) → i < h .packets → closesAt h i ≡ true → AnswerIs plan h i (answerOf plan (numberAt h i) (closedAt plan h i))

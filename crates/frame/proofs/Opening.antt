@@ -63,13 +63,13 @@ module _ {plan : Plan} {f g : Frame} {t : ℕ} (stamp : ℕ) (e : g ≡ openedOf
   pub time-fits : 27 * (t - g .first) + g .phase ≤ 16204294967296
   time-fits = omega (arith, opened-timed .near, opened-timed .phased, p .short)
 
-  pub guess-fits : g .reads * plan .num < 18446744073709551616
+  pub guess-fits : g .reads * plan .reads .num < 18446744073709551616
   guess-fits =
       let n : g .reads ≤ 20000 = omega (arith, opened-timed .read, p .few) in
-      let m : plan .num ≤ 51539607552 = omega (arith, p .near, p .short) in
+      let m : plan .reads .num ≤ 51539607552 = omega (arith, p .near, p .short) in
       omega (arith, mul-le-mul n m)
 
-  pub reach-fits : (base : ℕ) → (27 * (t - g .first) + g .phase - base) * plan .den + plan .num < 18446744073709551616
+  pub reach-fits : (base : ℕ) → (27 * (t - g .first) + g .phase - base) * plan .reads .den + plan .reads .num < 18446744073709551616
   reach-fits base =
-      reads-fit (27 * (t - g .first) + g .phase - base) (plan .den) (plan .num) (omega (arith, time-fits)) (p .divided)
+      reads-fit (27 * (t - g .first) + g .phase - base) (plan .reads .den) (plan .reads .num) (omega (arith, time-fits)) (p .divided)
       (omega (arith, p .near, p .short))

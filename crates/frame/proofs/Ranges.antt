@@ -14,7 +14,7 @@ use Rattle.frame.specs.declared.Plan.{Plan}
 use Rattle.frame.specs.declared.Frame.{Frame}
 use Rattle.frame.specs.declared.Frames.{Frames}
 use Rattle.frame.specs.declared.Buffer.{Buffer}
-use Rattle.frame.specs.declared.Buffer.the-variants.{None, Pass, Under, Over}
+use Rattle.frame.specs.declared.Buffer.the-variants.{None, Pass}
 use Rattle.frame.specs.Paper.{hasFailed, isNone}
 use Rattle.frame.specs.Step.{lower, kindOf, openedOf, countedOf, readsOf, pushOf, answerOf, joined, noFrames, arriveOf}
 use Rattle.frame.specs.Step.{closeOf}
@@ -105,7 +105,7 @@ module _ (plan : Plan) (s : Frames) (first last packets t : ℕ) (p : Planned pl
       → o .late ≡ s .current .late → s .marked ≤ o .first → Timed plan o t → Pushed (countedOf o stamp (readsOf plan o t))
   unfolding countedOf
   counted o stamp eh ed et ef el from z =
-      let few = count-le (readBefore (plan .tro + plan .period) (plan .num) (plan .den) (27 * (t - o .first) + o .phase)) (plan .packets) in
+      let few = count-le (readBefore (plan .tro + plan .period) (plan .reads .num) (plan .reads .den) (27 * (t - o .first) + o .phase)) (plan .packets) in
       record {
         held = omega arith;
         first-from = from;

@@ -94,7 +94,7 @@ module _ (plan : Plan) (h : History) (ordered : Climbs (h .time) (h .packets)) (
     packets-are = sym (one-more h i) ∙ whole-held whole
 
     pub top-is : (closedAt plan h i) .top
-        ≡ D.top (plan .packets) (firstRead plan h (since h i)) (plan .num) (plan .den) (arrival plan h (since h i)) up
+        ≡ D.top (plan .packets) (firstRead plan h (since h i)) (plan .reads .num) (plan .reads .den) (arrival plan h (since h i)) up
     unfolding keptOf
     top-is =
         ap (λ (f : Frame). f .top) held-is
@@ -103,7 +103,7 @@ module _ (plan : Plan) (h : History) (ordered : Climbs (h .time) (h .packets)) (
         (λ j. suc j - readsTo plan h (since h i) j) (plan .packets) (λ j l. ap (λ (r : ℕ). suc j - r) (reads-same j l))
 
     pub deficit-is : (closedAt plan h i) .deficit
-        ≡ D.lack (plan .packets) (firstRead plan h (since h i)) (plan .num) (plan .den) (arrival plan h (since h i)) up
+        ≡ D.lack (plan .packets) (firstRead plan h (since h i)) (plan .reads .num) (plan .reads .den) (arrival plan h (since h i)) up
     unfolding keptOf
     deficit-is =
         ap (λ (f : Frame). f .deficit) held-is
@@ -113,14 +113,14 @@ module _ (plan : Plan) (h : History) (ordered : Climbs (h .time) (h .packets)) (
 
     pub peak-is : PeakIs plan h (since h i) (pos ((closedAt plan h i) .top))
     peak-is = rw top-is (record {
-      bound = D.peak-bound (plan .packets) (firstRead plan h (since h i)) (plan .num) (plan .den) (arrival plan h (since h i)) up;
-      met = D.peak-met (plan .packets) (firstRead plan h (since h i)) (plan .num) (plan .den) (arrival plan h (since h i)) up (p .some);
+      bound = D.peak-bound (plan .packets) (firstRead plan h (since h i)) (plan .reads .num) (plan .reads .den) (arrival plan h (since h i)) up;
+      met = D.peak-met (plan .packets) (firstRead plan h (since h i)) (plan .reads .num) (plan .reads .den) (arrival plan h (since h i)) up (p .some);
     })
 
     pub least-is : LeastIs plan h (since h i) (subℕ 0 ((closedAt plan h i) .deficit))
     least-is = rw deficit-is (record {
-      bound = D.least-bound (plan .packets) (firstRead plan h (since h i)) (plan .num) (plan .den) (arrival plan h (since h i)) up;
-      met = D.least-met (plan .packets) (firstRead plan h (since h i)) (plan .num) (plan .den) (arrival plan h (since h i)) up (p .some);
+      bound = D.least-bound (plan .packets) (firstRead plan h (since h i)) (plan .reads .num) (plan .reads .den) (arrival plan h (since h i)) up;
+      met = D.least-met (plan .packets) (firstRead plan h (since h i)) (plan .reads .num) (plan .reads .den) (arrival plan h (since h i)) up (p .some);
     })
 
     pub late-is : (closedAt plan h i) .late ≡ seek (λ j. ltb j (readsTo plan h (since h i) j)) (plan .packets)

@@ -20,7 +20,7 @@ use Rattle.frame.specs.Step.{emptyOf, rowOf, answerOf, joined}
 module _ (plan : Plan) (time stamp : ℕ → ℕ) where
   abbrev pub readsFrom : ℕ → ℕ
   readsFrom j =
-      readsBefore (plan .packets) (plan .tro + plan .period) (plan .num) (plan .den)
+      readsBefore (plan .packets) (plan .tro + plan .period) (plan .reads .num) (plan .reads .den)
       (grains (time j - time 0) + phase (grains (time 0)) (plan .period))
 
   -- what is kept of the first k of them

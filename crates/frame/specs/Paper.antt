@@ -109,7 +109,7 @@ module _ (plan : Plan) (h : History) where
 
     -- "the frame's reads strictly before its arrival", of packet j
     abbrev pub readsTo : ℕ → ℕ
-    readsTo j = readsBefore (plan .packets) firstRead (plan .num) (plan .den) (arrival j)
+    readsTo j = readsBefore (plan .packets) firstRead (plan .reads .num) (plan .reads .den) (arrival j)
 
     -- "Level just after packet j: j + 1 less the frame's reads strictly before its arrival."
     abbrev pub levelOf : ℕ → ℤ
@@ -122,7 +122,7 @@ module _ (plan : Plan) (h : History) where
 
     -- "At one instant arrivals come before reads.": the frame's packets arrived by read j
     abbrev pub arrivedBy : ℕ → ℕ
-    arrivedBy j = count (λ i. leb (arrival i * plan .den) (firstRead * plan .den + j * plan .num)) (plan .packets)
+    arrivedBy j = count (λ i. leb (arrival i * plan .reads .den) (firstRead * plan .reads .den + j * plan .reads .num)) (plan .packets)
 
     -- "Least is the smallest, over all n reads, of the frame's packets arrived by that read less reads done, that one included."
     pub record LeastIs (z : ℤ) : Type 0 where
@@ -131,7 +131,7 @@ module _ (plan : Plan) (h : History) where
 
     -- "one of its packets comes after its read time"
     abbrev pub late : ℕ → Bool
-    late j = ltb (firstRead * plan .den + j * plan .num) (arrival j * plan .den)
+    late j = ltb (firstRead * plan .reads .den + j * plan .reads .num) (arrival j * plan .reads .den)
 
     -- "The buffer runs dry where least is below 0."
     abbrev pub Dry : Type 0

@@ -17,9 +17,9 @@ pub record Planned (plan : Plan) : Type 0 where
   pub some : 0 < plan .packets
   pub few : plan .packets ≤ 20000
   pub early : plan .tro < plan .period
-  pub apart : 0 < plan .num
-  pub near : plan .num ≤ 24 * plan .period
-  pub divided : plan .den ≤ 500000
+  pub apart : 0 < plan .reads .num
+  pub near : plan .reads .num ≤ 24 * plan .period
+  pub divided : plan .reads .den ≤ 500000
 
 -- before a packet that arrives at t: an open frame that holds packets began at most 600 s before
 pub record Pushable (plan : Plan) (f : Frame) (t : ℕ) : Type 0 where

@@ -53,7 +53,7 @@ countedOf f stamp reads = record {
 
 -- the frame's reads before an arrival, with all times from one period before the frame's start on
 abbrev pub readsOf : Plan → Frame → ℕ → ℕ
-readsOf plan f t = readsBefore (plan .packets) (plan .tro + plan .period) (plan .num) (plan .den) (grains (t - f .first) + f .phase)
+readsOf plan f t = readsBefore (plan .packets) (plan .tro + plan .period) (plan .reads .num) (plan .reads .den) (grains (t - f .first) + f .phase)
 
 abbrev pub pushOf : Plan → Frame → ℕ → ℕ → Frame
 pushOf plan f t stamp = countedOf (openedOf f (plan .period) t stamp) stamp (readsOf plan (openedOf f (plan .period) t stamp) t)

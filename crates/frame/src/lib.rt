@@ -6,24 +6,24 @@ ghost use mathlib.Core.Path.{_≡_};
 ghost use mathlib.Core.Bool.{true};
 ghost use Prim.Native.Nat.{_+_, _-_, _≤_, _<_, max};
 ghost use lib.ListN.{length};
+ghost use lib.Seq.{sets};
 ghost use Rattle.laws.specs.Every.{every};
-ghost use Rattle.laws.specs.Lay.{laid};
 ghost use Rattle.frame.specs.Paper.{bufferNumber, bufferFrame, bufferPlace, hasFailed, isNone};
 ghost use Rattle.frame.specs.Step.{lower, emptyOf, openedOf, countedOf, pushOf, kindOf, detailOf, wholeRow, brokenRow, rowOf};
 ghost use Rattle.frame.specs.Step.{numbersOf, rowWidth, answerOf, joined, noFrames, arriveOf, closeOf};
 ghost use Rattle.frame.specs.Range.{Planned, Pushable, Rowable, ranges};
+use grain::Spacing;
 
 // How many numbers a row has: `rowWidth`.
 pub const ROW: usize = 10;
 
 // What a stream is measured by: frames start at multiples of `period` grains and have `packets` packets;
-// the reads lie at tro + j·num/den grains after the start; `full` is the most that the buffer may hold.
+// the reads lie at tro + j·num/den grains after the start, by their spacing; `full` is the most that the buffer may hold.
 pub struct Plan {
     pub period: u64,
     pub packets: u64,
     pub tro: u64,
-    pub num: u64,
-    pub den: u64,
+    pub reads: Spacing,
     pub full: u64,
 }
 
@@ -157,7 +157,14 @@ impl Frame {
         let f = self.opened(plan.period, t, stamp);
         let x = grain::GRAINS_PER_NANOSECOND * (t - f.first) + f.phase;
         let base = plan.tro + plan.period;
-        let reads = grain::reads_before(f.reads, plan.packets, base, plan.num, plan.den, x);
+        let reads = grain::reads_before(
+            f.reads,
+            plan.packets,
+            base,
+            plan.reads.num,
+            plan.reads.den,
+            x,
+        );
         f.counted(stamp, reads)
     }
 
@@ -285,7 +292,7 @@ impl Row {
     // The ten numbers into `rows`, from `at` on.
     pub fn put(self, rows: &mut [i64], at: usize)
         requires { ⌜ at + rowWidth ≤ length (now rows) ⌝ }
-        ensures { λ r. ⌜ now (rows .exit) ≡ laid at (numbersOf self) (now (rows .entry)) ⌝ }
+        ensures { λ r. ⌜ now (rows .exit) ≡ sets (now (rows .entry)) at (numbersOf self) ⌝ }
     {
         let numbers = self.numbers();
         let mut k = 0;

@@ -18,6 +18,12 @@ pub const GRAINS_PER_TICK: u64 = 300000;
 // The grains of 2^32 ticks: RTP timestamps go round once in this time.
 const WRAP: u64 = 4294967296 * GRAINS_PER_TICK;
 
+// Instants or reads that lie num/den grains apart: a fraction, never divided out.
+pub struct Spacing {
+    pub num: u64,
+    pub den: u64,
+}
+
 // What is left of 27·t when whole m's are taken away. t is divided first: 27 times its rest is below 27·m and fits.
 pub fn rest27(t: u64, m: u64) -> u64
     requires { ⌜ (27 ≤ m) × (m ≤ 576460752303423488) ⌝ }

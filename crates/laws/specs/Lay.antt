@@ -1,52 +1,72 @@
--- Elements laid into a list from a place on, one after the other: what stands there is replaced, all else stays.
+-- Elements put into a list from a place on, which is the kit's `sets`: some and then more behind them, a loop that puts one a turn, and a
+-- loop that has put some of a whole and has the rest to put.
 use mathlib.Core.Path.{_≡_, refl, sym, ap, _∙_}
 use mathlib.Core.List.{List, [], _∷_, _++_}
 use Prim.Native.Nat.{ℕ, suc, _+_, _≤_, _<_}
 use native.Mathlib.Omega.{arith}
-use native.Mathlib.Nat.{add-zero, not-suc-le-zero}
+use native.Mathlib.Nat.{add-zero, zero-add}
 use native.Mathlib.Numerals.{add-one}
-use lib.ListN.{length, drop, set, getD, length-set, length-append}
-use lib.Seq.{drop-cons, drop-length, set-append-seam, append-snoc}
+use lib.ListN.{length, drop, set, getD, length-append}
+use Rattle.laws.specs.Unique.{one-answer}
+use lib.Seq.{drop-cons, drop-length, sets, sets-eq, length-sets}
+
+-- some put at a place: where the next go, and what stands there then
+pub record Put {A : Type 0} (xs : List A) (at : ℕ) (before : List A) (then : ℕ) (after : List A) : Type 0 where
+  pub next : then ≡ at + length xs
+  pub there : after ≡ sets before at xs
+
+-- of a whole that is put from a place on, so much is left to put, from another: putting that is putting the whole
+pub record Putting {A : Type 0} (whole : List A) (from : ℕ) (out₀ left : List A) (at : ℕ) (out : List A) : Type 0 where
+  pub place : at + length left ≡ from + length whole
+  pub stored : sets out at left ≡ sets out₀ from whole
+  pub same-length : length out ≡ length out₀
 
 module _ {A : Type 0} where
-  unfoldable pub laid : ℕ → List A → List A → List A
-  laid at [] l = l
-  laid at (x ∷ xs) l = laid (at + 1) xs (set l at x)
-
-  pub laid-length : (at : ℕ) (out l : List A) → length (laid at out l) ≡ length l
-  unfolding laid
-  laid-length at [] l = refl
-  laid-length at (x ∷ xs) l = laid-length (at + 1) xs (set l at x) ∙ length-set l at x
-
   -- some, and then more behind them
-  pub laid-more : (at : ℕ) (xs ys l : List A) → laid at (xs ++ ys) l ≡ laid (at + length xs) ys (laid at xs l)
-  unfolding laid
-  laid-more at [] ys l = ap (λ (k : ℕ). laid k ys l) (sym (add-zero at))
-  laid-more at (x ∷ xs) ys l =
-      let next : at + 1 + length xs ≡ at + suc (length xs) = omega arith in
-      laid-more (at + 1) xs ys (set l at x) ∙ ap (λ (k : ℕ). laid k ys (laid (at + 1) xs (set l at x))) next
+  pub sets-join : (u v d : List A) (at : ℕ) → sets d at (u ++ v) ≡ sets (sets d at u) (at + length u) v
+  sets-join [] v d at = rw (add-zero at)
+  sets-join (b ∷ u) v d at =
+      let e : suc at + length u ≡ at + suc (length u) = omega arith in
+      sets-join u v (set d at b) (suc at) ∙ rw e
 
-  -- where they fit: what stood before, they, and what stood behind
-  pub laid-is : (front out back : List A) → length out ≤ length back → laid (length front) out (front ++ back)
-      ≡ front ++ (out ++ drop (length out) back)
-  unfolding laid
-  laid-is front [] back h = refl
-  laid-is front (x ∷ xs) [] h = absurd (not-suc-le-zero h)
-  laid-is front (x ∷ xs) (y ∷ back) h =
-      let one : length (front ++ (x ∷ [])) ≡ length front + 1 = length-append front (x ∷ []) in
-      ap (laid (length front + 1) xs) (set-append-seam front y back x ∙ sym (append-snoc front x back))
-      ∙ ap (λ (k : ℕ). laid k xs ((front ++ (x ∷ [])) ++ back)) (sym one)
-      ∙ laid-is (front ++ (x ∷ [])) xs back (omega arith) ∙ append-snoc front x (xs ++ drop (length xs) back)
+  -- from the front, where they fit: they, and what stood behind
+  pub sets-front : (xs l : List A) → length xs ≤ length l → sets l 0 xs ≡ xs ++ drop (length xs) l
+  sets-front xs l h = sets-eq xs l 0 (rw (zero-add (length xs)) h) ∙ ap (λ (n : ℕ). xs ++ drop n l) (zero-add (length xs))
 
-  -- one turn of a loop that lays the elements of a list from k on
-  pub laid-turn : (at k : ℕ) (out l : List A) (d : A) → k < length out
-      → laid (at + (k + 1)) (drop (k + 1) out) (set l (at + k) (getD out k d)) ≡ laid (at + k) (drop k out) l
-  unfolding laid
-  laid-turn at k out l d h =
-      let next : at + (k + 1) ≡ at + k + 1 = omega arith in
-      ap (λ (j : ℕ). laid j (drop (k + 1) out) (set l (at + k) (getD out k d))) next ∙ sym (rw (drop-cons out k d h, add-one k))
+  -- one turn of a loop that puts the elements of a list from k on
+  pub sets-turn : (at k : ℕ) (xs l : List A) (d : A) → k < length xs
+      → sets (set l (at + k) (getD xs k d)) (at + (k + 1)) (drop (k + 1) xs) ≡ sets l (at + k) (drop k xs)
+  sets-turn at k xs l d h =
+      let next : at + (k + 1) ≡ suc (at + k) = omega arith in
+      ap (λ (j : ℕ). sets (set l (at + k) (getD xs k d)) j (drop (k + 1) xs)) next ∙ sym (rw (drop-cons xs k d h, add-one k))
 
-  -- and its end: nothing is left to lay
-  pub laid-done : (at k : ℕ) (out l : List A) {r : List A} → k ≡ length out → laid (at + k) (drop k out) l ≡ r → l ≡ r
-  unfolding laid
-  laid-done at k out l e q = sym (rw (e, drop-length out)) ∙ q
+  -- and its end: nothing is left to put
+  pub sets-done : (at k : ℕ) (xs l : List A) {r : List A} → k ≡ length xs → sets l (at + k) (drop k xs) ≡ r → l ≡ r
+  sets-done at k xs l e q = sym (rw (e, drop-length xs)) ∙ q
+
+  pub put-length : {xs before after : List A} {at then : ℕ} → Put xs at before then after → length after ≡ length before
+  put-length {xs} {before} {at = at} p = ap length (p .there) ∙ length-sets before at xs
+
+  -- one place and one content meet it
+  pub put-unique : {xs before p q : List A} {at a b : ℕ} → Put xs at before a p → Put xs at before b q → (a ≡ b) × (p ≡ q)
+  put-unique x y = (one-answer (x .next) (y .next), one-answer (x .there) (y .there))
+
+  pub put-none : (at : ℕ) (before : List A) → Put [] at before at before
+  put-none at before = record { next = sym (add-zero at); there = refl }
+
+  pub putting-begins : (whole : List A) (from : ℕ) (out : List A) → Putting whole from out whole from out
+  putting-begins whole from out = record { place = refl; stored = refl; same-length = refl }
+
+  module _ {whole out₀ out : List A} {from at : ℕ} where
+    -- some more are put
+    pub putting-on : {xs left out′ : List A} {at′ : ℕ} → Putting whole from out₀ (xs ++ left) at out → Put xs at out at′ out′
+        → Putting whole from out₀ left at′ out′
+    putting-on {xs} {left} {out′} {at′} k p = record {
+      place = omega (arith, k .place, p .next, length-append xs left);
+      stored = rw (p .there, p .next) (sym (sets-join xs left out at) ∙ k .stored);
+      same-length = put-length p ∙ k .same-length;
+    }
+
+    -- nothing is left: the whole is put
+    pub putting-ends : Putting whole from out₀ [] at out → Put whole from out₀ at out
+    putting-ends k = record { next = sym (add-zero at) ∙ k .place; there = k .stored }

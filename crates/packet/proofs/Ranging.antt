@@ -6,7 +6,6 @@ use native.Mathlib.Omega.{arith}
 use lib.Dec.{eqb}
 use Rattle.laws.specs.Choose.{pick-either}
 use Rattle.laws.specs.Every.{every, All, facts, of-facts, _and_}
-use Rattle.laws.specs.Every as E
 use Rattle.packet.specs.declared.Past.{Past}
 use Rattle.packet.specs.Step.{nothing, firstOf, nextOf}
 use Rattle.packet.specs.Range.{ranges, Ranged}

@@ -4,15 +4,13 @@ use mathlib.Core.Bool.{Bool, true, false, not}
 use mathlib.Core.List.{List, [], _∷_, append-nil}
 use Prim.Native.Nat.{ℕ, _-_, _≤_}
 use native.Mathlib.Omega.{arith}
-use native.Mathlib.Nat.{add-zero}
 use lib.ListN.{length, take, drop}
 use types.Run.{OneOf, miss}
 use denote.Enum.Declared.{tagOf}
 use Rattle.laws.specs.Choose.{false-true}
-use Rattle.laws.specs.Lay.{laid}
 use Rattle.frame.specs.declared.Row.{Row}
-use Rattle.frame.specs.Step.{rowOf}
-use Rattle.text.specs.Lines.{Put, rowLine}
+use Rattle.laws.specs.Lay.{put-none}
+use Rattle.text.specs.Lines.{Line, rowLine}
 use Rattle.record.specs.declared.Head.{Head}
 use Rattle.record.specs.declared.Next.{Next}
 use Rattle.record.proofs.Next.{the-type}
@@ -23,6 +21,7 @@ use Rattle.record.proofs.Ways.{rest-all}
 use Rattle.timing.specs.declared.Rules.{Rules}
 use Rattle.timing.specs.declared.State.{State}
 use Rattle.timing.specs.Feed.{closing}
+use Rattle.timing.specs.Laws.Laying.{closedRow}
 use Rattle.printer.specs.Paper.{rowLines, sumLine}
 use Rattle.printer.specs.Step.{headBy, beginOf, lineOf}
 
@@ -60,17 +59,15 @@ ends-not-more (Refused n o size) k = refl
 
 -- ---- lines put
 
-pub put-is : {line other : List ℕ} {at next : ℕ} {before after : List ℕ} → line ≡ other → Put line at before next after
-    → Put other at before next after
-put-is {at = at} {next} {before} {after} e p = subst (λ (l : List ℕ). Put l at before next after) e p
+pub line-is : {line other : List ℕ} {at next : ℕ} {before after : List ℕ} → line ≡ other → Line line at before next after
+    → Line other at before next after
+line-is {at = at} {next} {before} {after} e p = subst (λ (l : List ℕ). Line l at before next after) e p
 
-pub put-none : {line : List ℕ} (at : ℕ) (before : List ℕ) → [] ≡ line → Put line at before at before
-unfolding laid
-put-none at before e = put-is e (record { next = sym (add-zero at); bytes = refl; short = omega arith })
+pub line-none : {line : List ℕ} (at : ℕ) (before : List ℕ) → [] ≡ line → Line line at before at before
+line-none at before e = line-is e (record { put = put-none at before; short = omega arith })
 
 module _ (rules : Rules) (s : State) where
-  pub row-line : {row : Row} → s .frames .begun ≡ true
-      → row ≡ rowOf (rules .plan) (s .frames .closed) (s .frames .marked) (s .frames .current) → rowLine row ≡ rowLines (closing rules s)
+  pub row-line : {row : Row} → s .frames .begun ≡ true → row ≡ closedRow rules s → rowLine row ≡ rowLines (closing rules s)
   unfolding rowLines
   row-line e f = rw (e, f) (sym (append-nil _))
 

@@ -31,13 +31,13 @@ use Rattle.timing.specs.declared.Rules.{Rules}
 use Rattle.timing.specs.declared.State.{State}
 use Rattle.timing.specs.Step.{rulesOf, stepOf, rowsOf, stateAfter, rowsAfter}
 use Rattle.timing.specs.Laws.InRange.{of-sound}
-use Rattle.timing.specs.Laws.Running.{step-numbers, step-past}
+use Rattle.timing.specs.Laws.Running.{going-next, step-numbers, step-past}
 use Rattle.printer.specs.declared.Walk.{Walk}
 use Rattle.printer.specs.Paper.{rowLines, sumLine, lastLine, linesOf, restOf}
 use Rattle.printer.specs.Step.{Took, lineOf, stays, andThen, stepped, linesAt, itemBy}
 use Rattle.printer.specs.Step.{walkBy, takeOf}
 use Rattle.printer.specs.Drive.{Stands}
-use Rattle.printer.proofs.Turning.{piece-sixteen, ready-next}
+use Rattle.printer.proofs.Turning.{piece-sixteen}
 
 -- ---- the lines of packets
 
@@ -123,7 +123,7 @@ module _ (rules : Rules) (walk : Walk) (w v : List ℕ) (q : rules ≡ rulesOf (
     next-stands : numberOf (walk .state .past) p ≡ 0 → Stands (stepped rules walk p c)
     next-stands e =
         record {
-          sound = ready-next {rules = rules} {walk = walk} (record { rules-are = q; sound = z .sound }) p (sym e) c .sound;
+          sound = going-next {rules = rules} (record { rules-are = q; sound = z .sound }) p e .sound;
           offset = omega (arith, the-next e, z .offset, ap (λ (x : Past). x .packets) (step-past rules (walk .state) p));
         }
 

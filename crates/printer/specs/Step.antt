@@ -5,12 +5,11 @@ use mathlib.Core.List.{List, [], _++_}
 use Prim.Native.Nat.{ℕ, zero, suc, _+_, _-_, _/_, _≤_}
 use lib.Dec.{ltb, eqb}
 use lib.ListN.{length, drop}
+use lib.Seq.{sets}
 use Rattle.laws.specs.Choose.{pick}
-use Rattle.laws.specs.Lay.{laid}
 use Rattle.packet.specs.declared.Packet as packet
 use Rattle.packet.specs.Step.{numberOf}
-use Rattle.frame.specs.Range.{Planned, Rowable}
-use Rattle.text.specs.Lines.{refusalLine}
+use Rattle.text.specs.Lines.{refusalLine, lineRoom}
 use Rattle.record.specs.declared.Cursor.{Cursor}
 use Rattle.limits.specs.declared.Parameters.{Parameters}
 use Rattle.record.specs.declared.Head.{Head}
@@ -24,7 +23,8 @@ use Rattle.timing.specs.declared.State.{State}
 use Rattle.timing.specs.declared.SetUp.{SetUp}
 use Rattle.timing.specs.declared.SetUp.the-variants.{Fresh, Refused as Not-Set-Up}
 use Rattle.timing.specs.Step.{ofParameters, rulesOf, stepOf, rowsOf}
-use Rattle.timing.specs.Range.{inRange, Sound}
+use Rattle.timing.specs.Range.{inRange}
+use Rattle.timing.specs.Feed.{Makes}
 use Rattle.timing.specs.Answers.{setUpAs}
 use Rattle.printer.specs.declared.Walk.{Walk}
 use Rattle.printer.specs.declared.Taken.{Taken}
@@ -117,7 +117,7 @@ itemBy rules walk room on (Refused number offset size) = stopsAt (Refused number
 unfoldable pub walkBy : ℕ → Rules → Walk → List ℕ → Bool → ℕ → Took
 walkBy zero rules walk w last room = stays walk
 walkBy (suc k) rules walk w last room =
-    pick (ltb room 256) (stays walk)
+    pick (ltb room lineRoom) (stays walk)
     (itemBy rules walk room (λ next left. walkBy k rules next (drop 16 w) last left) (nextPiece (walk .at .at) w last))
 
 -- a packet takes 16 bytes, so that this many turns are enough
@@ -127,21 +127,15 @@ walkOf rules walk w last room = walkBy (suc (length w / 16)) rules walk w last r
 -- a call: no room for a line; 9 for a state that is not in range; else record by record
 unfoldable pub takeOf : Walk → List ℕ → Bool → ℕ → Took
 takeOf walk w last room =
-    pick (ltb room 256) (stays walk)
+    pick (ltb room lineRoom) (stays walk)
     (pick (inRange (walk .state)) (walkOf (rulesOf (walk .state .numbers)) walk w last room) (stopsAt (Refused 9 0 0) walk))
 
 -- ---- what the parts of the code ask and give
 
 -- before the line of a row is put, where a marker closes one
 pub record Closes (rules : Rules) (s : State) (at room : ℕ) : Type 0 where
-  pub planned : Planned (rules .plan)
-  pub made : s .frames .begun ≡ true → Rowable (rules .plan) (s .frames .closed) (s .frames .marked) (s .frames .current)
-  pub fits : at + 256 ≤ room
-
--- before the records of a piece
-pub record Ready (rules : Rules) (walk : Walk) : Type 0 where
-  pub rules-are : rules ≡ rulesOf (walk .state .numbers)
-  pub sound : Sound (walk .state)
+  pub makes : Makes rules s
+  pub fits : at + lineRoom ≤ room
 
 -- an answer does this, with so many bytes used and written before
 pub record Takes (k : Took) (used written : ℕ) (before : List ℕ) (r : Taken) (after : List ℕ) : Type 0 where
@@ -149,5 +143,5 @@ pub record Takes (k : Took) (used written : ℕ) (before : List ℕ) (r : Taken)
   pub used-is : r .used ≡ used + k .used
   pub written-is : r .written ≡ written + length (k .text)
   pub ended-is : r .ended ≡ k .ended
-  pub bytes : after ≡ laid written (k .text) before
+  pub bytes : after ≡ sets before written (k .text)
   pub fits : r .written ≤ length before

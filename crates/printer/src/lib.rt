@@ -5,12 +5,12 @@ ghost use mathlib.Core.Path.{_≡_};
 ghost use mathlib.Core.Bool.{not};
 ghost use Prim.Native.Nat.{_+_, _≤_};
 ghost use lib.ListN.{length};
-ghost use Rattle.text.specs.Lines.{Put};
+ghost use Rattle.text.specs.Lines.{lineRoom, Line};
 ghost use Rattle.record.specs.declared.Next.the-variants.{Refused};
 ghost use Rattle.record.specs.Pieces.{wantsMore};
-ghost use Rattle.timing.specs.Feed.{closing};
+ghost use Rattle.timing.specs.Feed.{closing, Going};
 ghost use Rattle.printer.specs.Paper.{rowLines, sumLine};
-ghost use Rattle.printer.specs.Step.{readyOf, beginOf, lineOf, stopsAt, walkOf, takeOf, Closes, Ready, Takes};
+ghost use Rattle.printer.specs.Step.{readyOf, beginOf, lineOf, stopsAt, walkOf, takeOf, Closes, Takes};
 use limits::Parameters;
 use record::Cursor;
 use record::Head;
@@ -106,8 +106,8 @@ fn ends(item: Next) -> bool
 
 // The counts, the peak and the verdict.
 fn put_sum(s: State, out: &mut [u8], at: usize) -> usize
-    requires { ⌜ at + 256 ≤ length (now out) ⌝ }
-    ensures { λ r. ⌜ Put (sumLine s) at (now (out .entry)) r (now (out .exit)) ⌝ }
+    requires { ⌜ at + lineRoom ≤ length (now out) ⌝ }
+    ensures { λ r. ⌜ Line (sumLine s) at (now (out .entry)) r (now (out .exit)) ⌝ }
 {
     let past = s.past;
     let frames = s.frames;
@@ -133,8 +133,8 @@ fn put_sum(s: State, out: &mut [u8], at: usize) -> usize
 
 // The last line, where there is one.
 fn put_last(s: State, item: Next, out: &mut [u8], at: usize) -> usize
-    requires { ⌜ at + 256 ≤ length (now out) ⌝ }
-    ensures { λ r. ⌜ Put (lineOf item s) at (now (out .entry)) r (now (out .exit)) ⌝ }
+    requires { ⌜ at + lineRoom ≤ length (now out) ⌝ }
+    ensures { λ r. ⌜ Line (lineOf item s) at (now (out .entry)) r (now (out .exit)) ⌝ }
 {
     let Next::Refused {
         number,
@@ -153,7 +153,7 @@ fn put_last(s: State, item: Next, out: &mut [u8], at: usize) -> usize
 // The line of the row that a marker closes now, if the lead-in is over.
 fn put_closed(s: State, rules: Rules, out: &mut [u8], at: usize) -> usize
     requires { ⌜ Closes rules s at (length (now out)) ⌝ }
-    ensures { λ r. ⌜ Put (rowLines (closing rules s)) at (now (out .entry)) r (now (out .exit)) ⌝ }
+    ensures { λ r. ⌜ Line (rowLines (closing rules s)) at (now (out .entry)) r (now (out .exit)) ⌝ }
 {
     let frames = s.frames;
     if frames.begun {
@@ -167,7 +167,7 @@ fn put_closed(s: State, rules: Rules, out: &mut [u8], at: usize) -> usize
 impl Walk {
     // Where no packet stands: the walk stays, and the last line is written if there is one.
     fn stop(self, item: Next, used: usize, out: &mut [u8], written: usize) -> Taken
-        requires { ⌜ written + 256 ≤ length (now out) ⌝ }
+        requires { ⌜ written + lineRoom ≤ length (now out) ⌝ }
         ensures { λ r. ⌜ Takes (stopsAt item self) used written (now (out .entry)) r (now (out .exit)) ⌝ }
     {
         let next = put_last(self.state, item, out, written);
@@ -182,7 +182,7 @@ impl Walk {
     // The records of a piece, while there is room for a line. The heavy step has this one call site, and the walk is put together
     // only where the loop ends: else the whole state would be copied for each packet.
     fn run(self, rules: Rules, window: &[u8], last: bool, out: &mut [u8]) -> Taken
-        requires { ⌜ Ready rules self ⌝ }
+        requires { ⌜ Going rules (self .state) ⌝ }
         ensures { λ r. ⌜ Takes (walkOf rules self (now (window .entry)) last (length (now (out .entry)))) 0 0
             (now (out .entry)) r (now (out .exit)) ⌝ }
     {

@@ -6,9 +6,9 @@ use native.Mathlib.Omega.{arith}
 use lib.IntN.{ℤ}
 use lib.ListN.{length, take, length-take}
 use lib.Dec.{leb}
+use lib.Seq.{sets}
 use borrow.Author.Tests.{eq-eqb, ne-eqb, le-leb, lt-leb}
 use Rattle.laws.specs.Choose.{pick, orElse}
-use Rattle.laws.specs.Lay.{laid}
 use Rattle.timing.specs.declared.StreamNumbers.{StreamNumbers}
 use Rattle.timing.specs.declared.State.{State}
 use Rattle.timing.specs.declared.Fed.{Fed}
@@ -44,12 +44,12 @@ module _ (x : StreamNumbers) (words : List ℕ) where
   pub no-room : setUpOf x ≡ 0 → length words < 32 → SetsUp x words 15 words
   no-room e h = by-number 15 (in-order ∙ rw (eq-eqb (setUpOf x) 0 e, lt-leb 32 (length words) h)) (omega arith)
 
-  pub set-up : {s : State} {after : List ℕ} → setUpOf x ≡ 0 → 32 ≤ length words → s ≡ freshOf x → after ≡ laid 0 (wordsOf s) words
+  pub set-up : {s : State} {after : List ℕ} → setUpOf x ≡ 0 → 32 ≤ length words → s ≡ freshOf x → after ≡ sets words 0 (wordsOf s)
       → SetsUp x words 0 after
   unfolding setUpLeft
   set-up e h f g =
       let fine : wordsNumber x (length words) ≡ 0 = in-order ∙ rw (eq-eqb (setUpOf x) 0 e, le-leb 32 (length words) h) in
-      record { number-is = sym fine; words-are = g ∙ ap (λ (t : State). laid 0 (wordsOf t) words) f ∙ sym (rw fine) }
+      record { number-is = sym fine; words-are = g ∙ ap (λ (t : State). sets words 0 (wordsOf t)) f ∙ sym (rw fine) }
 
 -- ---- a call
 
@@ -114,8 +114,8 @@ module _ (words : List ℕ) (rows : List ℤ) (out ts ss ms : List ℕ) where
         let r = is (refused words rows out k place) told in
         record { number-is = r .number-is; words-are = r .words-are; rows-are = g .rows-are ∙ stays .1 ∙ r .rows-are; out-is = r .out-is }
 
-    pub call-accepted : {t : State} {words′ out′ : List ℕ} → b ≡ Accepted t → 9 ≤ length out → words′ ≡ laid 0 (wordsOf t) words
-        → out′ ≡ laid 0 (summaryOf t) out → Feeds (callOf words rows out ts ss ms) 0 words′ after out′
+    pub call-accepted : {t : State} {words′ out′ : List ℕ} → b ≡ Accepted t → 9 ≤ length out → words′ ≡ sets words 0 (wordsOf t)
+        → out′ ≡ sets out 0 (summaryOf t) → Feeds (callOf words rows out ts ss ms) 0 words′ after out′
     call-accepted {t} q room w o =
         let now = accepted words rows out t (feedOf s rows ts ss ms .rows) in
         let enough : byFed words rows out s (Accepted t) (feedOf s rows ts ss ms .rows) ≡ now = rw (le-leb 9 (length out) room) in

@@ -7,10 +7,10 @@ use Prim.Native.Nat.{ℕ, _≤_, _<_}
 use native.Mathlib.Omega.{arith}
 use lib.Dec.{eqb}
 use lib.ListN.{length, take, drop}
-use lib.Seq.{take-at}
+use lib.Seq.{sets, take-at}
 use Rattle.laws.specs.Choose.{pick}
 use Rattle.laws.specs.Fold.{fold}
-use Rattle.laws.specs.Lay.{laid, laid-is}
+use Rattle.laws.specs.Lay.{sets-front}
 use Rattle.packet.specs.declared.Packet.{Packet}
 use Rattle.packet.specs.Paper.{marked}
 use Rattle.frame.specs.Step as F
@@ -62,9 +62,9 @@ narrow-after (p ∷ l) rules s h f = narrow-after l rules (stepOf rules s p) (h 
 
 -- ---- words that were laid in front are read again
 
-pub laid-hold : (words : List ℕ) (s : State) → 32 ≤ length words → Narrow s → heldBy (take 32 (laid 0 (wordsOf s) words)) ≡ Known s
+pub laid-hold : (words : List ℕ) (s : State) → 32 ≤ length words → Narrow s → heldBy (take 32 (sets words 0 (wordsOf s))) ≡ Known s
 laid-hold words s h f =
     let long = length-words s in
-    ap (λ (l : List ℕ). heldBy (take 32 l)) (laid-is [] (wordsOf s) words (omega arith))
+    ap (λ (l : List ℕ). heldBy (take 32 l)) (sets-front (wordsOf s) words (omega arith))
     ∙ ap heldBy (take-at (wordsOf s) (drop (length (wordsOf s)) words) 32 long)
     ∙ words-hold s f

@@ -8,9 +8,9 @@ use native.Mathlib.Omega.{arith}
 use lib.Dec.{leb}
 use lib.IntN.{ℤ}
 use lib.ListN.{length, take}
+use lib.Seq.{sets}
 use borrow.Author.Tests.{eq-eqb, le-leb}
 use Rattle.laws.specs.Choose.{pick}
-use Rattle.laws.specs.Lay.{laid}
 use Rattle.packet.specs.declared.Scanned.the-variants.{Fine}
 use Rattle.packet.specs.declared.Packet.{Packet}
 use Rattle.packet.specs.Paper.{OneLength, packets, declared}
@@ -130,7 +130,7 @@ told words c = callOf words (c .rows) (c .out) (c .ts) (c .ss) (c .ms)
 pub data Dealt : List ℕ → List Lent → List ℕ → List ℤ → Type 0 where
   no-call : {words : List ℕ} → Dealt words [] words []
   one-call : {words end : List ℕ} {c : Lent} {cs : List Lent} {more : List ℤ} (s : State) → heldBy (take 32 words) ≡ Known s
-      → told words c .number ≡ 0 → told words c .rows ≡ laid 0 (writes s (asCall c)) (c .rows)
+      → told words c .number ≡ 0 → told words c .rows ≡ sets (c .rows) 0 (writes s (asCall c))
       → Dealt (told words c .words) cs end more → Dealt words (c ∷ cs) end (writes s (asCall c) ++ more)
 
 -- words that hold s carry it through the calls
@@ -143,7 +143,7 @@ carried (c ∷ cs) s t words written (call {t = mid} {more = more} g rest) w f e
     let from = accepted-from s mid (c .rows) (lentPackets c) (ap (λ (o : Outcome). o .answer) g) in
     let narrow = subst Narrow (sym (from .state)) (narrow-after (lentPackets c) (rulesOf (s .numbers)) s (w .0 .stamped) f) in
     let fed = slices-are-packets s (c .rows) (c .ts) (c .ss) (c .ms) (w .0 .one-length) ∙ g in
-    let after = laid 0 (writes s (asCall c)) (c .rows) in
+    let after = sets (c .rows) 0 (writes s (asCall c)) in
     let now = as-accepted words (c .rows) (c .out) (c .ts) (c .ss) (c .ms) s e (w .0 .nine) mid after fed in
     let left = ap (λ (x : Told). x .words) now in
     let holds = ap (λ (l : List ℕ). heldBy (take 32 l)) left ∙ laid-hold words mid (enough-words words refl e) narrow in

@@ -5,8 +5,8 @@ use Prim.Native.Nat.{ℕ}
 use lib.Dec.{leb, eqb}
 use lib.IntN.{ℤ, pos}
 use lib.ListN.{length, take, replicate}
+use lib.Seq.{sets}
 use Rattle.laws.specs.Choose.{pick, orElse}
-use Rattle.laws.specs.Lay.{laid}
 use Rattle.timing.specs.declared.StreamNumbers.{StreamNumbers}
 use Rattle.timing.specs.declared.State.{State}
 use Rattle.timing.specs.declared.Fed.{Fed}
@@ -27,8 +27,8 @@ wordsNumber x room = orElse (setUpNumber (setUpAs x)) (pick (leb 32 room) 0 15)
 
 -- accepted, the fresh state's words in front
 unfoldable pub setUpLeft : StreamNumbers → List ℕ → List ℕ
-unfolding wordsNumber wordsOf laid
-setUpLeft x words = pick (eqb (wordsNumber x (length words)) 0) (laid 0 (wordsOf (freshOf x)) words) words
+unfolding wordsNumber wordsOf
+setUpLeft x words = pick (eqb (wordsNumber x (length words)) 0) (sets words 0 (wordsOf (freshOf x))) words
 
 pub record SetsUp (x : StreamNumbers) (words : List ℕ) (number : ℕ) (after : List ℕ) : Type 0 where
   pub number-is : number ≡ wordsNumber x (length words)
@@ -50,7 +50,7 @@ module _ (words : List ℕ) (rows : List ℤ) (out : List ℕ) where
   refused number place = record { number = number; place = place; words = words; rows = rows; out = out }
 
   abbrev pub accepted : State → List ℤ → Told
-  accepted t after = record { number = 0; place = 0; words = laid 0 (wordsOf t) words; rows = after; out = laid 0 (summaryOf t) out }
+  accepted t after = record { number = 0; place = 0; words = sets words 0 (wordsOf t); rows = after; out = sets out 0 (summaryOf t) }
 
   -- what `feed` answers from the state s; where it accepts, 15 after all else if fewer than nine numbers are lent for the summary
   abbrev pub byFed : State → Fed → List ℤ → Told
@@ -64,7 +64,7 @@ module _ (words : List ℕ) (rows : List ℤ) (out : List ℕ) where
     byHeld Nothing = refused 9 0
 
     unfoldable pub callOf : Told
-    unfolding heldBy feedOf wordsOf summaryWith laid
+    unfolding heldBy feedOf wordsOf summaryWith
     callOf = byHeld (heldBy (take 32 words))
 
 -- a number and the slices' contents are what is told

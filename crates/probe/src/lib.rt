@@ -5,7 +5,7 @@ ghost use mathlib.Core.Path.{_≡_};
 ghost use mathlib.Core.Bool.{true};
 ghost use Prim.Native.Nat.{_≤_};
 ghost use lib.ListN.{length, take};
-ghost use Rattle.laws.specs.Lay.{laid};
+ghost use lib.Seq.{sets};
 ghost use Rattle.limits.specs.Paper.{given};
 ghost use Rattle.timing.specs.Step.{ofParameters};
 ghost use Rattle.timing.specs.Answers.{summaryOf};
@@ -257,7 +257,7 @@ fn read(words: &[u64]) -> Held
 // Numbers in front of a lent slice; what stands behind them stays.
 fn lay(from: &[u64], to: &mut [u64])
     requires { ⌜ length (now from) ≤ length (now to) ⌝ }
-    ensures { λ r. ⌜ now (to .exit) ≡ laid 0 (now (from .entry)) (now (to .entry)) ⌝ }
+    ensures { λ r. ⌜ now (to .exit) ≡ sets (now (to .entry)) 0 (now (from .entry)) ⌝ }
 {
     let mut k = 0;
     while k < from.len() {
@@ -268,7 +268,7 @@ fn lay(from: &[u64], to: &mut [u64])
 
 fn lay_words(s: State, words: &mut [u64])
     requires { ⌜ 32 ≤ length (now words) ⌝ }
-    ensures { λ r. ⌜ now (words .exit) ≡ laid 0 (wordsOf s) (now (words .entry)) ⌝ }
+    ensures { λ r. ⌜ now (words .exit) ≡ sets (now (words .entry)) 0 (wordsOf s) ⌝ }
 {
     let all = words_of(s);
     lay(&all, words);
@@ -277,7 +277,7 @@ fn lay_words(s: State, words: &mut [u64])
 // The counts, the peak and the verdict of a state. The state of an accepted call is in range, so that there is a verdict.
 fn summarise(s: State, out: &mut [u64])
     requires { ⌜ (9 ≤ length (now out)) × (inRange s ≡ true) ⌝ }
-    ensures { λ r. ⌜ now (out .exit) ≡ laid 0 (summaryOf s) (now (out .entry)) ⌝ }
+    ensures { λ r. ⌜ now (out .exit) ≡ sets (now (out .entry)) 0 (summaryOf s) ⌝ }
 {
     let past = s.past;
     let frames = s.frames;

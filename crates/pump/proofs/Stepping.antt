@@ -6,9 +6,9 @@ use Prim.Native.Nat.{ℕ, _+_, _-_, _≤_}
 use native.Mathlib.Omega.{arith}
 use lib.Dec.{eqb}
 use lib.ListN.{length, take, drop, length-drop}
-use lib.Seq.{take-append-seam, length-take-le}
-use Rattle.laws.specs.Lay.{laid, laid-is, laid-length}
-use Rattle.text.specs.Lines.{Put, refusalLine}
+use lib.Seq.{sets, length-sets, take-append-seam, length-take-le}
+use Rattle.laws.specs.Lay.{sets-front, put-length}
+use Rattle.text.specs.Lines.{lineRoom, Line, refusalLine}
 use Rattle.printer.specs.declared.Walk.{Walk}
 use Rattle.printer.specs.declared.Taken.{Taken}
 use Rattle.printer.specs.Step.{Took, Takes}
@@ -21,9 +21,9 @@ use Rattle.printer.specs.declared.Opened.the-variants.{More as Wanting, Refused
 use Rattle.pump.specs.Step.{Did, Steps, stageBy, stepOf, onward, openedBy, tookBy, settledOf, shown, Fits}
 
 -- the front of what a text was laid into is the text
-pub laid-front : (text before : List ℕ) → length text ≤ length before → take (length text) (laid 0 text before) ≡ text
+pub laid-front : (text before : List ℕ) → length text ≤ length before → take (length text) (sets before 0 text) ≡ text
 laid-front text before h =
-    ap (take (length text)) (laid-is [] text before h) ∙ take-append-seam text (drop (length text) before)
+    ap (take (length text)) (sets-front text before h) ∙ take-append-seam text (drop (length text) before)
 
 pub walked-on : (p : Pump) (k : Took) (before : List ℕ) (r : Taken) (after : List ℕ) → Takes k 0 0 before r after
     → Steps (tookBy p k) (record {
@@ -35,7 +35,7 @@ pub walked-on : (p : Pump) (k : Took) (before : List ℕ) (r : Taken) (after : L
 walked-on p k before r after t =
     let used : r .used ≡ k .used = omega (arith, t .used-is) in
     let size : r .written ≡ length (k .text) = omega (arith, t .written-is) in
-    let long : length after ≡ length before = ap length (t .bytes) ∙ laid-length 0 (k .text) before in
+    let long : length after ≡ length before = ap length (t .bytes) ∙ length-sets before 0 (k .text) in
     record {
       pump-is = λ j. record { stage = Walking (t .walk-is j); from = p .from + used j; held = p .held; last = p .last };
       wants-is = ap (λ (n : ℕ). eqb n 0) used;
@@ -54,18 +54,18 @@ opened-more p after e =
     (record { pump-is = refl; wants-is = refl; over-is = refl; text-is = refl; fits = omega arith })
 
 pub opened-refused : (p : Pump) {o : Opened} (number offset written : ℕ) (before after : List ℕ) → Unopened number offset ≡ o
-    → 256 ≤ length before → Put (refusalLine number offset) 0 before written after
+    → lineRoom ≤ length before → Line (refusalLine number offset) 0 before written after
     → Steps (openedBy p o) (record { pump = p; written = written; wants = false; over = true }) after
 opened-refused p number offset written before after e h t =
     let line = refusalLine number offset in
-    let size : written ≡ length line = omega (arith, t .next) in
-    let long : length after ≡ length before = ap length (t .bytes) ∙ laid-length 0 line before in
+    let size : written ≡ length line = omega (arith, t .put .next) in
+    let long : length after ≡ length before = put-length (t .put) in
     subst (λ (o : Opened). Steps (openedBy p o) (record { pump = p; written = written; wants = false; over = true }) after) e
     (record {
       pump-is = refl;
       wants-is = refl;
       over-is = refl;
-      text-is = ap (λ (n : ℕ). take n after) size ∙ ap (take (length line)) (t .bytes)
+      text-is = ap (λ (n : ℕ). take n after) size ∙ ap (take (length line)) (t .put .there)
           ∙ laid-front line before (omega (arith, h, t .short));
       fits = omega (arith, size, long, t .short, h);
     })

@@ -8,7 +8,8 @@ use lib.ListN.{length, set, length-append}
 use lib.Seq.{sets}
 use Rattle.endian.specs.Number.{bytesOf}
 use Rattle.endian.specs.Fields.{fieldBytes}
-use Rattle.endian.proofs.Width.{length-bytes, two-stored, sets-join}
+use Rattle.laws.specs.Lay.{sets-join}
+use Rattle.endian.proofs.Width.{length-bytes, two-stored}
 use Rattle.packet.specs.declared.Packet.{Packet}
 use Rattle.packet.specs.Paper.{OneLength, lent, packetsFrom}
 use Rattle.packet.proofs.Lent.{packets-cons, packets-none}

@@ -21,7 +21,8 @@ use Rattle.packet.proofs.Lent.{packets-length}
 use Rattle.packet.proofs.Turn.{scanned-fine}
 use Rattle.packet.proofs.Declared.{scan-declared, fine-few}
 use Rattle.endian.specs.Fields.{fieldBytes}
-use Rattle.endian.proofs.Width.{length-bytes, sets-join}
+use Rattle.laws.specs.Lay.{sets-join}
+use Rattle.endian.proofs.Width.{length-bytes}
 use Rattle.limits.specs.declared.Parameters.{Parameters}
 use Rattle.record.specs.declared.Written.{Written}
 use Rattle.record.specs.declared.Written.the-variants.{Done, Refused}

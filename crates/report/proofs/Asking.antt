@@ -193,7 +193,8 @@ module _ (s : List ℕ) (room : ℕ) where
       record {
         set-up = rw (← h .stream) (holds .set-up);
         whole = ap (λ (r : Packets). r .ending) (holds .all-read);
-        fits = rw (← h .stream, fits-packets x h) (omega (arith, h .enough));
+        fits = rw (← h .stream, fits-packets x h)
+            (omega (arith, h .enough, long, length-encoded (numbers (rowsOf (ofParameters (h .written)) (h .ps)))));
       }
 
 -- ---- the lent bytes

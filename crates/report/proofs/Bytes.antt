@@ -1,4 +1,4 @@
--- Parameters of 8 bytes stored one after the other: how long they are, two lists put together, and one turn of a loop that stores them.
+-- Numbers of 8 bytes stored one after the other: how long they are, two lists put together, and one turn of a loop that stores them.
 use mathlib.Core.Path.{_≡_, refl, sym, ap, _∙_}
 use mathlib.Core.List.{List, [], _∷_, _++_, map, append-assoc}
 use Prim.Native.Nat.{ℕ, zero, suc, _+_, _*_, _≤_, _<_}
@@ -12,10 +12,15 @@ use mir.Syntax.{w64}
 use mir.Val.{SFits, toZ, ofZ}
 use mir.Facts.{toZ-ofZ}
 use Rattle.endian.specs.Number.{bytesOf}
-use Rattle.endian.proofs.Width.{length-bytes, sets-join}
+use Rattle.laws.specs.Lay.{sets-join}
+use Rattle.endian.proofs.Width.{length-bytes}
+use Rattle.frame.specs.declared.Row.{Row}
+use Rattle.frame.specs.Step.{rowWidth, numbersOf}
 use Rattle.timing.specs.declared.State.{State}
+use Rattle.timing.specs.Step.{numbers}
 use Rattle.timing.specs.Answers.{summaryWith, summaryOf}
-use Rattle.report.specs.Paper.{signed, inBytes, encoded}
+use Rattle.timing.specs.Laws.Sink.{Sink, numbers-more}
+use Rattle.report.specs.Paper.{signed, inBytes, encoded, rowBytes, numberBytes}
 
 pub length-stored : (xs : List ℕ) → length (inBytes xs) ≡ 8 * length xs
 unfolding inBytes
@@ -42,6 +47,20 @@ encoded-append a b = ap inBytes (signs-append a b) ∙ stored-append (map signed
 
 pub length-encoded : (zs : List ℤ) → length (encoded zs) ≡ 8 * length zs
 length-encoded zs = length-stored (map signed zs) ∙ ap (λ (n : ℕ). 8 * n) (length-signs zs)
+
+-- rows written as bytes
+pub rows-none : rowBytes [] ≡ []
+unfolding numbers inBytes
+rows-none = refl
+
+pub rows-more : (r : Row) (rs : List Row) → rowBytes (r ∷ rs) ≡ encoded (numbersOf r) ++ rowBytes rs
+rows-more r rs = ap encoded (numbers-more r rs) ∙ encoded-append (numbersOf r) (numbers rs)
+
+abbrev pub as-bytes : Sink ℕ
+as-bytes = record { row = λ r. encoded (numbersOf r); write = rowBytes; none = rows-none; more = rows-more }
+
+pub row-length : (r : Row) → length (encoded (numbersOf r)) ≡ numberBytes * rowWidth
+row-length r = length-encoded (numbersOf r)
 
 pub nine : (s : State) → length (summaryOf s) ≡ 9
 unfolding summaryWith

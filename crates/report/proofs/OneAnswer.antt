@@ -1,4 +1,5 @@
--- Each contract here that is a record of equations admits one answer: what meets it is what it names. The other contracts are equations.
+-- Each contract here that is a record of equations admits one answer: what meets it is what it names. The other contracts are
+-- equations, or what a run gives and what is put (timing's `ran-unique`, laws' `put-unique`).
 use mathlib.Core.Path.{_≡_}
 use mathlib.Core.List.{List}
 use Prim.Native.Nat.{ℕ}
@@ -6,10 +7,8 @@ use lib.Ieee.{Float}
 use lib.IntN.{ℤ}
 use Rattle.laws.specs.Unique.{one-answer}
 use Rattle.timing.specs.declared.StreamNumbers.{StreamNumbers}
-use Rattle.timing.specs.declared.Rules.{Rules}
-use Rattle.timing.specs.declared.State.{State}
 use Rattle.limits.specs.declared.Parameters.{Parameters}
-use Rattle.report.specs.Step.{Measures, Writes, Limits, Draws, Measured, Closed}
+use Rattle.report.specs.Step.{Measures, Writes, Limits, Draws}
 
 -- ---- the C functions: the number, and what the lent slice holds then
 
@@ -27,13 +26,3 @@ pub draws-unique : (fpt margin latency : ℤ) (out : List Float) (a b : ℕ) (p 
     → Draws fpt margin latency out b q → (a ≡ b) × (p ≡ q)
 draws-unique fpt margin latency out a b p q x y =
     (one-answer (x .number-is) (y .number-is), one-answer (x .doubles-are) (y .doubles-are))
-
--- ---- their parts: the packets of a file, and the row that a marker closes
-
-pub measured-unique : (x : StreamNumbers) (s before : List ℕ) (a b : State) (p q : List ℕ) → Measured x s before a p
-    → Measured x s before b q → (a ≡ b) × (p ≡ q)
-measured-unique x s before a b p q y z = (one-answer (y .state-is) (z .state-is), one-answer (y .rows-are) (z .rows-are))
-
-pub closed-unique : (rules : Rules) (s : State) (at : ℕ) (before : List ℕ) (a b : ℕ) (p q : List ℕ) → Closed rules s at before a p
-    → Closed rules s at before b q → (a ≡ b) × (p ≡ q)
-closed-unique rules s at before a b p q x y = (one-answer (x .next) (y .next), one-answer (x .bytes) (y .bytes))

@@ -7,12 +7,12 @@ use native.Mathlib.Omega.{arith}
 use lib.Dec.{leb}
 use lib.IntN.{ℤ, pos}
 use lib.ListN.{length, take, drop, getD}
-use lib.Seq.{drop-length}
+use lib.Seq.{sets, drop-length}
 use mir.Syntax.{w64}
 use mir.Val.{toZ}
 use borrow.Author.Tests.{le-leb, lt-leb}
 use Rattle.laws.specs.Choose.{pick}
-use Rattle.laws.specs.Lay.{laid, laid-is}
+use Rattle.laws.specs.Lay.{sets-front}
 use Rattle.endian.specs.Number.{numberOf}
 use Rattle.endian.proofs.Width.{bytes-all}
 use Rattle.packet.specs.declared.Packet.{Packet}
@@ -125,8 +125,8 @@ as-fed s w ps e rows same =
     let holds = file-holds s w ps e in
     let counted = scan-runs ps (rulesOf x) (freshOf x) 0 (holds .closed) (holds .scan-fine) .1 in
     let room : holds .closed * 10 ≤ length rows = omega (arith, counted, numbers-length (rowsOf x ps)) in
-    let in-order : laid 0 all rows ≡ all =
-    laid-is [] all rows (omega arith) ∙ ap (λ (l : List ℤ). all ++ l) (ap (λ (n : ℕ). drop n rows) (sym same) ∙ drop-length rows)
+    let in-order : sets rows 0 all ≡ all =
+    sets-front all rows (omega arith) ∙ ap (λ (l : List ℤ). all ++ l) (ap (λ (n : ℕ). drop n rows) (sym same) ∙ drop-length rows)
     ∙ append-nil all in (
       stateOf x ps,
       all,

@@ -1,7 +1,7 @@
 -- The C functions: the sentences of document 01, each above what renders it, on what the reader (crate record) and the measurement
 -- (crate timing) say of a file. This page is what a reader must believe of them.
 use mathlib.Core.List.{List, [], _∷_, _++_, map}
-use Prim.Native.Nat.{ℕ}
+use Prim.Native.Nat.{ℕ, _*_}
 use lib.Dec.{leb, eqb}
 use lib.IntN.{ℤ, pos}
 use lib.ListN.{length, drop}
@@ -13,7 +13,7 @@ use Rattle.packet.specs.declared.Packet.{Packet}
 use Rattle.timing.specs.declared.StreamNumbers.{StreamNumbers}
 use Rattle.timing.specs.declared.State.{State}
 use Rattle.timing.specs.Step.{ofParameters, rulesOf, freshOf, stateAfter, rowsAfter, numbers}
-use Rattle.timing.specs.Answers.{summaryOf, setUpAs, setUpNumber}
+use Rattle.timing.specs.Answers.{summaryWidth, summaryOf, setUpAs, setUpNumber}
 use Rattle.frame.specs.declared.Row.{Row}
 use Rattle.limits.specs.declared.Parameters.{Parameters}
 use Rattle.record.specs.Paper.{File, file, refused, fileOf}
@@ -39,6 +39,17 @@ inBytes (x ∷ xs) = bytesOf 8 x ++ inBytes xs
 
 abbrev pub encoded : List ℤ → List ℕ
 encoded zs = inBytes (map signed zs)
+
+-- rows in bytes
+abbrev pub rowBytes : List Row → List ℕ
+rowBytes rs = encoded (numbers rs)
+
+-- the bytes of a number, and of the nine that stand in front
+abbrev pub numberBytes : ℕ
+numberBytes = 8
+
+abbrev pub summaryBytes : ℕ
+summaryBytes = numberBytes * summaryWidth
 
 -- the bytes of a file's report
 abbrev pub bytesFor : Parameters → List Packet → List ℕ

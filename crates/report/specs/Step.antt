@@ -1,24 +1,23 @@
 -- A file measured part by part: what each part of the code asks and gives, in the words of Paper.
 use mathlib.Core.Path.{_≡_}
 use mathlib.Core.List.{List, _∷_}
-use Prim.Native.Nat.{ℕ, _+_, _*_, _/_, _≤_}
+use Prim.Native.Nat.{ℕ, _+_, _*_, _≤_}
 use lib.Dec.{leb}
 use lib.Ieee.{Float}
 use lib.IntN.{ℤ}
 use lib.ListN.{length, drop}
-use lib.Seq.{sets}
 use Rattle.laws.specs.Choose.{pick, orElse}
 use Rattle.packet.specs.declared.Packet.{Packet}
 use Rattle.packet.specs.Paper.{packets}
 use Rattle.packet.specs.Step.{nothing}
+use Rattle.frame.specs.Step.{rowWidth}
 use Rattle.timing.specs.declared.StreamNumbers.{StreamNumbers}
-use Rattle.timing.specs.declared.Rules.{Rules}
 use Rattle.timing.specs.declared.State.{State}
 use Rattle.timing.specs.declared.Drawn.{Drawn}
 use Rattle.timing.specs.declared.Drawn.the-variants.{Figures, Refused as Not-Drawn}
-use Rattle.timing.specs.Step.{ofParameters, setUpOf, numbers}
-use Rattle.timing.specs.Answers.{graphOf, drawnNumber}
-use Rattle.timing.specs.Feed.{closing}
+use Rattle.timing.specs.Step.{ofParameters, setUpOf, rulesOf, freshOf}
+use Rattle.timing.specs.Answers.{summaryWidth, graphOf, drawnNumber}
+use Rattle.timing.specs.Feed.{Ran}
 use Rattle.limits.specs.declared.Parameters.{Parameters}
 use Rattle.record.specs.declared.Checked.{Checked}
 use Rattle.record.specs.declared.Checked.the-variants as checked
@@ -27,11 +26,11 @@ use Rattle.record.specs.Layout.{bytesIn}
 use Rattle.record.specs.Write.{writtenOf, writtenNumber, leftBy}
 use Rattle.report.specs.declared.Asked.{Asked}
 use Rattle.report.specs.declared.Asked.the-variants.{Fine, Refused}
-use Rattle.report.specs.Paper.{stateOf, rowsOf, encoded, bytesFor, answerOf, filledBy, limitsNumber, limitsLeft}
+use Rattle.report.specs.Paper.{rowsOf, rowBytes, numberBytes, summaryBytes, bytesFor, answerOf, filledBy, limitsNumber, limitsLeft}
 
 -- the bytes of nine numbers, and of ten for each frame closed
 abbrev pub needed : ℕ → ℕ
-needed closed = 8 * (9 + closed * 10)
+needed closed = numberBytes * (summaryWidth + closed * rowWidth)
 
 -- a file and the room for its report
 abbrev pub asAsked : ℕ → ℕ → File → Asked
@@ -63,16 +62,11 @@ packetsOf s = packetsIn nothing 19 (drop 19 s) .accepted
 pub record Measurable (x : StreamNumbers) (s : List ℕ) (room : ℕ) : Type 0 where
   pub set-up : setUpOf x ≡ 0
   pub whole : packetsIn nothing 19 (drop 19 s) .ending ≡ done
-  pub fits : 9 + length (numbers (rowsOf x (packetsOf s))) ≤ room / 8
+  pub fits : summaryBytes + length (rowBytes (rowsOf x (packetsOf s))) ≤ room
 
-pub record Measured (x : StreamNumbers) (s before : List ℕ) (state : State) (after : List ℕ) : Type 0 where
-  pub state-is : state ≡ stateOf x (packetsOf s)
-  pub rows-are : after ≡ sets before 72 (encoded (numbers (rowsOf x (packetsOf s))))
-
--- the row that a marker closes, if the lead-in is over, put from number `at` on
-pub record Closed (rules : Rules) (s : State) (at : ℕ) (before : List ℕ) (then : ℕ) (after : List ℕ) : Type 0 where
-  pub next : then ≡ at + length (numbers (closing rules s))
-  pub bytes : after ≡ sets before (8 * at) (encoded (numbers (closing rules s)))
+-- the state after the packets, and their rows put behind the nine numbers
+abbrev pub Measured : StreamNumbers → List ℕ → List ℕ → State → List ℕ → Type 0
+Measured x s before state after = Ran rowBytes (rulesOf x) (freshOf x) (packetsOf s) summaryBytes before state after
 
 -- ---- the C functions: the number, and what the lent slice holds then
 

@@ -14,19 +14,27 @@ use timing::State;
 use timing::StreamNumbers;
 ghost use mathlib.Core.Path.{_≡_};
 ghost use mathlib.Core.Bool.{true};
-ghost use Prim.Native.Nat.{_+_, _*_, _/_, _≤_};
+ghost use Prim.Native.Nat.{_+_, _≤_};
 ghost use lib.Dec.{leb};
 ghost use lib.ListN.{length};
 ghost use lib.Seq.{sets};
+ghost use Rattle.laws.specs.Lay.{Put};
 ghost use Rattle.frame.specs.Step.{numbersOf};
-ghost use Rattle.timing.specs.Answers.{summaryOf};
-ghost use Rattle.timing.specs.Feed.{Lays};
+ghost use Rattle.timing.specs.Answers.{summaryWidth, summaryOf};
+ghost use Rattle.timing.specs.Feed.{closing, Lays};
 ghost use Rattle.timing.specs.Range.{inRange};
 ghost use Rattle.timing.specs.Step.{ofParameters};
 ghost use Rattle.limits.specs.Paper.{given};
 ghost use Rattle.record.specs.Write.{writtenOf, writtenPlace};
-ghost use Rattle.report.specs.Paper.{inBytes, encoded, answerOf, roomOf};
-ghost use Rattle.report.specs.Step.{refusedBy, needed, askedOf, Closed, Measurable, Measured, Measures, Writes, Limits, Draws};
+ghost use Rattle.report.specs.Paper.{inBytes, encoded, rowBytes, summaryBytes, answerOf, roomOf};
+ghost use Rattle.report.specs.Step.{refusedBy, needed, askedOf, Measurable, Measured, Measures, Writes, Limits, Draws};
+
+// The bytes of a number that is reported, of a row, and of the nine numbers in front.
+const NUMBER: usize = 8;
+
+const ROW_BYTES: usize = NUMBER * frame::ROW;
+
+const SUMMARY_BYTES: usize = NUMBER * SUMMARY;
 
 // What is lent for a file: fine with its stream numbers, or the number and the offset of the refusal.
 enum Asked {
@@ -55,7 +63,7 @@ fn refused_by(checked: Checked) -> Asked
 fn fits(closed: u64, room: usize) -> bool
     ensures { λ r. ⌜ r ≡ leb (needed closed) room ⌝ }
 {
-    let numbers = room / 8;
+    let numbers = room / NUMBER;
     if numbers < SUMMARY {
         return false;
     }
@@ -86,34 +94,34 @@ fn ask(file: &[u8], room: usize) -> Asked
     }
 }
 
-// A row's ten numbers, each 8 bytes with its sign in two's complement, from number `at` of the lent bytes on.
+// A row's numbers, each with its sign in two's complement, from byte `at` on.
 fn put_row(row: Row, out: &mut [u8], at: usize)
-    requires { ⌜ 8 * (at + 10) ≤ length (now out) ⌝ }
-    ensures { λ _. ⌜ now (out .exit) ≡ sets (now (out .entry)) (8 * at) (encoded (numbersOf row)) ⌝ }
+    requires { ⌜ at + length (encoded (numbersOf row)) ≤ length (now out) ⌝ }
+    ensures { λ _. ⌜ now (out .exit) ≡ sets (now (out .entry)) at (encoded (numbersOf row)) ⌝ }
 {
     let numbers = row.numbers();
     let mut k = 0;
     while k < frame::ROW {
-        write64(out, 8 * (at + k), grain::bits(numbers[k]));
+        write64(out, at + NUMBER * k, grain::bits(numbers[k]));
         k += 1;
     }
 }
 
 // Nine numbers, in front.
 fn put_nine(numbers: [u64; SUMMARY], out: &mut [u8])
-    requires { ⌜ (72 ≤ length (now out)) × (length numbers ≡ 9) ⌝ }
+    requires { ⌜ (summaryBytes ≤ length (now out)) × (length numbers ≡ summaryWidth) ⌝ }
     ensures { λ _. ⌜ now (out .exit) ≡ sets (now (out .entry)) 0 (inBytes numbers) ⌝ }
 {
     let mut k = 0;
     while k < SUMMARY {
-        write64(out, 8 * k, numbers[k]);
+        write64(out, NUMBER * k, numbers[k]);
         k += 1;
     }
 }
 
 // The counts, the peak and the verdict of a state, in front. A state that was measured is in range, so that there is a verdict.
 fn put_summary(s: State, out: &mut [u8])
-    requires { ⌜ (72 ≤ length (now out)) × (inRange s ≡ true) ⌝ }
+    requires { ⌜ (summaryBytes ≤ length (now out)) × (inRange s ≡ true) ⌝ }
     ensures { λ _. ⌜ now (out .exit) ≡ sets (now (out .entry)) 0 (inBytes (summaryOf s)) ⌝ }
 {
     let past = s.past;
@@ -126,16 +134,16 @@ fn put_summary(s: State, out: &mut [u8])
     }
 }
 
-// The row of the frame that a marker closes now, from number `at` on; where the next one goes.
+// The row of the frame that a marker closes now, from byte `at` on; where the next one goes.
 fn put_closed(s: State, rules: Rules, out: &mut [u8], at: usize) -> usize
-    requires { ⌜ Lays rules s at (length (now out) / 8) ⌝ }
-    ensures { λ r. ⌜ Closed rules s at (now (out .entry)) r (now (out .exit)) ⌝ }
+    requires { ⌜ Lays rowBytes rules s at (length (now out)) ⌝ }
+    ensures { λ r. ⌜ Put (rowBytes (closing rules s)) at (now (out .entry)) r (now (out .exit)) ⌝ }
 {
     let frames = s.frames;
     if frames.begun {
         let plan = rules.plan;
         put_row(frames.row(plan), out, at);
-        return at + frame::ROW;
+        return at + ROW_BYTES;
     }
     at
 }
@@ -148,7 +156,7 @@ fn measure(numbers: StreamNumbers, file: &[u8], out: &mut [u8]) -> State
     let rules = numbers.rules();
     let mut s = numbers.fresh();
     let mut from = 19;
-    let mut at = SUMMARY;
+    let mut at = SUMMARY_BYTES;
     while from < file.len() {
         let p = record::packet_at(&file[from..]);
         s = s.arrive(rules, p.time, p.stamp);
@@ -200,7 +208,7 @@ pub extern "C" fn vtiming_measure_room(file: &[u8]) -> u64
             numbers: _,
             packets: _,
             closed,
-        } => 8 * (SUMMARY as u64 + closed * frame::ROW as u64),
+        } => NUMBER as u64 * (SUMMARY as u64 + closed * frame::ROW as u64),
         Checked::Refused {
             number: _,
             offset: _,

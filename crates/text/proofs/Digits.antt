@@ -7,6 +7,7 @@ use Prim.Native.Nat.{ℕ, zero, suc, _+_, _/_, _%_, _^_, _≤_, _<_}
 use native.Mathlib.Omega.{arith}
 use native.Mathlib.Nat.{pow-suc, div-lt-iff-lt-mul, mod-eq-of-lt}
 use lib.Dec.{ltb}
+use lib.Seq.{sets}
 use lib.ListN.{length, set, length-append}
 use borrow.Author.Tests.{ltb-false, lt-ltb, le-ltb}
 use Rattle.laws.specs.Choose.{pick}
@@ -58,14 +59,13 @@ number-one x at d before h e =
     let b = part-byte at d before in
     let same : d ∷ [] ≡ digits x = ap (λ (y : ℕ). y ∷ []) e ∙ sym (digits-one x h) in
     record {
-      next = b .next ∙ ap (λ (l : List ℕ). at + length l) same;
-      bytes = rw same at (b .bytes);
+      put = record { next = b .put .next ∙ ap (λ (l : List ℕ). at + length l) same; there = b .put .there ∙ ap (sets before at) same };
       short = digits-length 20 19 x (omega arith);
     }
 
 module _ (x : ℕ) {at k : ℕ} {before between : List ℕ} (h : x < 2 ^ 64) (p : Part 20 (digits (x / 10)) at before k between) where
   pub number-room : at + 20 ≤ length before → k < length between
-  number-room r = omega (arith, digits-length 20 18 (x / 10) (tenth 19 x (omega arith)), part-kept p, p .next)
+  number-room r = omega (arith, digits-length 20 18 (x / 10) (tenth 19 x (omega arith)), part-kept p, p .put .next)
 
   pub number-more : (d : ℕ) → 10 ≤ x → d ≡ 48 + x % 10 → Part 20 (digits x) at before (k + 1) (set between k d)
   number-more d g e =
@@ -73,7 +73,6 @@ module _ (x : ℕ) {at k : ℕ} {before between : List ℕ} (h : x < 2 ^ 64) (p 
       let same : digits (x / 10) ++ (d ∷ []) ≡ digits x =
       ap (λ (y : ℕ). digits (x / 10) ++ (y ∷ [])) e ∙ sym (digits-more x g (omega arith)) in
       record {
-        next = b .next ∙ ap (λ (l : List ℕ). at + length l) same;
-        bytes = rw same at (b .bytes);
+        put = record { next = b .put .next ∙ ap (λ (l : List ℕ). at + length l) same; there = rw same at (b .put .there) };
         short = digits-length 20 19 x (omega arith);
       }

@@ -6,8 +6,7 @@ use native.Mathlib.Omega.{arith}
 use native.Mathlib.Numerals.{add-one}
 use lib.IntN.{ℤ}
 use lib.ListN.{length, take, getD}
-use lib.Seq.{take-suc, take-all}
-use Rattle.laws.specs.Lay.{laid}
+use lib.Seq.{sets, take-suc, take-all}
 use Rattle.frame.specs.Step.{rowWidth}
 use Rattle.text.specs.Decimal.{codes, signed}
 use Rattle.text.specs.Lines.{Part, fields}
@@ -26,8 +25,8 @@ next-field zs k d h = sym (rw (add-one k, take-suc zs k d h) (fields-more (take 
 
 -- the loop's beginning, a turn of it, and its end
 pub no-fields : (zs : List ℤ) (at : ℕ) (before : List ℕ) → Part (22 * 0) (fields (take 0 zs)) at before at before
-unfolding fields laid
-no-fields zs at before = record { next = omega arith; bytes = refl; short = omega arith }
+unfolding fields
+no-fields zs at before = record { put = record { next = omega arith; there = refl }; short = omega arith }
 
 pub more-fields : (zs : List ℤ) (k : ℕ) (d : ℤ) {z : ℤ} {at n r : ℕ} {before between after : List ℕ} → k < length zs → z ≡ getD zs k d
     → Part (22 * k) (fields (take k zs)) at before n between → Part 22 (codes " " ++ signed z) n between r after

@@ -2,9 +2,9 @@
 use mathlib.Core.Path.{_≡_}
 use mathlib.Core.List.{List}
 use Prim.Native.Nat.{ℕ}
-use Rattle.laws.specs.Unique.{one-answer}
-use Rattle.text.specs.Lines.{Put}
+use Rattle.laws.specs.Lay.{put-unique}
+use Rattle.text.specs.Lines.{Line}
 
-pub put-unique : (line : List ℕ) (at : ℕ) (before : List ℕ) (a b : ℕ) (p q : List ℕ) → Put line at before a p → Put line at before b q
+pub line-unique : (line : List ℕ) (at : ℕ) (before : List ℕ) (a b : ℕ) (p q : List ℕ) → Line line at before a p → Line line at before b q
     → (a ≡ b) × (p ≡ q)
-put-unique line at before a b p q x y = (one-answer (x .next) (y .next), one-answer (x .bytes) (y .bytes))
+line-unique line at before a b p q x y = put-unique (x .put) (y .put)

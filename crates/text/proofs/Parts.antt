@@ -4,34 +4,31 @@ use mathlib.Core.List.{List, [], _∷_, _++_}
 use Prim.Native.Nat.{ℕ, _+_, _≤_}
 use native.Mathlib.Omega.{arith}
 use lib.ListN.{length, set, length-append}
-use Rattle.laws.specs.Lay.{laid, laid-more, laid-length}
-use Rattle.text.specs.Lines.{Put, Part}
+use Rattle.laws.specs.Lay.{sets-join, put-length}
+use Rattle.text.specs.Lines.{lineRoom, Line, Part}
 
 pub part-then : {m n at k r : ℕ} {a b before between after : List ℕ} → Part m a at before k between → Part n b k between r after
     → Part (m + n) (a ++ b) at before r after
 part-then {m} {n} {at} {k} {r} {a} {b} {before} p q = record {
-  next = omega (arith, length-append a b, p .next, q .next);
-  bytes = cc (laid-more at a b before, p .next, p .bytes, q .bytes);
+  put = record { next = omega (arith, length-append a b, p .put .next, q .put .next); there = cc (sets-join a b before at, p .put .next, p .put .there, q .put .there) };
   short = omega (arith, length-append a b, p .short, q .short);
 }
 
 -- the bytes stay as many as they were
 pub part-kept : {m at k : ℕ} {a before after : List ℕ} → Part m a at before k after → length after ≡ length before
-part-kept {m} {at} {k} {a} {before} p = ap length (p .bytes) ∙ laid-length at a before
+part-kept p = put-length (p .put)
 
 -- a greater bound, and the same bytes grouped in another way
 pub part-is : {m n at k : ℕ} {a b before after : List ℕ} → m ≤ n → a ≡ b → Part m a at before k after → Part n b at before k after
 part-is {m} {n} {at} h e p = record {
-  next = p .next ∙ ap (λ (l : List ℕ). at + length l) e;
-  bytes = rw e at (p .bytes);
+  put = record { next = p .put .next ∙ ap (λ (l : List ℕ). at + length l) e; there = rw e at (p .put .there) };
   short = omega (arith, p .short, ap length e);
 }
 
 -- one byte
 pub part-byte : (at d : ℕ) (before : List ℕ) → Part 1 (d ∷ []) at before (at + 1) (set before at d)
-unfolding laid
-part-byte at d before = record { next = refl; bytes = refl; short = omega arith }
+part-byte at d before = record { put = record { next = refl; there = refl }; short = omega arith }
 
 -- a part that is the whole line
-pub part-put : {m at k : ℕ} {a before after : List ℕ} → m ≤ 256 → Part m a at before k after → Put a at before k after
-part-put h p = record { next = p .next; bytes = p .bytes; short = omega (arith, p .short) }
+pub part-put : {m at k : ℕ} {a before after : List ℕ} → m ≤ lineRoom → Part m a at before k after → Line a at before k after
+part-put h p = record { put = p .put; short = omega (arith, p .short) }

@@ -1,10 +1,10 @@
 -- The three lines that document 01 says the program prints, as bytes; and what it is that a line was put into lent bytes.
 use mathlib.Core.Path.{_≡_}
 use mathlib.Core.List.{List, [], _∷_, _++_}
-use Prim.Native.Nat.{ℕ, _+_, _≤_}
+use Prim.Native.Nat.{ℕ, _≤_}
 use lib.IntN.{ℤ}
 use lib.ListN.{length}
-use Rattle.laws.specs.Lay.{laid}
+use Rattle.laws.specs.Lay.{Put}
 use Rattle.bucket.specs.declared.Network.{Network}
 use Rattle.bucket.specs.declared.Network.the-variants.{Pass as Passes, Burst}
 use Rattle.frame.specs.declared.Row.{Row}
@@ -51,14 +51,15 @@ refusalLine number offset = pairWords (codes "refused ") number offset ++ codes 
 
 -- ---- a line put into lent bytes
 
--- the line stands there from `at` on and ends before `then`; all else is as it was
-pub record Put (line : List ℕ) (at : ℕ) (before : List ℕ) (then : ℕ) (after : List ℕ) : Type 0 where
-  pub next : then ≡ at + length line
-  pub bytes : after ≡ laid at line before
-  pub short : length line ≤ 256
+-- the room for a line: none has more bytes
+abbrev pub lineRoom : ℕ
+lineRoom = 256
 
--- and so of a part of a line, which has at most so many bytes
+-- a part of a line is put, which has at most so many bytes
 pub record Part (most : ℕ) (part : List ℕ) (at : ℕ) (before : List ℕ) (then : ℕ) (after : List ℕ) : Type 0 where
-  pub next : then ≡ at + length part
-  pub bytes : after ≡ laid at part before
+  pub put : Put part at before then after
   pub short : length part ≤ most
+
+-- and a whole line
+abbrev pub Line : List ℕ → ℕ → List ℕ → ℕ → List ℕ → Type 0
+Line line at before then after = Part lineRoom line at before then after

@@ -6,7 +6,7 @@ ghost use Prim.Native.Nat.{_+_, _≤_, _<_};
 ghost use mathlib.Core.Path.{_≡_};
 ghost use lib.ListN.{length};
 ghost use Rattle.text.specs.Decimal.{codes, digits, signed};
-ghost use Rattle.text.specs.Lines.{Put, Part, fields, rowLine, summaryLine, refusalLine};
+ghost use Rattle.text.specs.Lines.{lineRoom, Line, Part, fields, rowLine, summaryLine, refusalLine};
 ghost use Rattle.text.specs.Lines.{pairWords, countWords, networkWords, bufferWords};
 use bucket::Network;
 use frame::Buffer;
@@ -93,8 +93,8 @@ fn put_fields(numbers: [i64; ROW], out: &mut [u8], at: usize) -> usize
 
 // `frame` and the ten numbers of a row.
 pub fn put_row(row: Row, out: &mut [u8], at: usize) -> usize
-    requires { ⌜ at + 256 ≤ length (now out) ⌝ }
-    ensures { λ r. ⌜ Put (rowLine row) at (now (out .entry)) r (now (out .exit)) ⌝ }
+    requires { ⌜ at + lineRoom ≤ length (now out) ⌝ }
+    ensures { λ r. ⌜ Line (rowLine row) at (now (out .entry)) r (now (out .exit)) ⌝ }
 {
     let frame = put_word(b"frame", out, at);
     let next = put_fields(row.numbers(), out, frame);
@@ -151,8 +151,8 @@ pub fn put_summary(
     out: &mut [u8],
     at: usize,
 ) -> usize
-    requires { ⌜ at + 256 ≤ length (now out) ⌝ }
-    ensures { λ r. ⌜ Put (summaryLine packets closed peak network buffer) at (now (out .entry)) r (now (out .exit)) ⌝ }
+    requires { ⌜ at + lineRoom ≤ length (now out) ⌝ }
+    ensures { λ r. ⌜ Line (summaryLine packets closed peak network buffer) at (now (out .entry)) r (now (out .exit)) ⌝ }
 {
     let counted = put_counts(packets, closed, peak, out, at);
     let judged = put_network(network, out, counted);
@@ -162,8 +162,8 @@ pub fn put_summary(
 
 // The last line of a file that was refused.
 pub fn put_refusal(number: u8, offset: u64, out: &mut [u8], at: usize) -> usize
-    requires { ⌜ at + 256 ≤ length (now out) ⌝ }
-    ensures { λ r. ⌜ Put (refusalLine number offset) at (now (out .entry)) r (now (out .exit)) ⌝ }
+    requires { ⌜ at + lineRoom ≤ length (now out) ⌝ }
+    ensures { λ r. ⌜ Line (refusalLine number offset) at (now (out .entry)) r (now (out .exit)) ⌝ }
 {
     let next = put_pair(b"refused ", number as u64, offset, out, at);
     put_word(b"\n", out, next)

@@ -5,19 +5,16 @@ use Prim.Native.Nat.{ℕ}
 use lib.IntN.{ℤ}
 use Rattle.laws.specs.Unique.{one-answer}
 use Rattle.packet.specs.declared.Packet.{Packet}
+use Rattle.frame.specs.declared.Row.{Row}
 use Rattle.timing.specs.declared.Rules.{Rules}
 use Rattle.timing.specs.declared.State.{State}
 use Rattle.timing.specs.declared.Fed.{Fed}
-use Rattle.timing.specs.Feed.{Laid, Ran, Outcome, Is}
+use Rattle.timing.specs.Feed.{Ran, Outcome, Is}
 
 -- a call of `feed`: its answer and its rows
 pub is-unique : (o : Outcome) (a b : Fed) (p q : List ℤ) → Is o a p → Is o b q → (a ≡ b) × (p ≡ q)
 is-unique o a b p q x y = (one-answer (x .answer-is) (y .answer-is), one-answer (x .rows-are) (y .rows-are))
 
-pub laid-unique : (rules : Rules) (s : State) (at : ℕ) (before : List ℤ) (a b : ℕ) (p q : List ℤ) → Laid rules s at before a p
-    → Laid rules s at before b q → (a ≡ b) × (p ≡ q)
-laid-unique rules s at before a b p q x y = (one-answer (x .next) (y .next), one-answer (x .rows) (y .rows))
-
-pub ran-unique : (rules : Rules) (s : State) (l : List Packet) (before : List ℤ) (a b : State) (p q : List ℤ) → Ran rules s l before a p
-    → Ran rules s l before b q → (a ≡ b) × (p ≡ q)
-ran-unique rules s l before a b p q x y = (one-answer (x .state-is) (y .state-is), one-answer (x .rows-are) (y .rows-are))
+pub ran-unique : {A : Type 0} (w : List Row → List A) (rules : Rules) (s : State) (l : List Packet) (at : ℕ) (before : List A) (a b : State)
+    (p q : List A) → Ran w rules s l at before a p → Ran w rules s l at before b q → (a ≡ b) × (p ≡ q)
+ran-unique w rules s l at before a b p q x y = (one-answer (x .state-is) (y .state-is), one-answer (x .rows-are) (y .rows-are))

@@ -47,6 +47,10 @@ summaryWith packets frames peak v =
     ∷ bufferPlace (v .buffer)
     ∷ []
 
+-- how many they are
+abbrev pub summaryWidth : ℕ
+summaryWidth = 9
+
 -- of a state: its counts and its peak, and its verdict
 abbrev pub summaryOf : State → List ℕ
 summaryOf s = summaryWith (s .past .packets) (s .frames .closed) (s .bucket .peak) (answersOf s)

@@ -10,9 +10,10 @@ use lib.Dec.{leb, eqb}
 use lib.Ieee.{binary64, inFloat}
 use lib.IntN.{ℤ}
 use lib.ListN.{length, take, drop}
+use lib.Seq.{sets}
 use Rattle.laws.specs.Choose.{pick, orElse}
 use Rattle.laws.specs.Count.{count}
-use Rattle.laws.specs.Lay.{laid, laid-is}
+use Rattle.laws.specs.Lay.{sets-front}
 use Rattle.grain.specs.Paper.{InstantBy}
 use Rattle.limits.specs.Fraction.{Same}
 use Rattle.limits.specs.Paper.{classOf, readSpacing}
@@ -143,7 +144,7 @@ module _ (x : StreamNumbers) (set-up : setUpOf x ≡ 0) (l : List Packet) (close
   -- its ten numbers stand at 10·k to 10·k + 9 of the lent ones, k being the frame's number
   pub numbers-of-row : (i : ℕ) (r : Row) (lent : List ℤ) → i < length l → by-place.rowsAt (rulesOf x .plan) (frameHistory x l) i ≡ r ∷ []
       → length (numbers (rowsTo x l (length l))) ≤ length lent
-      → take 10 (drop (10 * frame.numberAt (frameHistory x l) i) (laid 0 (numbers (rowsTo x l (length l))) lent)) ≡ numbersOf r
+      → take 10 (drop (10 * frame.numberAt (frameHistory x l) i) (sets lent 0 (numbers (rowsTo x l (length l))))) ≡ numbersOf r
   numbers-of-row i r lent = numbers-of-frame x l i (length l) r lent
 
   -- C_MAX and VRX_FULL are the largest whole numbers not greater than the paper's fractions, a TRO is as given or all of its fraction, and
@@ -151,7 +152,7 @@ module _ (x : StreamNumbers) (set-up : setUpOf x ≡ 0) (l : List Packet) (close
   pub limits-are : CMaxIs (classOf (x .parameters .class)) (x .parameters .schedule) (frameOf x) (x .parameters .n) (rulesOf x .limit)
       × VrxFullIs (classOf (x .parameters .class)) (x .parameters .maxudp) (frameOf x) (x .parameters .n) (rulesOf x .plan .full)
       × TroIs (frameOf x) (x .parameters .height) (x .parameters .tro) (rulesOf x .plan .tro)
-      × Same (record { num = rulesOf x .plan .num; den = rulesOf x .plan .den }) (readSpacing (x .parameters .schedule) (frameOf x) (x .parameters .n))
+      × Same (record { num = rulesOf x .plan .reads .num; den = rulesOf x .plan .reads .den }) (readSpacing (x .parameters .schedule) (frameOf x) (x .parameters .n))
   limits-are = (limit-exact x set-up, full-exact x set-up, tro-exact x set-up, spacing-exact x set-up)
 
   -- "Drain instants lie k·10F/(11n) grains after the first packet of the history, k = 1, 2, and so on (β = 1.10).": k of them are up to
@@ -194,8 +195,8 @@ module _ (x : StreamNumbers) (set-up : setUpOf x ≡ 0) (l : List Packet) (close
   verdict-given = rw (of-sound reached (sound-reached x set-up l closed accepted))
 
   -- "Unused row numbers stay untouched.": what a call writes, and behind it what stood there
-  pub rows-behind-stay : (out rows : List ℤ) → length out ≤ length rows → laid 0 out rows ≡ out ++ drop (length out) rows
-  rows-behind-stay out rows room = laid-is [] out rows room
+  pub rows-behind-stay : (out rows : List ℤ) → length out ≤ length rows → sets rows 0 out ≡ out ++ drop (length out) rows
+  rows-behind-stay out rows room = sets-front out rows room
 
   -- "The peak is the greatest excess of any unbroken run": its packets less "the drain instants after its first arrival up to its last"
   pub peak : bucket.GreatestExcess (bucketHistory x l) (reached .bucket .peak)

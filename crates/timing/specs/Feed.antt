@@ -6,8 +6,8 @@ use Prim.Native.Nat.{ℕ, _+_, _*_, _≤_, _<_}
 use lib.Dec.{leb}
 use lib.IntN.{ℤ}
 use lib.ListN.{length}
+use lib.Seq.{sets}
 use Rattle.laws.specs.Choose.{pick}
-use Rattle.laws.specs.Lay.{laid}
 use Rattle.grain.specs.Paper.{grains}
 use Rattle.packet.specs.declared.Past.{Past}
 use Rattle.packet.specs.declared.Scanned.{Scanned}
@@ -30,27 +30,22 @@ use Rattle.timing.specs.Range.{inRange, Sound}
 -- before a packet that arrives at t
 pub record Arrives (rules : Rules) (s : State) (t : ℕ) : Type 0 where
   pub few : s .past .packets < 1000000000
-  pub apart : 0 < rules .spacing
-  pub guess : s .drained * rules .spacing < 18446744073709551616
+  pub apart : 0 < rules .drains .num
+  pub guess : s .drained * rules .drains .num < 18446744073709551616
   pub since : elapsedOf (s .past) t ≤ 600000000000
-  pub reach : grains (elapsedOf (s .past) t) * rules .share < 18446744073709551616
+  pub reach : grains (elapsedOf (s .past) t) * rules .drains .den < 18446744073709551616
   pub level : s .bucket .level ≤ s .past .packets
   pub planned : Planned (rules .plan)
   pub push : s .frames .begun ≡ true → Pushable (rules .plan) (s .frames .current) t
-
--- before a row is laid at `at`, into so many numbers
-pub record Lays (rules : Rules) (s : State) (at room : ℕ) : Type 0 where
-  pub planned : Planned (rules .plan)
-  pub made : s .frames .begun ≡ true → Rowable (rules .plan) (s .frames .closed) (s .frames .marked) (s .frames .current)
-  pub fits : s .frames .begun ≡ true → at + 10 ≤ room
 
 -- the row that a marker closes, if the lead-in is over
 abbrev pub closing : Rules → State → List Row
 closing rules s = pick (s .frames .begun) (rowOf (rules .plan) (s .frames .closed) (s .frames .marked) (s .frames .current) ∷ []) []
 
-pub record Laid (rules : Rules) (s : State) (at : ℕ) (before : List ℤ) (then : ℕ) (after : List ℤ) : Type 0 where
-  pub next : then ≡ at + length (numbers (closing rules s))
-  pub rows : after ≡ laid at (numbers (closing rules s)) before
+-- before that row is made
+pub record Makes (rules : Rules) (s : State) : Type 0 where
+  pub planned : Planned (rules .plan)
+  pub made : s .frames .begun ≡ true → Rowable (rules .plan) (s .frames .closed) (s .frames .marked) (s .frames .current)
 
 -- ---- a list of packets that is accepted
 
@@ -59,17 +54,28 @@ unfoldable pub Passes : Past → List Packet → Type 0
 Passes past [] = Unit
 Passes past (p ∷ ps) = (numberOf past p ≡ 0) × Passes (nextOf past (p .time)) ps
 
--- what a run through a list needs: a state in range, packets that pass, and room for the rows from `at` on
-pub record Runs (rules : Rules) (s : State) (l : List Packet) (at room : ℕ) : Type 0 where
+-- the rules are the stream's, and the state is in range: so it stays, packet by packet
+pub record Going (rules : Rules) (s : State) : Type 0 where
   pub rules-are : rules ≡ rulesOf (s .numbers)
   pub sound : Sound s
-  pub passes : Passes (s .past) l
-  pub fits : at + length (numbers (rowsAfter rules s l)) ≤ room
 
--- and what it gives
-pub record Ran (rules : Rules) (s : State) (l : List Packet) (before : List ℤ) (state : State) (after : List ℤ) : Type 0 where
-  pub state-is : state ≡ stateAfter rules s l
-  pub rows-are : after ≡ laid 0 (numbers (rowsAfter rules s l)) before
+-- Rows are written as numbers, as bytes or as lines: `w` says how.
+module _ {A : Type 0} (w : List Row → List A) where
+  -- before the row that a marker closes is written at `at`, where so much has room
+  pub record Lays (rules : Rules) (s : State) (at room : ℕ) : Type 0 where
+    pub makes : Makes rules s
+    pub fits : at + length (w (closing rules s)) ≤ room
+
+  -- what a run through a list needs: packets that pass, and room for the rows from `at` on
+  pub record Runs (rules : Rules) (s : State) (l : List Packet) (at room : ℕ) : Type 0 where
+    pub going : Going rules s
+    pub passes : Passes (s .past) l
+    pub fits : at + length (w (rowsAfter rules s l)) ≤ room
+
+  -- and what it gives
+  pub record Ran (rules : Rules) (s : State) (l : List Packet) (at : ℕ) (before : List A) (state : State) (after : List A) : Type 0 where
+    pub state-is : state ≡ stateAfter rules s l
+    pub rows-are : after ≡ sets before at (w (rowsAfter rules s l))
 
 -- ---- the whole call
 
@@ -86,7 +92,7 @@ module _ (s : State) (rows : List ℤ) where
   abbrev pub acceptedAs : List Packet → Outcome
   acceptedAs l = record {
     answer = Accepted (stateAfter (rulesOf (s .numbers)) s l);
-    rows = laid 0 (numbers (rowsAfter (rulesOf (s .numbers)) s l)) rows;
+    rows = sets rows 0 (numbers (rowsAfter (rulesOf (s .numbers)) s l));
   }
 
   -- "15 fewer than ten row numbers per frame closed in this call", with "the call's first packet's" place
@@ -134,7 +140,7 @@ writes s c = numbers (rowsAfter (rulesOf (s .numbers)) s (c .packets))
 
 -- a call is accepted: the state after it, and what it writes laid from the front of its rows; "unused row numbers stay untouched"
 abbrev pub Accepts : State → Call → State → Type 0
-Accepts s c t = feedAll s (c .rows) (c .packets) ≡ record { answer = Accepted t; rows = laid 0 (writes s c) (c .rows) }
+Accepts s c t = feedAll s (c .rows) (c .packets) ≡ record { answer = Accepted t; rows = sets (c .rows) 0 (writes s c) }
 
 -- a call is refused: it names the number and the place, and leaves state and rows
 abbrev pub Refuses : State → Call → ℕ → ℕ → Type 0

@@ -1,6 +1,7 @@
 -- The proofs behind Demands.antt, and the laws that the functions' own proofs cite. Nothing here need be read to believe the measurement.
 pub mod Planning
 pub mod InRange
+pub mod Sink
 pub mod Laying
 pub mod Staying
 pub mod Running

@@ -37,12 +37,10 @@ rulesOf x = record {
     period = frameOf x;
     packets = x .parameters .n;
     tro = troGrains (frameOf x) (x .parameters .height) (x .parameters .tro);
-    num = readNum (x .parameters .schedule) (frameOf x);
-    den = readDen (x .parameters .schedule) (x .parameters .n);
+    reads = record { num = readNum (x .parameters .schedule) (frameOf x); den = readDen (x .parameters .schedule) (x .parameters .n) };
     full = vrxFull (classOf (x .parameters .class)) (x .parameters .maxudp) (frameOf x) (x .parameters .n);
   };
-  spacing = 10 * frameOf x;
-  share = 11 * x .parameters .n;
+  drains = record { num = 10 * frameOf x; den = 11 * x .parameters .n };
   limit = cMax (classOf (x .parameters .class)) (x .parameters .schedule) (frameOf x) (x .parameters .n);
 }
 
@@ -53,7 +51,7 @@ freshOf x = record { numbers = x; past = nothing; drained = 0; bucket = B.emptyO
 
 -- the drain instants up to a packet's arrival
 abbrev pub drainedOf : Rules → Past → ℕ → ℕ
-drainedOf rules past t = instants (grains (elapsedOf past t)) (rules .spacing) (rules .share)
+drainedOf rules past t = instants (grains (elapsedOf past t)) (rules .drains .num) (rules .drains .den)
 
 -- the packet arrives: it is in the bucket, and in the open frame if there is one
 unfoldable pub arriveOf : Rules → State → ℕ → ℕ → State

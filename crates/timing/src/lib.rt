@@ -4,8 +4,9 @@
 // a file, a byte or a line of output.
 ghost use mathlib.Core.Path.{_≡_};
 ghost use Prim.Native.Nat.{_-_};
+ghost use Rattle.laws.specs.Lay.{Put};
 ghost use Rattle.grain.specs.Paper.{grains as grainsOf};
-ghost use Rattle.timing.specs.Step.{setUpOf, frameOf, rulesOf, freshOf, arriveOf, markOf};
+ghost use Rattle.timing.specs.Step.{setUpOf, frameOf, rulesOf, freshOf, arriveOf, markOf, numbers};
 ghost use Rattle.timing.specs.Range.{inRange};
 ghost use Prim.Native.Nat.{_≤_};
 ghost use lib.ListN.{length};
@@ -13,12 +14,13 @@ ghost use Rattle.packet.specs.Paper.{OneLength, packets};
 ghost use lib.Dec.{T};
 ghost use lib.Ieee.{binary64, inFloat};
 ghost use Rattle.timing.specs.Answers.{setUpAs, verdictOf, summaryWith, microsecondsOf, graphOf};
-ghost use Rattle.timing.specs.Feed.{Arrives, Lays, Laid, Runs, Ran, refusedAs, feedOf, Is};
+ghost use Rattle.timing.specs.Feed.{Arrives, closing, Lays, Runs, Ran, refusedAs, feedOf, Is};
 use bucket::Bucket;
 use bucket::Network;
 use frame::Buffer;
 use frame::Frames;
 use frame::Plan;
+use grain::Spacing;
 use limits::Parameters;
 use packet::Past;
 use packet::Scanned;
@@ -31,12 +33,11 @@ pub struct StreamNumbers {
     pub parameters: Parameters,
 }
 
-// What follows from them: the plan of the frames, the drain instants, which lie spacing/share grains
-// apart, and the class limit of the bucket. Worked out once a call.
+// What follows from them: the plan of the frames, the spacing of the drain instants,
+// and the class limit of the bucket. Worked out once a call.
 pub struct Rules {
     pub plan: Plan,
-    pub spacing: u64,
-    pub share: u64,
+    pub drains: Spacing,
     pub limit: u64,
 }
 
@@ -128,14 +129,18 @@ impl StreamNumbers {
             period: frame,
             packets: p.n as u64,
             tro: limits::tro_grains(frame, p.height, p.tro),
-            num: limits::read_num(p.schedule, frame),
-            den: limits::read_den(p.schedule, p.n),
+            reads: Spacing {
+                num: limits::read_num(p.schedule, frame),
+                den: limits::read_den(p.schedule, p.n),
+            },
             full: limits::vrx_full(p.class, p.maxudp, frame, p.n),
         };
         Rules {
             plan,
-            spacing: 10 * frame,
-            share: 11 * (p.n as u64),
+            drains: Spacing {
+                num: 10 * frame,
+                den: 11 * (p.n as u64),
+            },
             limit: limits::c_max(p.class, p.schedule, frame, p.n),
         }
     }
@@ -207,7 +212,7 @@ impl State {
         let plan = rules.plan;
         let since = past.elapsed(t);
         let elapsed = StreamNumbers::grains(since);
-        let drained = grain::instants(self.drained, elapsed, rules.spacing, rules.share);
+        let drained = grain::instants(self.drained, elapsed, rules.drains.num, rules.drains.den);
         State {
             numbers,
             past: past.next(t),
@@ -231,8 +236,8 @@ impl State {
 
     // The row of the frame that a marker closes now, laid into `rows` from `at` on; where the next one goes.
     fn lay_row(self, rules: Rules, rows: &mut [i64], at: usize) -> usize
-        requires { ⌜ Lays rules self at (length (now rows)) ⌝ }
-        ensures { λ r. ⌜ Laid rules self at (now (rows .entry)) r (now (rows .exit)) ⌝ }
+        requires { ⌜ Lays numbers rules self at (length (now rows)) ⌝ }
+        ensures { λ r. ⌜ Put (numbers (closing rules self)) at (now (rows .entry)) r (now (rows .exit)) ⌝ }
     {
         let frames = self.frames;
         if frames.begun {
@@ -257,8 +262,8 @@ impl State {
         rows: &mut [i64],
     ) -> State
         requires { ⌜ OneLength (now arrivals) (now stamps) (now markers)
-            × Runs rules self (packets (now arrivals) (now stamps) (now markers)) 0 (length (now rows)) ⌝ }
-        ensures { λ r. ⌜ Ran rules self (packets (now (arrivals .entry)) (now (stamps .entry)) (now (markers .entry)))
+            × Runs numbers rules self (packets (now arrivals) (now stamps) (now markers)) 0 (length (now rows)) ⌝ }
+        ensures { λ r. ⌜ Ran numbers rules self (packets (now (arrivals .entry)) (now (stamps .entry)) (now (markers .entry))) 0
             (now (rows .entry)) r (now (rows .exit)) ⌝ }
     {
         let mut s = self;

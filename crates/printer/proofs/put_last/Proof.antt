@@ -2,7 +2,7 @@
 use mathlib.Core.Path.{sym, ap, _∙_}
 use Rattle.record.specs.declared.Next.{Next}
 use Rattle.printer.specs.Step.{lineOf}
-use Rattle.printer.proofs.Answers.{last-sum, last-none, put-is, put-none}
+use Rattle.printer.proofs.Answers.{last-sum, last-none, line-is, line-none}
 use borrow.Author.Needs.{needs}
 use Rattle.printer.proofs.put_last.Statement.{statement}
 use Rattle.printer.proofs.put_last.Tie as tie
@@ -23,13 +23,13 @@ returns : tie.Need-returns
 returns c = let t = c .before .before .before .before in
     let e = t .before .ends in
     let start = t .before .before .before .before in
-    put-is (last-sum (start .args .s) _ (t .before .before .match .keys2) (sym (e .ensures) ∙ t .if1 .taken))
+    line-is (last-sum (start .args .s) _ (t .before .before .match .keys2) (sym (e .ensures) ∙ t .if1 .taken))
     (c .before .before .put-sum .ensures)
 
 returns-2 : tie.Need-returns-2
 returns-2 c = let e = c .before .ends in
     let start = c .before .before .before .before in
-    put-none _ _ (last-none (start .args .s) _ (sym (e .ensures) ∙ c .if1 .left))
+    line-none _ _ (last-none (start .args .s) _ (sym (e .ensures) ∙ c .if1 .left))
 
 put-refusal-requires : tie.Need-put-refusal-requires
 put-refusal-requires c κs = search needs
@@ -41,7 +41,7 @@ returns-3 : tie.Need-returns-3
 unfolding lineOf
 returns-3 c = let i = c .before .before .before .before .before in
     let start = i .before .before .before in
-    put-is (ap (λ (r : Next). lineOf r (start .args .s)) (sym (i .item .given .1))) (c .before .before .put-refusal .ensures)
+    line-is (ap (λ (r : Next). lineOf r (start .args .s)) (sym (i .item .given .1))) (c .before .before .put-refusal .ensures)
 
 pub put-last-spec : {M : Type 1} → statement M
 put-last-spec =

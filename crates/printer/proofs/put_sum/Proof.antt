@@ -4,7 +4,7 @@ use mathlib.Core.List.{List}
 use Prim.Native.Nat.{ℕ}
 use denote.Ref.{now}
 use borrow.Author.Needs.{needs}
-use Rattle.text.specs.Lines.{Put}
+use Rattle.text.specs.Lines.{Line}
 use Rattle.printer.specs.Paper.{judgedLine}
 use Rattle.printer.proofs.put_sum.Statement.{statement}
 use Rattle.printer.proofs.put_sum.Tie as tie
@@ -32,7 +32,7 @@ returns c =
     let put = c .before .before in
     let told = put .before .before .before in
     let a = told .before .before .before .before .before .before .before .args in
-    subst (λ (l : List ℕ). Put l (a .at) (now (a .out)) (put .put-summary .result) (put .put-summary .last .1 .1 .1 .1 .1 .0))
+    subst (λ (l : List ℕ). Line l (a .at) (now (a .out)) (put .put-summary .result) (put .put-summary .last .1 .1 .1 .1 .1 .0))
     (ap (judgedLine (a .s)) (sym (told .judged .given .1) ∙ told .before .before .verdict .ensures)) (put .put-summary .ensures)
 
 same-length-2 : tie.Need-same-length-2
@@ -43,7 +43,7 @@ returns-2 c =
     let put = c .before .before in
     let told = put .before .before .before in
     let a = told .before .before .before .before .before .before .before .args in
-    subst (λ (l : List ℕ). Put l (a .at) (now (a .out)) (put .put-refusal .result) (put .put-refusal .last .1 .1 .0))
+    subst (λ (l : List ℕ). Line l (a .at) (now (a .out)) (put .put-refusal .result) (put .put-refusal .last .1 .1 .0))
     (ap (judgedLine (a .s)) (sym (told .judged2 .given .1) ∙ told .before .before .verdict .ensures)) (put .put-refusal .ensures)
 
 pub put-sum-spec : {M : Type 1} → statement M

@@ -4,14 +4,15 @@ use Prim.Native.Nat.{_+_, _-_, _≤_}
 use native.Mathlib.Omega.{arith}
 use native.Mathlib.Nat.{zero-add}
 use lib.ListN.{length, drop, length-set}
+use lib.Seq.{sets}
 use borrow.Author.Needs.{needs}
-use Rattle.laws.specs.Lay.{laid, laid-turn, laid-done}
+use Rattle.laws.specs.Lay.{sets-turn, sets-done}
 use Rattle.probe.proofs.lay.Statement.{statement}
 use Rattle.probe.proofs.lay.Tie as tie
 
 abbrev Inv-loop : tie.InvT-loop
 Inv-loop from to₀ k₀ to k =
-    (laid k (drop k from) to ≡ laid 0 from to₀) × (k ≤ length from) × (length from ≤ length to₀) × (length to ≡ length to₀)
+    (sets to k (drop k from) ≡ sets to₀ 0 from) × (k ≤ length from) × (length from ≤ length to₀) × (length to ≡ length to₀)
 
 abbrev μ-loop : tie.MeasureT-loop
 μ-loop from to₀ k₀ to k = length from - k
@@ -41,7 +42,7 @@ loop-again : tie.Need-loop-again Inv-loop μ-loop
 loop-again c =
     let l = c .before .before .loop in
     let from = c .before .before .before .args .from .now in
-    let turn = rw (zero-add (l .k), zero-add (l .k + 1)) at (laid-turn 0 (l .k) from (l .to) 0 (omega arith)) in
+    let turn = rw (zero-add (l .k), zero-add (l .k + 1)) at (sets-turn 0 (l .k) from (l .to) 0 (omega arith)) in
     (turn ∙ l .inv .0, omega arith, l .inv .2, simp length-set (l .inv .3))
 
 same-length : tie.Need-same-length Inv-loop μ-loop
@@ -50,7 +51,7 @@ same-length c = search needs
 returns : tie.Need-returns Inv-loop μ-loop
 returns c =
     let l = c .before .loop in
-    laid-done 0 (l .k) (c .before .before .args .from .now) (l .to) (omega arith) (rw (zero-add (l .k)) (l .inv .0))
+    sets-done 0 (l .k) (c .before .before .args .from .now) (l .to) (omega arith) (rw (zero-add (l .k)) (l .inv .0))
 
 pub lay-spec : {M : Type 1} → statement M
 lay-spec =

@@ -2,9 +2,9 @@
 use mathlib.Core.Path.{sym, ap, _∙_}
 use mathlib.Core.List.{List}
 use Prim.Native.Nat.{ℕ}
+use lib.Seq.{sets}
 use denote.Ref.{now}
 use borrow.Author.Needs.{needs}
-use Rattle.laws.specs.Lay.{laid}
 use Rattle.timing.specs.declared.Verdict.{Verdict}
 use Rattle.timing.specs.Answers.{summaryWith}
 use Rattle.timing.specs.Laws.Answering.{verdict-is, verdict-there}
@@ -42,7 +42,7 @@ returns c =
     let s = start .args .s in
     let own = verdict-is s _ (start .pre .1) given in
     put .lay .ensures
-    ∙ ap (λ (l : List ℕ). laid 0 l (now (start .args .out)))
+    ∙ ap (λ (l : List ℕ). sets (now (start .args .out)) 0 l)
     (summed .summary .ensures ∙ ap (λ (v : Verdict). summaryWith (s .past .packets) (s .frames .closed) (s .bucket .peak) v) own)
 
 returns-2 : tie.Need-returns-2

@@ -5,7 +5,9 @@ use mathlib.Core.Logic.{⊎-elim}
 use native.Mathlib.Omega.{arith}
 use lib.ListN.{length}
 use borrow.Author.Needs.{needs}
-use Rattle.report.proofs.Measuring.{Loop, loop-begins, sixteen, there, packet-arrives, packet-lays, packet-closed, turn-passes, turn-closes}
+use Rattle.timing.specs.Laws.Running.{turn-marked, turn-plain}
+use Rattle.report.proofs.Bytes.{as-bytes}
+use Rattle.report.proofs.Measuring.{Loop, loop-begins, sixteen, there, packet-arrives, packet-lays, packet-closed, packet-next}
 use Rattle.report.proofs.Measuring.{loop-ends, measured-from}
 use Rattle.report.proofs.measure.Statement.{statement}
 use Rattle.report.proofs.measure.Tie as tie
@@ -76,19 +78,19 @@ loop-again : tie.Need-loop-again Inv-loop μ-loop
 loop-again c =
     let arrived = c .before .before in
     let turn = arrived .before .before .before in
-    let k = turn .before .loop .inv in
-    let some = turn .loop-test .taken in
-    let read = arrived .before .packet-at .ensures in
-    ⊎-elim
-    (λ w. rw (w .7, w .8, w .6) (turn-closes k some read (arrived .arrive .ensures) (w .0 .taken) (w .2 .ensures) (w .5 .ensures)))
-    (λ w. rw (w .2, w .3, w .1) (turn-passes k some read (arrived .arrive .ensures) (w .0 .left)))
-    (c .if1 .came)
+    let l = turn .before .loop in
+    let a = arrived .arrive .ensures in
+    packet-next (l .inv) (turn .loop-test .taken) (arrived .before .packet-at .ensures)
+    (⊎-elim
+    (λ w. rw (w .7, w .8, w .6) (turn-marked as-bytes _ (l .s) _ (l .at) (l .out) a (w .0 .taken) (w .5 .ensures) (w .2 .ensures)))
+    (λ w. rw (w .2, w .3, w .1) (turn-plain as-bytes _ (l .s) _ (l .at) (l .out) a (w .0 .left)))
+    (c .if1 .came))
 
 same-length : tie.Need-same-length Inv-loop μ-loop
 same-length c = search needs
 
 returns : tie.Need-returns Inv-loop μ-loop
-returns c = measured-from (c .before .before .fresh .ensures) (loop-ends (c .before .loop .inv) (omega arith))
+returns c = measured-from (c .before .before .before .before .before .before .args .file .now) (c .before .before .fresh .ensures) (loop-ends (c .before .loop .inv) (omega arith))
 
 pub measure-spec : {M : Type 1} → statement M
 measure-spec =

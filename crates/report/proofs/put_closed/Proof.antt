@@ -1,22 +1,26 @@
 -- Where the lead-in is over the row is made and stored; else nothing is.
+use mathlib.Core.Path.{sym, ap}
+use Prim.Native.Nat.{ℕ, _+_}
 use native.Mathlib.Omega.{arith}
-use Rattle.report.proofs.Measuring.{closes-one, closes-none}
+use Rattle.timing.specs.Laws.Laying.{closedRow, row-fits, puts-one, puts-none}
+use Rattle.report.proofs.Bytes.{as-bytes, row-length}
 use borrow.Author.Needs.{needs}
 use Rattle.report.proofs.put_closed.Statement.{statement}
 use Rattle.report.proofs.put_closed.Tie as tie
 
 row-requires : tie.Need-row-requires
-row-requires c κs = let s = c .before .before .before .before in (s .pre .planned, s .pre .made (c .before .if1 .taken))
+row-requires c κs = let s = c .before .before .before .before in (s .pre .makes .planned, s .pre .makes .made (c .before .if1 .taken))
 
 put-row-requires : tie.Need-put-row-requires
 put-row-requires c κs =
     let s = c .before .before .before .before .before .before in
-    omega (arith, s .pre .fits (c .before .before .before .if1 .taken))
+    rw (c .before .row .ensures) (row-fits as-bytes (s .args .rules) (s .args .s) (c .before .before .before .if1 .taken) (s .pre))
 
 add-result : tie.Need-add-result
 add-result c =
     let s = c .before .before .before .before .before .before .before .before .before in
-    omega (arith, s .pre .fits (c .before .before .before .before .before .before .if1 .taken))
+    let fits = row-fits as-bytes (s .args .rules) (s .args .s) (c .before .before .before .before .before .before .if1 .taken) (s .pre) in
+    omega (arith, fits, row-length (closedRow (s .args .rules) (s .args .s)))
 
 same-length : tie.Need-same-length
 same-length c = search needs
@@ -24,11 +28,13 @@ same-length c = search needs
 returns : tie.Need-returns
 returns c =
     let s = c .before .before .before .before .before .before .before .before .before in
-    closes-one (s .args .rules) (s .args .s) (s .args .at) _ (c .before .before .before .before .before .before .if1 .taken)
-    (c .before .before .before .before .row .ensures) (c .before .before .put-row .ensures)
+    let row = c .before .before .before .before .row in
+    puts-one as-bytes (s .args .rules) (s .args .s) (s .args .at) _ (row .result)
+    (c .before .before .before .before .before .before .if1 .taken)
+    (row .ensures) (ap (λ (n : ℕ). s .args .at + n) (sym (row-length (row .result)))) (c .before .before .put-row .ensures)
 
 returns-2 : tie.Need-returns-2
-returns-2 c = let s = c .before .before .before in closes-none (s .args .rules) (s .args .s) (s .args .at) _ (c .if1 .left)
+returns-2 c = let s = c .before .before .before in puts-none as-bytes (s .args .rules) (s .args .s) (s .args .at) _ (c .if1 .left)
 
 pub put-closed-spec : {M : Type 1} → statement M
 put-closed-spec =

@@ -6,7 +6,8 @@ use native.Mathlib.Omega.{arith}
 use native.Mathlib.Nat.{add-zero}
 use lib.ListN.{length, drop}
 use lib.Seq.{sets}
-use Rattle.report.proofs.Bytes.{length-signs, sign-passed, store-turn, store-done}
+use Rattle.frame.specs.Step.{rowWidth}
+use Rattle.report.proofs.Bytes.{length-signs, row-length, sign-passed, store-turn, store-done}
 use borrow.Author.Needs.{needs}
 use Rattle.report.specs.Paper.{signed, inBytes, encoded}
 use Rattle.report.proofs.put_row.Statement.{statement}
@@ -14,17 +15,23 @@ use Rattle.report.proofs.put_row.Tie as tie
 
 abbrev Inv-loop : tie.InvT-loop
 Inv-loop out₀ at numbers k₀ out k =
-    (sets out (8 * (at + k)) (inBytes (drop k (map signed numbers))) ≡ sets out₀ (8 * at) (encoded numbers)) × (k ≤ 10)
-    × (length out ≡ length out₀) × (length numbers ≡ 10)
+    (sets out (at + 8 * k) (inBytes (drop k (map signed numbers))) ≡ sets out₀ at (encoded numbers)) × (k ≤ rowWidth)
+    × (length out ≡ length out₀) × (length numbers ≡ rowWidth) × (at + 8 * rowWidth ≤ length out₀)
 
 abbrev μ-loop : tie.MeasureT-loop
-μ-loop out₀ at numbers k₀ out k = 10 - k
+μ-loop out₀ at numbers k₀ out k = rowWidth - k
 
 numbers-requires : tie.Need-numbers-requires Inv-loop μ-loop
 numbers-requires c κs = search needs
 
 loop-holds : tie.Need-loop-holds Inv-loop μ-loop
-loop-holds c = (rw add-zero, omega arith, refl, ap length (c .numbers .ensures))
+loop-holds c = (
+  rw add-zero,
+  omega arith,
+  refl,
+  ap length (c .numbers .ensures),
+  omega (arith, c .before .before .pre, row-length (c .before .before .args .row)),
+)
 
 add-write64 : tie.Need-add-write64 Inv-loop μ-loop
 add-write64 c = search needs
@@ -62,6 +69,7 @@ loop-again c =
       omega arith,
       search needs,
       l .inv .3,
+      l .inv .4,
     )
 
 same-length : tie.Need-same-length Inv-loop μ-loop
@@ -82,8 +90,8 @@ put-row-spec =
     μ-loop
     numbers-requires
     loop-holds
-    add-write64
     mul-write64
+    add-write64
     mul-bits
     array-copy-out-bits
     bits-requires

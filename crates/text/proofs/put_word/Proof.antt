@@ -2,16 +2,17 @@
 use Prim.Native.Nat.{_+_, _-_, _≤_}
 use mathlib.Core.Path.{_≡_, refl, _∙_}
 use native.Mathlib.Nat.{add-zero}
-use Rattle.laws.specs.Lay.{laid, laid-turn, laid-done}
+use Rattle.laws.specs.Lay.{sets-turn, sets-done}
 use native.Mathlib.Omega.{arith}
 use denote.Ref.{now}
 use lib.ListN.{length, drop, length-set}
+use lib.Seq.{sets}
 use borrow.Author.Needs.{needs}
 use Rattle.text.proofs.put_word.Statement.{statement}
 use Rattle.text.proofs.put_word.Tie as tie
 
 abbrev Inv-loop : tie.InvT-loop
-Inv-loop word out₀ at k₀ out k = (laid (at + k) (drop k word) out ≡ laid at word out₀) × (k ≤ length word) × (length out ≡ length out₀)
+Inv-loop word out₀ at k₀ out k = (sets out (at + k) (drop k word) ≡ sets out₀ at word) × (k ≤ length word) × (length out ≡ length out₀)
 
 abbrev μ-loop : tie.MeasureT-loop
 μ-loop word out₀ at k₀ out k = length word - k
@@ -36,7 +37,7 @@ loop-less c = search needs
 
 loop-again : tie.Need-loop-again Inv-loop μ-loop
 loop-again c = let l = c .before .before .loop in
-    (laid-turn _ (l .k) _ (l .out) 0 (c .before .loop-test .taken) ∙ l .inv .0, omega arith, simp length-set (l .inv .2))
+    (sets-turn _ (l .k) _ (l .out) 0 (c .before .loop-test .taken) ∙ l .inv .0, omega arith, simp length-set (l .inv .2))
 
 add-result : tie.Need-add-result Inv-loop μ-loop
 add-result c = search needs
@@ -47,7 +48,7 @@ same-length c = search needs
 returns : tie.Need-returns Inv-loop μ-loop
 returns c = let l = c .before .loop in
     let word = now (c .before .before .args .word) in
-    record { next = omega arith; bytes = laid-done _ (l .k) word (l .out) (omega arith) (l .inv .0); short = omega arith }
+    record { put = record { next = omega arith; there = sets-done _ (l .k) word (l .out) (omega arith) (l .inv .0) }; short = omega arith }
 
 pub put-word-spec : {M : Type 1} → statement M
 put-word-spec =

@@ -55,7 +55,7 @@ module _ (x : StreamNumbers) (set-up : setUpOf x ≡ 0) where
   unfolding rulesOf
   tro-exact = tro-is (x .parameters .rate) (x .parameters .height) (x .parameters .tro)
 
-  pub spacing-exact : Same (record { num = rulesOf x .plan .num; den = rulesOf x .plan .den })
+  pub spacing-exact : Same (record { num = rulesOf x .plan .reads .num; den = rulesOf x .plan .reads .den })
       (readSpacing (x .parameters .schedule) (frameOf x) (x .parameters .n))
   unfolding rulesOf
   spacing-exact = spacing (x .parameters .schedule) (frameOf x) (x .parameters .n)

@@ -26,7 +26,8 @@ use Rattle.timing.specs.Feed.{Passes, Outcome, refusedBy, acceptedAs, by
 use Rattle.timing.specs.Laws.InRange.{of-sound, sound-of}
 use Rattle.timing.specs.Laws.Feeding.{accepted-from, feed-slices}
 use Rattle.timing.specs.Laws.Staying.{sound-step}
-use Rattle.timing.specs.Laws.Running.{numbers-append, step-numbers, step-past}
+use Rattle.timing.specs.Laws.Running.{step-numbers, step-past}
+use Rattle.timing.specs.Laws.Sink.{both, as-numbers}
 use Rattle.timing.specs.Laws.Scanning.{begun-step, rows-count}
 use Rattle.timing.specs.Laws.Declared.{rows-cut}
 
@@ -99,7 +100,7 @@ deals (c ∷ cs) s x p r =
     let all = call (accepts s (c .rows) l x (cut .0) (r .0)) rest in
     let states : stateAfter rules t m ≡ stateAfter rules s (l ++ m) = sym (fold-cut (stepOf rules) s l m) in
     let rows : numbers (rowsAfter rules s l) ++ numbers (rowsAfter rules t m) ≡ numbers (rowsAfter rules s (l ++ m)) =
-    sym (numbers-append (rowsAfter rules s l) (rowsAfter rules t m)) ∙ ap numbers (sym (rows-cut rules s l m)) in
+    sym (both as-numbers (rowsAfter rules s l) (rowsAfter rules t m)) ∙ ap numbers (sym (rows-cut rules s l m)) in
     subst (λ (u : State). Deals s (c ∷ cs) u (numbers (rowsAfter rules s (l ++ m)))) states
     (subst (λ (o : List ℤ). Deals s (c ∷ cs) (stateAfter rules t m) o) rows all)
 

@@ -8,6 +8,7 @@ use native.Mathlib.Nat.{le-div-iff-mul-le, div-lt-iff-lt-mul}
 use lib.Dec.{leb}
 use lib.IntN.{ℤ}
 use lib.ListN.{length}
+use lib.Seq.{sets}
 use borrow.Author.Tests.{le-leb, lt-leb}
 use Rattle.packet.specs.declared.Refusal.{Refusal}
 use Rattle.packet.specs.declared.Scanned.{Scanned}
@@ -18,7 +19,6 @@ use Rattle.packet.specs.Step.{scanOf, scannedOf}
 use Rattle.packet.proofs.Turn.{scanned-fine, lengths-same}
 use Rattle.laws.specs.Choose.{pick}
 use Rattle.laws.specs.Fold.{fold}
-use Rattle.laws.specs.Lay.{laid}
 use Rattle.timing.specs.declared.State.{State}
 use Rattle.timing.specs.declared.Rules.{Rules}
 use Rattle.timing.specs.declared.Fed.{Fed}
@@ -70,19 +70,18 @@ module _ (s : State) (rows : List ℤ) (ts ss ms : List ℕ) where
 
       -- the rules that the code has worked out
       module _ {q : Rules} (eq : q ≡ rulesOf (s .numbers)) (l : n ≤ length rows / 10) where
-        pub runs : Runs q s (packets ts ss ms) 0 (length rows)
+        pub runs : Runs numbers q s (packets ts ss ms) 0 (length rows)
         runs =
             let r = scan-runs (packets ts ss ms) q s 0 n (fine .1) in
             record {
-              rules-are = eq;
-              sound = sound-of s e;
+              going = record { rules-are = eq; sound = sound-of s e };
               passes = r .0;
               fits = omega (arith, enough l, r .1, numbers-length (rowsAfter q s (packets ts ss ms)));
             }
 
-        pub fed : {t : State} {after : List ℤ} → Ran q s (packets ts ss ms) rows t after → Is (feedOf s rows ts ss ms) (Accepted t) after
+        pub fed : {t : State} {after : List ℤ} → Ran numbers q s (packets ts ss ms) 0 rows t after → Is (feedOf s rows ts ss ms) (Accepted t) after
         fed {t} {after} ran =
-            let r = subst (λ (x : Rules). Ran x s (packets ts ss ms) rows t after) eq ran in
+            let r = subst (λ (x : Rules). Ran numbers x s (packets ts ss ms) 0 rows t after) eq ran in
             let o = is {q = acceptedAs s rows (packets ts ss ms)} (sym (rw (le-leb (n * 10) (length rows) (enough l))) ∙ room-for) in
             record { answer-is = ap Accepted (r .state-is) ∙ o .answer-is; rows-are = r .rows-are ∙ o .rows-are }
 
@@ -142,7 +141,7 @@ accepted-from s t rows l = go (inRange s) refl (scanOf (s .past) (s .frames .beg
     go false e x f g = let z : _≡_ {A = ℕ} 0 1 = cc in absurd (omega arith)
 
 pub nothing-fed : (s : State) (rows : List ℤ) → inRange s ≡ true → feedAll s rows [] ≡ record { answer = Accepted s; rows = rows }
-unfolding feedAll scanOf fold rowsAfter numbers laid
+unfolding feedAll scanOf fold rowsAfter numbers
 nothing-fed s rows e = rw e (rw (le-leb 0 (length rows) (omega arith)))
 
 -- slices of one length are their packets

@@ -31,7 +31,8 @@ use Rattle.timing.specs.Feed.{Passes}
 use Rattle.laws.specs.Every.{and-right}
 use Rattle.timing.specs.Laws.Planning.{planned}
 use Rattle.timing.specs.Laws.Staying.{sound-step, rows-made}
-use Rattle.timing.specs.Laws.Running.{numbers-append, step-numbers, step-past}
+use Rattle.timing.specs.Laws.Running.{step-numbers, step-past}
+use Rattle.timing.specs.Laws.Sink.{both, as-numbers}
 
 -- ---- the nine numbers of a state
 
@@ -94,5 +95,5 @@ rows-fit (p ∷ l) s x pass kept held =
     let others = rows-fit l (stepOf rules s p) (sound-step s p x (pass .0))
     (subst (λ (q : Past). Passes q l) (sym (step-past rules s p)) (pass .1)) (stamp-step rules s p kept (held 0)) (λ i. held (suc i)) in
     let rest = subst (λ (r : Rules). AllFit (numbers (rowsAfter r (stepOf rules s p) l))) same others in
-    subst AllFit (sym (numbers-append (rowsOf rules s p) (rowsAfter rules (stepOf rules s p) l)))
+    subst AllFit (sym (both as-numbers (rowsOf rules s p) (rowsAfter rules (stepOf rules s p) l)))
     (fit-append (numbers (rowsOf rules s p)) _ (row-here s p x (pass .0) kept (held 0)) rest)

@@ -1,29 +1,34 @@
--- A row laid where a marker closes a frame, and nothing where it ends the lead-in.
+-- A row written where a marker closes a frame, and nothing where it ends the lead-in, however rows are written.
 use mathlib.Core.Path.{_≡_, sym, _∙_}
 use mathlib.Core.Bool.{true, false}
-use mathlib.Core.List.{List, append-nil}
-use Prim.Native.Nat.{ℕ, _+_}
+use mathlib.Core.List.{List, [], _∷_}
+use Prim.Native.Nat.{ℕ, _+_, _≤_}
 use native.Mathlib.Nat.{add-zero}
-use lib.IntN.{ℤ}
-use Rattle.laws.specs.Lay.{laid}
+use lib.ListN.{length}
+use lib.Seq.{sets}
+use Rattle.laws.specs.Lay.{Put}
 use Rattle.frame.specs.declared.Row.{Row}
-use Rattle.frame.specs.Step.{rowOf, numbersOf}
+use Rattle.frame.specs.Step.{rowOf}
 use Rattle.timing.specs.declared.Rules.{Rules}
 use Rattle.timing.specs.declared.State.{State}
-use Rattle.timing.specs.Step.{numbers}
-use Rattle.timing.specs.Feed.{closing, Laid}
+use Rattle.timing.specs.Feed.{closing, Lays}
+use Rattle.timing.specs.Laws.Sink.{Sink, one}
 
-module _ (rules : Rules) (s : State) (at : ℕ) (before : List ℤ) where
-  pub one-row : s .frames .begun ≡ true → numbers (closing rules s)
-      ≡ numbersOf (rowOf (rules .plan) (s .frames .closed) (s .frames .marked) (s .frames .current))
-  unfolding numbers
-  one-row e = rw e (append-nil _)
+-- the row that is closed
+abbrev pub closedRow : Rules → State → Row
+closedRow rules s = rowOf (rules .plan) (s .frames .closed) (s .frames .marked) (s .frames .current)
 
-  pub lays-one : {after : List ℤ} (row : Row) → s .frames .begun ≡ true → row
-      ≡ rowOf (rules .plan) (s .frames .closed) (s .frames .marked) (s .frames .current)
-      → after ≡ laid at (numbersOf row) before → Laid rules s at before (at + 10) after
-  lays-one row e f g = record { next = rw (one-row e); rows = g ∙ rw (f, one-row e) }
+module _ {A : Type 0} (w : Sink A) (rules : Rules) (s : State) where
+  one-row : s .frames .begun ≡ true → w .write (closing rules s) ≡ w .row (closedRow rules s)
+  one-row e = rw e (one w (closedRow rules s))
 
-  pub lays-none : s .frames .begun ≡ false → Laid rules s at before at before
-  unfolding numbers laid
-  lays-none e = record { next = rw e (sym (add-zero at)); rows = rw e }
+  pub row-fits : {at room : ℕ} → s .frames .begun ≡ true → Lays (w .write) rules s at room → at + length (w .row (closedRow rules s)) ≤ room
+  row-fits {at} {room} e l = rw (sym (one-row e)) (l .fits)
+
+  module _ (at : ℕ) (before : List A) where
+    pub puts-one : {after : List A} {then : ℕ} (r : Row) → s .frames .begun ≡ true → r ≡ closedRow rules s → then ≡ at + length (w .row r)
+        → after ≡ sets before at (w .row r) → Put (w .write (closing rules s)) at before then after
+    puts-one r e f n g = record { next = n ∙ rw (f, one-row e); there = g ∙ rw (f, one-row e) }
+
+    pub puts-none : s .frames .begun ≡ false → Put (w .write (closing rules s)) at before at before
+    puts-none e = record { next = rw (e, w .none) (sym (add-zero at)); there = rw (e, w .none) }

@@ -8,10 +8,10 @@ use native.Mathlib.Omega.{arith}
 use native.Mathlib.Nat.{le-suc-iff}
 use lib.IntN.{ℤ}
 use lib.ListN.{length, take, drop, length-append}
-use lib.Seq.{take-at, drop-at}
+use lib.Seq.{sets, take-at, drop-at}
 use Rattle.laws.specs.Choose.{pick}
 use Rattle.laws.specs.Count.{count}
-use Rattle.laws.specs.Lay.{laid, laid-is}
+use Rattle.laws.specs.Lay.{sets-front}
 use Rattle.packet.specs.declared.Packet.{Packet}
 use Rattle.frame.specs.declared.Row.{Row}
 use Rattle.frame.specs.Paper.{closesAt, numberAt}
@@ -20,7 +20,7 @@ use Rattle.frame.specs.ByPlace.{rowsAt}
 use Rattle.timing.specs.declared.StreamNumbers.{StreamNumbers}
 use Rattle.timing.specs.Step.{rulesOf, numbers}
 use Rattle.timing.specs.History.{frameHistory, rowsTo}
-use Rattle.timing.specs.Laws.Running.{numbers-append}
+use Rattle.timing.specs.Laws.Sink.{both, as-numbers}
 use Rattle.timing.specs.Laws.Scanning.{numbers-length}
 
 module _ (x : StreamNumbers) (l : List Packet) where
@@ -61,7 +61,7 @@ module _ (x : StreamNumbers) (l : List Packet) where
   -- of all the numbers laid from the front of lent ones, ten for each frame closed before, and then ten of this
   pub numbers-of-frame : (i m : ℕ) (r : Row) (lent : List ℤ) → i < m → rowsAt (rulesOf x .plan) (frameHistory x l) i ≡ r ∷ []
       → length (numbers (rowsTo x l m)) ≤ length lent
-      → take 10 (drop (10 * numberAt (frameHistory x l) i) (laid 0 (numbers (rowsTo x l m)) lent)) ≡ numbersOf r
+      → take 10 (drop (10 * numberAt (frameHistory x l) i) (sets lent 0 (numbers (rowsTo x l m)))) ≡ numbersOf r
   unfolding numbers
   numbers-of-frame i m r lent h e room =
       let w = rows-from i m h in
@@ -69,9 +69,9 @@ module _ (x : StreamNumbers) (l : List Packet) where
       let out = numbers (rowsTo x l m) in
       let behind = numbers (w .0) ++ drop (length out) lent in
       let cut : out ≡ before ++ (numbersOf r ++ numbers (w .0)) =
-      ap numbers (w .1 ∙ ap (λ (q : List Row). rowsTo x l i ++ (q ++ w .0)) e) ∙ numbers-append (rowsTo x l i) (r ∷ w .0) in
-      let all : laid 0 out lent ≡ before ++ (numbersOf r ++ behind) =
-      laid-is [] out lent room ∙ ap (λ (o : List ℤ). o ++ drop (length out) lent) cut
+      ap numbers (w .1 ∙ ap (λ (q : List Row). rowsTo x l i ++ (q ++ w .0)) e) ∙ both as-numbers (rowsTo x l i) (r ∷ w .0) in
+      let all : sets lent 0 out ≡ before ++ (numbersOf r ++ behind) =
+      sets-front out lent room ∙ ap (λ (o : List ℤ). o ++ drop (length out) lent) cut
       ∙ append-assoc before (numbersOf r ++ numbers (w .0)) (drop (length out) lent)
       ∙ ap (λ (o : List ℤ). before ++ o) (append-assoc (numbersOf r) (numbers (w .0)) (drop (length out) lent)) in
       let size : length before ≡ 10 * numberAt (frameHistory x l) i = omega (arith, numbers-length (rowsTo x l i), rows-counted i) in

@@ -50,26 +50,26 @@ module _ (x : StreamNumbers) (e : setUpOf x ≡ 0) where
 
   -- the drain instants of 600 s are fewer than a billion, and their products fit
   module _ (ns : ℕ) (h : ns ≤ 600000000000) where
-    pub reach-fits : 27 * ns * (rulesOf x .share) ≤ 3564000000000000000
+    pub reach-fits : 27 * ns * (rulesOf x .drains .den) ≤ 3564000000000000000
     unfolding rulesOf
     reach-fits =
         let long : 27 * ns ≤ 16200000000000 = omega arith in
         let many : 11 * x .parameters .n ≤ 220000 = omega (arith, fine .n-fits .1) in
         omega (arith, mul-le-mul long many)
 
-    pub drains-few : instants (27 * ns) (rulesOf x .spacing) (rulesOf x .share) ≤ 1000000000
+    pub drains-few : instants (27 * ns) (rulesOf x .drains .num) (rulesOf x .drains .den) ≤ 1000000000
     unfolding rulesOf
     drains-few =
-        let d = instants (27 * ns) (rulesOf x .spacing) (rulesOf x .share) in
+        let d = instants (27 * ns) (rulesOf x .drains .num) (rulesOf x .drains .den) in
         let far : 4500000000 ≤ 10 * frameOf x = omega (arith, frame-long) in
         omega (arith, div-mul-le-self (27 * ns * (11 * x .parameters .n)) (10 * frameOf x), mul-le-mul-left d far, reach-fits)
 
-  pub spacing-some : 0 < rulesOf x .spacing
+  pub spacing-some : 0 < rulesOf x .drains .num
   unfolding rulesOf
   spacing-some = omega (arith, frame-long)
 
   -- a count of drains that is in range, times the spacing, fits
-  pub guess-fits : (d : ℕ) → d ≤ 1000000000 → d * rulesOf x .spacing < 18446744073709551616
+  pub guess-fits : (d : ℕ) → d ≤ 1000000000 → d * rulesOf x .drains .num < 18446744073709551616
   unfolding rulesOf
   guess-fits d h =
       let near : 10 * frameOf x ≤ 11261250000 = omega (arith, frame-most (x .parameters .rate)) in

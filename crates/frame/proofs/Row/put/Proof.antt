@@ -1,5 +1,5 @@
 -- What is left of the ten numbers, laid from the next place on, gives the end; each turn lays one.
-use Rattle.laws.specs.Lay.{laid, laid-turn, laid-done}
+use Rattle.laws.specs.Lay.{sets-turn, sets-done}
 use lib.IntN.{pos}
 use mir.Syntax.{w64}
 use mir.Facts.{toZ-ofZ}
@@ -9,13 +9,14 @@ use lib.ListN.{drop}
 use Prim.Native.Nat.{_+_, _-_, _≤_}
 use native.Mathlib.Omega.{arith}
 use lib.ListN.{length, length-set}
+use lib.Seq.{sets}
 use Rattle.frame.specs.Step.{rowWidth}
 use borrow.Author.Needs.{needs}
 use Rattle.frame.proofs.Row.put.Statement.{statement}
 use Rattle.frame.proofs.Row.put.Tie as tie
 
 abbrev Inv-loop : tie.InvT-loop
-Inv-loop rows₀ at numbers k₀ rows k = (laid (at + k) (drop k numbers) rows ≡ laid at numbers rows₀) × (k ≤ rowWidth)
+Inv-loop rows₀ at numbers k₀ rows k = (sets rows (at + k) (drop k numbers) ≡ sets rows₀ at numbers) × (k ≤ rowWidth)
     × (length rows ≡ length rows₀) × (length numbers ≡ rowWidth)
 
 abbrev μ-loop : tie.MeasureT-loop
@@ -52,7 +53,7 @@ loop-again : tie.Need-loop-again Inv-loop μ-loop
 loop-again c = let l = c .before .before .loop in
     let ten = c .before .before .before .numbers .result in (
       rw (toZ-ofZ {w = w64} (record { sfits = c .rows .given }))
-          (laid-turn _ (l .k) ten (l .rows) (pos 0) (omega (arith, l .inv .3)) ∙ l .inv .0),
+          (sets-turn _ (l .k) ten (l .rows) (pos 0) (omega (arith, l .inv .3)) ∙ l .inv .0),
       omega arith,
       simp length-set (l .inv .2),
       l .inv .3,
@@ -64,7 +65,7 @@ same-length c = search needs
 returns : tie.Need-returns Inv-loop μ-loop
 returns c = let l = c .before .loop in
     let ten = c .before .before .numbers .result in
-    laid-done _ (l .k) ten (l .rows) (omega (arith, l .inv .3)) (l .inv .0) ∙ rw (c .before .before .numbers .ensures)
+    sets-done _ (l .k) ten (l .rows) (omega (arith, l .inv .3)) (l .inv .0) ∙ rw (c .before .before .numbers .ensures)
 
 pub put-spec : {M : Type 1} → statement M
 put-spec =

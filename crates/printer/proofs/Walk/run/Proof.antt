@@ -7,13 +7,15 @@ use native.Mathlib.Omega.{arith}
 use lib.ListN.{length, drop}
 use denote.Ref.{now}
 use borrow.Author.Needs.{needs}
-use Rattle.printer.proofs.Turning.{walk-full, walk-stops, walk-refuses, ready-arrives, ready-closed, ready-closes}
-use Rattle.printer.proofs.Turning.{turn-marked, turn-plain, Loop, loop-begins, loop-stops, next-inside, next-turn}
+use Rattle.timing.specs.Feed.{Going}
+use Rattle.timing.specs.Laws.Running.{going-arrives, going-closed, going-makes, turn-marked, turn-plain}
+use Rattle.printer.proofs.Turning.{walk-full, walk-stops, walk-refuses, as-lines, Loop, loop-begins, loop-stops}
+use Rattle.printer.proofs.Turning.{next-inside, next-turn}
 use Rattle.printer.proofs.Turning.{stays-takes, takes-length}
 use Rattle.printer.proofs.Answers.{read-rest}
 use Rattle.record.specs.declared.Next.{Next}
 use Rattle.printer.specs.declared.Walk.{Walk}
-use Rattle.printer.specs.Step.{stopsAt, walkOf, Ready}
+use Rattle.printer.specs.Step.{stopsAt, walkOf}
 use Rattle.printer.proofs.Walk.run.Statement.{statement}
 use Rattle.printer.proofs.Walk.run.Tie as tie
 
@@ -21,7 +23,7 @@ abbrev Inv-loop : tie.InvT-loop
 Inv-loop rules window last out₀ at₀ s₀ used₀ written₀ out at s used written =
     Loop (walkOf rules (record { at = at₀; state = s₀ }) window last (length out₀)) out₀
     (walkOf rules (record { at = at; state = s }) (drop used window) last (length out - written)) used written out
-    × Ready rules (record { at = at; state = s })
+    × Going rules s
     × (used ≤ length window)
     × (written ≤ length out)
 
@@ -81,7 +83,7 @@ stop-requires-2 c κs = search needs
 same-length-2 : tie.Need-same-length-2 Inv-loop μ-loop
 same-length-2 c =
     let l = c .before .before .before .before .before .before .before .before .before .before .before .before .before .before .loop in
-    takes-length (c .before .before .stop2 .ensures) ∙ l .inv .0 .same-length
+    takes-length (c .before .before .stop2 .ensures) ∙ l .inv .0 .putting .same-length
 
 returns-2 : tie.Need-returns-2 Inv-loop μ-loop
 returns-2 c =
@@ -101,7 +103,7 @@ returns-2 c =
 arrive-requires : tie.Need-arrive-requires Inv-loop μ-loop
 arrive-requires c κs =
     let l = c .before .before .before .before .before .before .before .before .before .loop in
-    ready-arrives (l .inv .1) (record { time = _; stamp = 0; marker = _ }) (sym (c .if1 .left) ∙ c .before .refusal .ensures)
+    going-arrives (l .inv .1) (record { time = _; stamp = 0; marker = _ }) (sym (c .before .refusal .ensures) ∙ c .if1 .left)
 
 put-closed-requires : tie.Need-put-closed-requires Inv-loop μ-loop
 put-closed-requires c κs =
@@ -109,15 +111,17 @@ put-closed-requires c κs =
     let turn = fine .before .before .before .before .before .before .before .before in
     let l = turn .before .loop in
     rw (c .before .before .before .arrive .ensures)
-    (ready-closes (l .inv .1) _ (sym (fine .if1 .left) ∙ fine .before .refusal .ensures) _ _
-    (omega (arith, turn .loop-test .taken, l .inv .3)))
+    (record {
+      makes = going-makes (l .inv .1) _ (sym (fine .before .refusal .ensures) ∙ fine .if1 .left);
+      fits = omega (arith, turn .loop-test .taken, l .inv .3);
+    })
 
 mark-requires : tie.Need-mark-requires Inv-loop μ-loop
 mark-requires c κs =
     let fine = c .before .before .before .before .before .before .before in
     let l = fine .before .before .before .before .before .before .before .before .before .loop in
     rw (c .before .before .before .before .before .before .arrive .ensures)
-    (ready-closed (l .inv .1) _ (sym (fine .if1 .left) ∙ fine .before .refusal .ensures))
+    (going-closed (l .inv .1) _ (sym (fine .before .refusal .ensures) ∙ fine .if1 .left))
 
 add-used : tie.Need-add-used Inv-loop μ-loop
 add-used c =
@@ -164,11 +168,13 @@ loop-again c =
     (turn .loop-test .taken) here not-refused
     (l .inv .1) (l .inv .2)
     (⊎-elim
-    (λ w. rw (w .6, w .7, w .8)
-    (turn-marked (a .rules) (l .s) _ (l .written) (l .out) (c .before .before .arrive .ensures) (w .0 .taken) (w .5 .ensures)
-    (w .2 .ensures)))
+    (λ w. rw (w .6, w .7, w .8) (
+      turn-marked as-lines (a .rules) (l .s) _ (l .written) (l .out) (c .before .before .arrive .ensures) (w .0 .taken) (w .5 .ensures)
+          (w .2 .ensures .put),
+      omega (arith, w .2 .ensures .put .next, w .2 .ensures .short, turn .loop-test .taken),
+    ))
     (λ w. rw (w .1, w .2, w .3)
-    (turn-plain (a .rules) (l .s) _ (l .written) (l .out) (c .before .before .arrive .ensures) (w .0 .left)))
+    (turn-plain as-lines (a .rules) (l .s) _ (l .written) (l .out) (c .before .before .arrive .ensures) (w .0 .left), l .inv .3))
     (c .if2 .came))
 
 same-length-3 : tie.Need-same-length-3 Inv-loop μ-loop

@@ -42,7 +42,7 @@ returns c = let n = c .before .before .before in
     let grains : i .before .grains .result ≡ 27 * elapsedOf (a .self .past) (a .t) = i .before .grains .ensures
     ∙ ap (λ (n : ℕ). 27 * n) (i .before .before .elapsed .ensures) in
     let drained : i .instants .result ≡ drainedOf (a .rules) (a .self .past) (a .t) =
-    i .instants .ensures ∙ ap (λ (n : ℕ). instants n (a .rules .spacing) (a .rules .share)) grains in
+    i .instants .ensures ∙ ap (λ (n : ℕ). instants n (a .rules .drains .num) (a .rules .drains .den)) grains in
     let drains : c .before .before .less .result ≡ drainedOf (a .rules) (a .self .past) (a .t) - a .self .drained =
     c .before .before .less .ensures ∙ ap (λ (d : ℕ). d - a .self .drained) drained in
     λ j. record {

@@ -43,4 +43,13 @@ returns-2 c = let r = c .before .before .before .before .before in
     )
 
 pub in-range-spec : {M : Type 1} → statement M
-in-range-spec = tie.close (tie.spec refusal-requires returns rules-requires past-in-range-requires bucket-in-range-requires frames-in-range-requires returns-2)
+in-range-spec =
+    tie.close
+    (tie.spec
+    refusal-requires
+    returns
+    rules-requires
+    past-in-range-requires
+    bucket-in-range-requires
+    frames-in-range-requires
+    returns-2)

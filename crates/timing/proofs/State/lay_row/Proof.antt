@@ -1,31 +1,35 @@
 -- Where the lead-in is over the row is made and laid; else nothing is.
+use mathlib.Core.Path.{refl}
 use native.Mathlib.Omega.{arith}
-use Rattle.timing.specs.Laws.Laying.{lays-one, lays-none}
+use Rattle.timing.specs.Laws.Laying.{row-fits, puts-one, puts-none}
+use Rattle.timing.specs.Laws.Sink.{as-numbers}
 use borrow.Author.Needs.{needs}
 use Rattle.timing.proofs.State.lay_row.Statement.{statement}
 use Rattle.timing.proofs.State.lay_row.Tie as tie
 
 row-requires : tie.Need-row-requires
-row-requires c κs = let s = c .before .before .before in (s .pre .planned, s .pre .made (c .before .if1 .taken))
+row-requires c κs = let s = c .before .before .before in (s .pre .makes .planned, s .pre .makes .made (c .before .if1 .taken))
 
 put-requires : tie.Need-put-requires
-put-requires c κs = c .before .before .before .before .before .pre .fits (c .before .before .before .if1 .taken)
+put-requires c κs =
+    let s = c .before .before .before .before .before in
+    row-fits as-numbers (s .args .rules) (s .args .self) (c .before .before .before .if1 .taken) (s .pre)
 
 add-result : tie.Need-add-result
 add-result c = let s = c .before .before .before .before .before .before .before in
-    omega (arith, s .pre .fits (c .before .before .before .before .before .if1 .taken))
+    omega (arith, row-fits as-numbers (s .args .rules) (s .args .self) (c .before .before .before .before .before .if1 .taken) (s .pre))
 
 same-length : tie.Need-same-length
 same-length c = search needs
 
 returns : tie.Need-returns
 returns c = let s = c .before .before .before .before .before .before .before in
-    lays-one (s .args .rules) (s .args .self) (s .args .at) _ (c .before .before .before .row .result)
+    puts-one as-numbers (s .args .rules) (s .args .self) (s .args .at) _ (c .before .before .before .row .result)
     (c .before .before .before .before .before .if1 .taken)
-    (c .before .before .before .row .ensures) (c .before .put .ensures)
+    (c .before .before .before .row .ensures) refl (c .before .put .ensures)
 
 returns-2 : tie.Need-returns-2
-returns-2 c = let s = c .before .before in lays-none (s .args .rules) (s .args .self) (s .args .at) _ (c .if1 .left)
+returns-2 c = let s = c .before .before in puts-none as-numbers (s .args .rules) (s .args .self) (s .args .at) _ (c .if1 .left)
 
 pub lay-row-spec : {M : Type 1} → statement M
 lay-row-spec =

@@ -27,11 +27,11 @@ vrx-full-requires c κs = search needs
 mul-t5 : tie.Need-mul-t5
 mul-t5 c = omega (arith, frame-most (c .before .before .before .before .before .before .before .args .self .parameters .rate))
 
-cast-t9 : tie.Need-cast-t9
-cast-t9 c = search needs
+cast-t10 : tie.Need-cast-t10
+cast-t10 c = search needs
 
-mul-t8 : tie.Need-mul-t8
-mul-t8 c = search needs
+mul-t6 : tie.Need-mul-t6
+mul-t6 c = search needs
 
 c-max-requires : tie.Need-c-max-requires
 c-max-requires c κs = search needs
@@ -51,7 +51,7 @@ rules-spec =
     read-den-requires
     vrx-full-requires
     mul-t5
-    cast-t9
-    mul-t8
+    cast-t10
+    mul-t6
     c-max-requires
     returns)
