@@ -26,7 +26,7 @@ use Rattle.record.specs.Step.{nextRead, nextPiece}
 use Rattle.record.specs.Pieces.{wantsMore}
 use Rattle.record.proofs.Reading.{second, before, packets-end, packets-stop, packets-go}
 use Rattle.record.proofs.Saying.{Says, next-says}
-use Rattle.record.proofs.InPieces.{piece-answers, last-answers}
+use Rattle.record.proofs.InPieces.{piece-answers}
 use Rattle.timing.specs.declared.Rules.{Rules}
 use Rattle.timing.specs.declared.State.{State}
 use Rattle.timing.specs.Step.{rulesOf, stepOf, rowsOf, stateAfter, rowsAfter}

@@ -23,7 +23,7 @@ use Rattle.record.specs.declared.Next.the-variants.{Packet, End, More, R
 use Rattle.record.specs.Paper.{packetAt, formatRefusal, packetRefusal}
 use Rattle.record.specs.Paper.{Ending, done, stopped, Packets, packetsIn, Reading, unread, read, readingOf, file, endedFile, asFile}
 use Rattle.record.specs.Step.{cursor, after, packetOf, headRead, nextRead}
-use Rattle.record.specs.Pieces.{goesOn, nextAt, taken, Heard, afterHead, heard, callsOf, allCalls, answers, allAnswers}
+use Rattle.record.specs.Pieces.{goesOn, nextAt, taken, Heard, heard, callsOf, allCalls, answers, allAnswers}
 use Rattle.record.specs.Pieces.{toldPackets, toldHead, told, StopsAt, AnsweredBy, Answered}
 use Rattle.record.proofs.Reading.{second, before, packet-here, packets-end, packets-stop, packets-go}
 use Rattle.record.proofs.Saying.{Says, next-says, Stood, SaysHead, head-says, reads-refused, reads-packets}

@@ -1,6 +1,6 @@
 -- How a record is framed, and by which of 21, 22, 23 it is refused, from what stands in front: a scrap, a length of 0, a record that is
 -- cut short, or a whole one; and what none of the three says of a record. By the tests, one after the other.
-use mathlib.Core.Path.{_≡_, refl, sym, _∙_}
+use mathlib.Core.Path.{_≡_, refl, _∙_}
 use mathlib.Core.Bool.{Bool, true, false, _&&_}
 use mathlib.Core.List.{List}
 use Prim.Native.Nat.{ℕ, _+_, _≤_, _<_}

@@ -2,7 +2,7 @@
 use mathlib.Core.Path.{_≡_, refl, sym, ap, subst, _∙_}
 use mathlib.Core.Bool.{Bool, true, false, _||_}
 use mathlib.Core.List.{List, [], _∷_, _++_}
-use Prim.Native.Nat.{ℕ, zero, suc, _+_, _≤_, _<_}
+use Prim.Native.Nat.{ℕ, zero, suc, _+_, _≤_}
 use native.Mathlib.Omega.{arith}
 use native.Mathlib.Decide.{ℕ-discrete}
 use lib.ListN.{length, take, drop, getD, length-drop}
@@ -22,7 +22,7 @@ use Rattle.record.specs.declared.Written.{Written}
 use Rattle.record.specs.declared.Written.the-variants.{Done}
 use Rattle.record.specs.Write.{fileLength, Writes}
 use Rattle.limits.specs.Paper.{setUpRefusal}
-use Rattle.record.specs.Paper.{versionFits, kindOf, parametersAt, packetAt, formatRefusal, parametersRefusal, packetRefusal}
+use Rattle.record.specs.Paper.{versionFits, parametersAt, packetAt, formatRefusal, parametersRefusal, packetRefusal}
 use Rattle.record.specs.Paper.{Ending, done, stopped, Packets, packetsIn, file, refused, endedFile, asFile, fileOf}
 use Rattle.record.specs.Layout.{parameterRecord, recordsOf, bytesIn}
 use Rattle.record.proofs.Writing.{length-file, answers-done, writes-done}

@@ -3,11 +3,11 @@
 use mathlib.Core.Path.{_≡_, refl, sym, ap, _∙_}
 use mathlib.Core.Bool.{Bool, true, false}
 use mathlib.Core.List.{List, [], _∷_, _++_, append-nil}
-use Prim.Native.Nat.{ℕ, _+_, _*_, _<_}
+use Prim.Native.Nat.{ℕ, _+_, _*_}
 use native.Mathlib.Omega.{arith}
 use lib.Dec.{eqb}
-use lib.ListN.{length, replicate, length-append, length-replicate}
-use Rattle.laws.specs.Choose.{pick, pick-either, false-true}
+use lib.ListN.{replicate, length-append, length-replicate}
+use Rattle.laws.specs.Choose.{pick-either, false-true}
 use Rattle.endian.specs.Number.{numberOf}
 use Rattle.record.specs.declared.Framed.{Framed}
 use Rattle.record.specs.declared.Framed.the-variants as framed

@@ -1,6 +1,6 @@
 -- One turn of the walk over a file, by what the cursor answers: a packet goes into the tally or is refused, and anything else ends
 -- the walk. What an answer says of the bytes is in Saying.
-use mathlib.Core.Path.{_≡_, refl, sym, ap, subst, _∙_}
+use mathlib.Core.Path.{_≡_, refl, ap, subst, _∙_}
 use mathlib.Core.List.{List, [], _∷_}
 use Prim.Native.Nat.{ℕ, _+_, _^_, _≤_, _<_}
 use native.Mathlib.Omega.{arith}

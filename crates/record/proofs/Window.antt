@@ -18,7 +18,7 @@ use Rattle.record.specs.declared.Head.{Head}
 use Rattle.record.specs.declared.Head.the-variants as head
 use Rattle.record.specs.declared.Next.{Next}
 use Rattle.record.specs.declared.Next.the-variants.{Packet, End, More, Refused}
-use Rattle.record.specs.Paper.{bodyLength, kindOf, isParameters, kindLength, parametersAt, packetAt}
+use Rattle.record.specs.Paper.{bodyLength, isParameters, kindLength, parametersAt, packetAt}
 use Rattle.record.specs.Step.{cursor, scrapOf, framedOf, Whole, firstOf, headBy, headPiece, headRead}
 use Rattle.record.specs.Step.{after, packetOf, wholeOf, nextBy, nextPiece, nextRead}
 use Rattle.record.specs.Pieces.{goesOn, taken, wantsMore, headWaits}

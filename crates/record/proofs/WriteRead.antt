@@ -16,7 +16,7 @@ use Rattle.packet.proofs.Refusals.{accepted}
 use Rattle.packet.proofs.Turn.{scan-goes, ready-accepted, fine-ready}
 use Rattle.limits.specs.declared.Parameters.{Parameters}
 use Rattle.limits.specs.Paper.{setUpRefusal}
-use Rattle.record.specs.Paper.{kindOf, packetAt, formatRefusal, packetRefusal}
+use Rattle.record.specs.Paper.{packetAt, formatRefusal, packetRefusal}
 use Rattle.record.specs.Paper.{done, Packets, more, packetsIn, read, readingOf}
 use Rattle.endian.specs.Fields.{Fit}
 use Rattle.record.specs.Layout.{packetWidths, packetFields, parameterRecord, packetRecord, recordsOf, bytesIn}

@@ -2,7 +2,6 @@
 use mathlib.Core.Path.{sym, _∙_}
 use Rattle.record.proofs.Format.{length-14, length-16}
 use Rattle.record.proofs.Ways.{length-none}
-use borrow.Author.Tests.{not-false}
 use borrow.Author.Needs.{needs}
 use Rattle.record.proofs.kind_length.Statement.{statement}
 use Rattle.record.proofs.kind_length.Tie as tie

@@ -1,5 +1,5 @@
 -- A packet's record that stands there is the answer (Standing); else any record is read, of the last window.
-use mathlib.Core.Path.{refl, sym, ap, _∙_}
+use mathlib.Core.Path.{sym, ap, _∙_}
 use native.Mathlib.Omega.{arith}
 use mathlib.Core.Bool.{true}
 use Prim.Native.Nat.{ℕ}

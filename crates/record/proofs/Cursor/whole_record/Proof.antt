@@ -1,6 +1,5 @@
 -- Each return is one law, from the tests before it.
 use mathlib.Core.Path.{sym, _∙_}
-use borrow.Author.Tests.{not-true, not-false}
 use Rattle.record.proofs.Format.{packet-room}
 use Rattle.record.proofs.Ways.{whole-22, whole-23, whole-packet}
 use borrow.Author.Needs.{needs}
