@@ -91,18 +91,6 @@ fn lowest(known: u64, place: u64, hit: bool) -> u64
     if hit { place } else { place + 1 }
 }
 
-fn less(a: u64, b: u64) -> u64
-    ensures { λ r. ⌜ r ≡ a - b ⌝ }
-{
-    if a < b { 0 } else { a - b }
-}
-
-fn greater(a: u64, b: u64) -> u64
-    ensures { λ r. ⌜ r ≡ max a b ⌝ }
-{
-    if a < b { b } else { a }
-}
-
 impl Frame {
     pub fn empty() -> Frame
         ensures { λ r. ⌜ r ≡ emptyOf ⌝ }
@@ -142,8 +130,8 @@ impl Frame {
         let count = place + 1;
         self.differs = lowest(self.differs, place, stamp != self.stamp);
         self.late = lowest(self.late, place, place < reads);
-        self.top = greater(self.top, less(count, reads));
-        self.deficit = greater(self.deficit, less(reads, place));
+        self.top = laws::greater(self.top, laws::less(count, reads));
+        self.deficit = laws::greater(self.deficit, laws::less(reads, place));
         self.reads = reads;
         self.held = count;
         self

@@ -180,9 +180,9 @@ pub fn c_max(class: u8, schedule: u8, frame: u64, n: u32) -> u64
 {
     let kind = class_of(class);
     match kind {
-        Class::Narrow => larger(4, int_over(n, 43200, schedule, frame)),
-        Class::NarrowLinear => larger(4, int_over(n, 43200, LINEAR, frame)),
-        Class::Wide => larger(16, int_over(n, 21600, LINEAR, frame)),
+        Class::Narrow => laws::greater(4, int_over(n, 43200, schedule, frame)),
+        Class::NarrowLinear => laws::greater(4, int_over(n, 43200, LINEAR, frame)),
+        Class::Wide => laws::greater(16, int_over(n, 21600, LINEAR, frame)),
         Class::Unknown => 0,
     }
 }
@@ -205,7 +205,7 @@ fn full(bytes: u64, maxudp: u16, n: u32, k: u64, frame: u64) -> u64
     requires { ⌜ Divides k ⌝ }
     ensures { λ r. ⌜ r ≡ max (int (whole bytes ÷ whole maxudp)) (int (whole n ÷ (whole k · seconds frame))) ⌝ }
 {
-    larger(
+    laws::greater(
         quotient(bytes, maxudp as u64),
         int_over(n, k, LINEAR, frame),
     )
@@ -226,10 +226,4 @@ fn quotient(a: u64, b: u64) -> u64
     ensures { λ r. ⌜ r ≡ a / b ⌝ }
 {
     if b == 0 { 0 } else { a / b }
-}
-
-fn larger(a: u64, b: u64) -> u64
-    ensures { λ r. ⌜ r ≡ max a b ⌝ }
-{
-    if a < b { b } else { a }
 }

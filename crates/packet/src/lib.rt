@@ -41,13 +41,6 @@ pub enum Scanned {
     Refused(Refusal),
 }
 
-// last less first, and 0 for a past that no history has.
-fn apart(first: u64, last: u64) -> u64
-    ensures { λ r. ⌜ r ≡ last - first ⌝ }
-{
-    if last < first { 0 } else { last - first }
-}
-
 impl Past {
     // Before the first packet.
     pub fn none() -> Past
@@ -74,7 +67,7 @@ impl Past {
     pub fn elapsed(self, t: u64) -> u64
         ensures { λ r. ⌜ r ≡ elapsedOf self t ⌝ }
     {
-        apart(self.first_with(t), t)
+        laws::less(t, self.first_with(t))
     }
 
     // Whether each number is in its range: docs/STATE.md.
@@ -86,7 +79,7 @@ impl Past {
             & (!none | (self.first == 0))
             & (!none | (self.last == 0))
             & (self.first <= self.last)
-            & (apart(self.first, self.last) <= 600000000000)
+            & (laws::less(self.last, self.first) <= 600000000000)
     }
 
     // The number by which a packet is refused, 0 where it is not.

@@ -24,7 +24,7 @@ ghost use Rattle.packet.specs.Step.{nothing, noPackets};
 ghost use Rattle.record.specs.Paper.{parametersAt, packetAt, isParameters, kindLength, packetsIn};
 ghost use Rattle.record.specs.Step.{scrapOf, framedOf, Whole, firstOf, headBy, headPiece, after, packetOf, wholeOf, nextPiece, standsIn};
 ghost use Rattle.record.specs.Layout.{packetWith, packetRecord, headOf, recordsOf};
-ghost use Rattle.record.specs.Write.{scanning, writtenOf, Writes, Fitting};
+ghost use Rattle.record.specs.Write.{writtenOf, Writes, Fitting};
 ghost use Rattle.record.specs.Walk.{closing, refusedBy, finish, checkedOf};
 
 // Where the reader stands after the head of a file: at a packet, or at the end.
@@ -440,17 +440,22 @@ pub fn would_write(
         };
     }
     let scanned = Past::none().scan(false, arrivals, stamps, markers);
-    let Scanned::Fine(_) = scanned else {
-        return refused_scan(scanned);
-    };
-    let needed = 19 + 16 * arrivals.len();
-    if room < needed {
-        return Written::Refused {
-            number: 24,
-            place: 0,
-        };
+    match scanned {
+        Scanned::Fine(_) => {
+            let needed = 19 + 16 * arrivals.len();
+            if room < needed {
+                return Written::Refused {
+                    number: 24,
+                    place: 0,
+                };
+            }
+            Written::Done { bytes: needed }
+        }
+        Scanned::Refused(r) => Written::Refused {
+            number: r.number,
+            place: r.place,
+        },
     }
-    Written::Done { bytes: needed }
 }
 
 // The whole record file of these stream numbers and packets into lent bytes, or nothing where it is refused.
@@ -471,19 +476,6 @@ pub fn write(
     write_parameters(numbers, out);
     write_packets(arrivals, stamps, markers, out);
     Written::Done { bytes: bytes }
-}
-
-// The refusal of a scan; a scan that refuses nothing does not come here.
-fn refused_scan(scanned: Scanned) -> Written
-    ensures { λ r. ⌜ r ≡ scanning scanned 0 0 ⌝ }
-{
-    match scanned {
-        Scanned::Refused(r) => Written::Refused {
-            number: r.number,
-            place: r.place,
-        },
-        Scanned::Fine(_) => Written::Done { bytes: 0 },
-    }
 }
 
 // The version byte and the parameters.

@@ -19,8 +19,6 @@ use Rattle.timing.specs.Step.{ofParameters, setUpOf, rulesOf, freshOf}
 use Rattle.timing.specs.Answers.{summaryWidth, graphOf, drawnNumber}
 use Rattle.timing.specs.Feed.{Ran}
 use Rattle.limits.specs.declared.Parameters.{Parameters}
-use Rattle.record.specs.declared.Checked.{Checked}
-use Rattle.record.specs.declared.Checked.the-variants as checked
 use Rattle.record.specs.Paper.{done, packetsIn, File, file, refused, fileOf}
 use Rattle.record.specs.Layout.{bytesIn}
 use Rattle.record.specs.Write.{writtenOf, writtenNumber, leftBy}
@@ -48,10 +46,6 @@ askedNumber (Refused number offset) = number
 abbrev pub askedOffset : Asked → ℕ
 askedOffset (Fine x) = 0
 askedOffset (Refused number offset) = offset
-
-abbrev pub refusedBy : Checked → Asked
-refusedBy (checked.Fine s packets closed) = Refused 0 0
-refusedBy (checked.Refused number offset) = Refused number offset
 
 -- ---- the packets of a file that is fine: they come after its first 19 bytes
 

@@ -27,7 +27,7 @@ ghost use Rattle.timing.specs.Step.{ofParameters};
 ghost use Rattle.limits.specs.Paper.{given};
 ghost use Rattle.record.specs.Write.{writtenOf, writtenPlace};
 ghost use Rattle.report.specs.Paper.{inBytes, encoded, rowBytes, summaryBytes, answerOf, roomOf};
-ghost use Rattle.report.specs.Step.{refusedBy, needed, askedOf, Measurable, Measured, Measures, Writes, Limits, Draws};
+ghost use Rattle.report.specs.Step.{needed, askedOf, Measurable, Measured, Measures, Writes, Limits, Draws};
 
 // The bytes of a number that is reported, of a row, and of the nine numbers in front.
 const NUMBER: usize = 8;
@@ -40,23 +40,6 @@ const SUMMARY_BYTES: usize = NUMBER * SUMMARY;
 enum Asked {
     Fine(StreamNumbers),
     Refused { number: u8, offset: u64 },
-}
-
-// The refusal of a file; a file that is fine does not come here.
-fn refused_by(checked: Checked) -> Asked
-    ensures { λ r. ⌜ r ≡ refusedBy checked ⌝ }
-{
-    match checked {
-        Checked::Refused { number, offset } => Asked::Refused { number, offset },
-        Checked::Fine {
-            numbers: _,
-            packets: _,
-            closed: _,
-        } => Asked::Refused {
-            number: 0,
-            offset: 0,
-        },
-    }
 }
 
 // Whether so many lent bytes hold the nine numbers and the rows of so many frames. Divided, since the product might not fit.
@@ -75,22 +58,23 @@ fn ask(file: &[u8], room: usize) -> Asked
     ensures { λ r. ⌜ r ≡ askedOf (now (file .entry)) room ⌝ }
 {
     let checked = record::check(file);
-    let Checked::Fine {
-        numbers,
-        packets: _,
-        closed,
-    } = checked
-    else {
-        return refused_by(checked);
-    };
-    if fits(closed, room) {
-        return Asked::Fine(StreamNumbers {
-            parameters: numbers,
-        });
-    }
-    Asked::Refused {
-        number: 15,
-        offset: file.len() as u64,
+    match checked {
+        Checked::Fine {
+            numbers,
+            packets: _,
+            closed,
+        } => {
+            if fits(closed, room) {
+                return Asked::Fine(StreamNumbers {
+                    parameters: numbers,
+                });
+            }
+            Asked::Refused {
+                number: 15,
+                offset: file.len() as u64,
+            }
+        }
+        Checked::Refused { number, offset } => Asked::Refused { number, offset },
     }
 }
 

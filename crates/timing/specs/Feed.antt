@@ -112,11 +112,6 @@ module _ (s : State) (rows : List ℤ) where
   feedOf ts ss ms =
       pick (inRange s) (byScan (scannedOf (s .past) (s .frames .begun) ts ss ms) (packets ts ss ms)) (refusedBy 9 0)
 
--- a scan's refusal as an answer, with the state as it was
-abbrev pub refusedAs : Scanned → State → Fed
-refusedAs (Fine closed) s = Accepted s
-refusedAs (Scan-Refused r) s = Refused (r .number) (r .place) s
-
 -- an answer and a list of rows are an outcome's
 pub record Is (o : Outcome) (answer : Fed) (rows : List ℤ) : Type 0 where
   pub answer-is : answer ≡ o .answer

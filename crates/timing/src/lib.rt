@@ -14,7 +14,7 @@ ghost use Rattle.packet.specs.Paper.{OneLength, packets};
 ghost use lib.Dec.{T};
 ghost use lib.Ieee.{binary64, inFloat};
 ghost use Rattle.timing.specs.Answers.{setUpAs, verdictOf, summaryWith, microsecondsOf, graphOf};
-ghost use Rattle.timing.specs.Feed.{Arrives, closing, Lays, Runs, Ran, refusedAs, feedOf, Is};
+ghost use Rattle.timing.specs.Feed.{Arrives, closing, Lays, Runs, Ran, feedOf, Is};
 use bucket::Bucket;
 use bucket::Network;
 use frame::Buffer;
@@ -192,13 +192,6 @@ impl State {
     }
 }
 
-// a less b, not below 0.
-fn less(a: u64, b: u64) -> u64
-    ensures { λ r. ⌜ r ≡ a - b ⌝ }
-{
-    if a < b { 0 } else { a - b }
-}
-
 impl State {
     // The packet arrives: it is in the bucket, and in the open frame if there is one.
     pub fn arrive(self, rules: Rules, t: u64, stamp: u32) -> State
@@ -217,7 +210,7 @@ impl State {
             numbers,
             past: past.next(t),
             drained,
-            bucket: bucket.step(past.packets, less(drained, self.drained), rules.limit),
+            bucket: bucket.step(past.packets, laws::less(drained, self.drained), rules.limit),
             frames: frames.arrive(plan, t, stamp),
         }
     }
@@ -283,20 +276,6 @@ impl State {
     }
 }
 
-// The scan's refusal, with the state as it was.
-fn refused_by(scanned: Scanned, state: State) -> Fed
-    ensures { λ r. ⌜ r ≡ refusedAs scanned state ⌝ }
-{
-    match scanned {
-        Scanned::Fine(_) => Fed::Accepted(state),
-        Scanned::Refused(r) => Fed::Refused {
-            number: r.number,
-            place: r.place,
-            state,
-        },
-    }
-}
-
 impl State {
     // A call's packets. Refused, by 9, 10, 11 to 14 or 15 in that order, it accepts none of them, and state
     // and rows are as they were. Accepted, ten numbers are written for each frame closed, from the start of
@@ -314,20 +293,26 @@ impl State {
         }
         let past = self.past;
         let scanned = past.scan(self.frames.begun, arrivals, stamps, markers);
-        let Scanned::Fine(closed) = scanned else {
-            return refused_by(scanned, self);
-        };
-        if rows.len() / frame::ROW < closed {
-            return Fed::Refused {
-                number: 15,
-                place: past.packets,
+        match scanned {
+            Scanned::Fine(closed) => {
+                if rows.len() / frame::ROW < closed {
+                    return Fed::Refused {
+                        number: 15,
+                        place: past.packets,
+                        state: self,
+                    };
+                }
+                let numbers = self.numbers;
+                let rules = numbers.rules();
+                self = self.run(rules, arrivals, stamps, markers, rows);
+                Fed::Accepted(self)
+            }
+            Scanned::Refused(r) => Fed::Refused {
+                number: r.number,
+                place: r.place,
                 state: self,
-            };
+            },
         }
-        let numbers = self.numbers;
-        let rules = numbers.rules();
-        self = self.run(rules, arrivals, stamps, markers, rows);
-        Fed::Accepted(self)
     }
 }
 

@@ -16,8 +16,8 @@ enum-told c = search needs
 int-over-requires : tie.Need-int-over-requires
 int-over-requires c κs = search needs
 
-larger-requires : tie.Need-larger-requires
-larger-requires c κs = search needs
+greater-requires : tie.Need-greater-requires
+greater-requires c κs = search needs
 
 enum-told-2 : tie.Need-enum-told-2
 enum-told-2 c = search needs
@@ -25,8 +25,8 @@ enum-told-2 c = search needs
 int-over-requires-2 : tie.Need-int-over-requires-2
 int-over-requires-2 c κs = search needs
 
-larger-requires-2 : tie.Need-larger-requires-2
-larger-requires-2 c κs = search needs
+greater-requires-2 : tie.Need-greater-requires-2
+greater-requires-2 c κs = search needs
 
 enum-told-3 : tie.Need-enum-told-3
 enum-told-3 c = search needs
@@ -34,8 +34,8 @@ enum-told-3 c = search needs
 int-over-requires-3 : tie.Need-int-over-requires-3
 int-over-requires-3 c κs = search needs
 
-larger-requires-3 : tie.Need-larger-requires-3
-larger-requires-3 c κs = search needs
+greater-requires-3 : tie.Need-greater-requires-3
+greater-requires-3 c κs = search needs
 
 enum-told-4 : tie.Need-enum-told-4
 enum-told-4 c = search needs
@@ -44,19 +44,19 @@ returns : tie.Need-returns
 unfolding cMax activeRatio
 returns c =
     c-max-told (c .before .before .before .before .class-of .ensures) (c .before .before .enum-told .given .1) _ _ _
-    (c .larger .ensures ∙ ap (max 4) (c .before .int-over .ensures))
+    (c .greater .ensures ∙ ap (max 4) (c .before .int-over .ensures))
 
 returns-2 : tie.Need-returns-2
 unfolding cMax activeRatio
 returns-2 c =
     c-max-told (c .before .before .before .before .class-of .ensures) (c .before .before .enum-told2 .given .1) _ _ _
-    (c .larger2 .ensures ∙ ap (max 4) (c .before .int-over2 .ensures))
+    (c .greater2 .ensures ∙ ap (max 4) (c .before .int-over2 .ensures))
 
 returns-3 : tie.Need-returns-3
 unfolding cMax activeRatio
 returns-3 c =
     c-max-told (c .before .before .before .before .class-of .ensures) (c .before .before .enum-told3 .given .1) _ _ _
-    (c .larger3 .ensures ∙ ap (max 16) (c .before .int-over3 .ensures))
+    (c .greater3 .ensures ∙ ap (max 16) (c .before .int-over3 .ensures))
 
 returns-4 : tie.Need-returns-4
 unfolding cMax
@@ -69,13 +69,13 @@ c-max-spec =
     class-of-requires
     enum-told
     int-over-requires
-    larger-requires
+    greater-requires
     enum-told-2
     int-over-requires-2
-    larger-requires-2
+    greater-requires-2
     enum-told-3
     int-over-requires-3
-    larger-requires-3
+    greater-requires-3
     enum-told-4
     returns
     returns-2

@@ -10,8 +10,8 @@ quotient-requires c κs = search needs
 int-over-requires : tie.Need-int-over-requires
 int-over-requires c κs = search needs
 
-larger-requires : tie.Need-larger-requires
-larger-requires c κs = search needs
+greater-requires : tie.Need-greater-requires
+greater-requires c κs = search needs
 
 returns : tie.Need-returns
 returns c =
@@ -19,4 +19,4 @@ returns c =
     cc (ratio (start .args .bytes) (start .args .maxudp), linear-limit (start .args .n) (start .args .k) (start .args .frame))
 
 pub full-spec : {M : Type 1} → statement M
-full-spec = tie.close (tie.spec quotient-requires int-over-requires larger-requires returns)
+full-spec = tie.close (tie.spec quotient-requires int-over-requires greater-requires returns)

@@ -1,8 +1,7 @@
 -- What the writer answers: each return is one law, from what was refused before it.
-use mathlib.Core.Path.{sym, ap, _∙_}
+use mathlib.Core.Path.{refl, sym, _∙_}
 use native.Mathlib.Omega.{arith}
 use borrow.Author.Needs.{needs}
-use Rattle.record.specs.Write.{scanning}
 use Rattle.record.proofs.Writing.{scan-of, answers-set-up, answers-scan, answers-24, answers-done, few-packets}
 use Rattle.record.proofs.would_write.Statement.{statement}
 use Rattle.record.proofs.would_write.Tie as tie
@@ -22,20 +21,6 @@ scan-requires c κs = search needs
 enum-told : tie.Need-enum-told
 enum-told c = search needs
 
-enum-told-2 : tie.Need-enum-told-2
-enum-told-2 c = search needs
-
-refused-scan-requires : tie.Need-refused-scan-requires
-refused-scan-requires c κs = search needs
-
-returns-2 : tie.Need-returns-2
-returns-2 c =
-    let after-scan = c .before .before .before in
-    let set-up = after-scan .before .before in
-    let fine = sym (set-up .before .refusal .ensures) ∙ set-up .if1 .left in
-    let scanned = scan-of _ _ _ (after-scan .before .none .ensures) (after-scan .scan .ensures) ∙ c .before .enum-told2 .given .1 in
-    answers-scan _ _ _ _ _ fine scanned (c .refused-scan .ensures ∙ ap (λ a. scanning a 0 0) (c .before .enum-told2 .given .1))
-
 mul-needed : tie.Need-mul-needed
 mul-needed c = search needs
 
@@ -48,8 +33,8 @@ add-needed c =
     let scanned = scan-of _ _ _ (after-scan .before .none .ensures) (after-scan .scan .ensures) ∙ told .enum-told .given .1 in
     omega (arith, few-packets _ _ _ scanned)
 
-returns-3 : tie.Need-returns-3
-returns-3 c =
+returns-2 : tie.Need-returns-2
+returns-2 c =
     let told = c .before in
     let after-scan = told .before .before in
     let set-up = after-scan .before .before in
@@ -57,14 +42,26 @@ returns-3 c =
     let scanned = scan-of _ _ _ (after-scan .before .none .ensures) (after-scan .scan .ensures) ∙ told .enum-told .given .1 in
     answers-24 _ _ _ _ _ fine scanned (omega arith)
 
-returns-4 : tie.Need-returns-4
-returns-4 c =
+returns-3 : tie.Need-returns-3
+returns-3 c =
     let told = c .before in
     let after-scan = told .before .before in
     let set-up = after-scan .before .before in
     let fine = sym (set-up .before .refusal .ensures) ∙ set-up .if1 .left in
     let scanned = scan-of _ _ _ (after-scan .before .none .ensures) (after-scan .scan .ensures) ∙ told .enum-told .given .1 in
     answers-done _ _ _ _ _ fine scanned (omega arith)
+
+enum-known-scanned : tie.Need-enum-known-scanned
+enum-known-scanned c = search needs
+
+returns-4 : tie.Need-returns-4
+returns-4 c =
+    let told = c .before in
+    let after-scan = told .before .before in
+    let set-up = after-scan .before .before in
+    let fine = sym (set-up .before .refusal .ensures) ∙ set-up .if1 .left in
+    let scanned = scan-of _ _ _ (after-scan .before .none .ensures) (after-scan .scan .ensures) ∙ told .scanned .given .1 in
+    answers-scan _ _ _ _ _ fine scanned refl
 
 pub would-write-spec : {M : Type 1} → statement M
 would-write-spec =
@@ -75,10 +72,9 @@ would-write-spec =
     none-requires
     scan-requires
     enum-told
-    enum-told-2
-    refused-scan-requires
-    returns-2
     mul-needed
     add-needed
+    returns-2
+    enum-known-scanned
     returns-3
     returns-4)

@@ -25,7 +25,7 @@ use Rattle.timing.specs.declared.Fed.{Fed}
 use Rattle.timing.specs.declared.Fed.the-variants.{Accepted, Refused}
 use Rattle.timing.specs.Step.{rulesOf, stateAfter, rowsAfter, numbers}
 use Rattle.timing.specs.Range.{inRange}
-use Rattle.timing.specs.Feed.{Passes, Runs, Ran, Outcome, refusedBy, acceptedAs, roomFor, byScan, feedAll, feedOf, refusedAs, Is}
+use Rattle.timing.specs.Feed.{Passes, Runs, Ran, Outcome, refusedBy, acceptedAs, roomFor, byScan, feedAll, feedOf, Is}
 use Rattle.timing.specs.Laws.InRange.{sound-of}
 use Rattle.timing.specs.Laws.Scanning.{scan-runs, numbers-length}
 
@@ -43,12 +43,9 @@ module _ (s : State) (rows : List ℤ) (ts ss ms : List ℕ) where
     unfolding feedOf
     by-scan x f = rw (e, f)
 
-    pub fed-refused : {x : Scanned} {r : Refusal} {a : Fed} → x ≡ scannedOf (s .past) (s .frames .begun) ts ss ms → x ≡ Scan-Refused r
-        → a ≡ refusedAs x s
-        → Is (feedOf s rows ts ss ms) a rows
-    fed-refused {x} {r} {a} f g h =
-        let o = is (ap (λ (y : Scanned). byScan s rows y (packets ts ss ms)) (sym g) ∙ by-scan x f) in
-        record { answer-is = h ∙ ap (λ (y : Scanned). refusedAs y s) g ∙ o .answer-is; rows-are = o .rows-are }
+    pub fed-refused : {x : Scanned} {r : Refusal} → x ≡ scannedOf (s .past) (s .frames .begun) ts ss ms → x ≡ Scan-Refused r
+        → Is (feedOf s rows ts ss ms) (Refused (r .number) (r .place) s) rows
+    fed-refused {x} f g = is (ap (λ (y : Scanned). byScan s rows y (packets ts ss ms)) (sym g) ∙ by-scan x f)
 
     module _ {x : Scanned} {n : ℕ} (f : x ≡ scannedOf (s .past) (s .frames .begun) ts ss ms) (g : x ≡ Fine n) where
       room-for : roomFor s rows n (packets ts ss ms) ≡ feedOf s rows ts ss ms

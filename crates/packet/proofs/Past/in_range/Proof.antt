@@ -4,12 +4,12 @@ use borrow.Author.Needs.{needs}
 use Rattle.packet.proofs.Past.in_range.Statement.{statement}
 use Rattle.packet.proofs.Past.in_range.Tie as tie
 
-apart-requires : tie.Need-apart-requires
-apart-requires c κs = search needs
+less-requires : tie.Need-less-requires
+less-requires c κs = search needs
 
 returns : tie.Need-returns
 unfolding after
-returns c = rw (c .apart .ensures)
+returns c = rw (c .less .ensures)
 
 pub in-range-spec : {M : Type 1} → statement M
-in-range-spec = tie.close (tie.spec apart-requires returns)
+in-range-spec = tie.close (tie.spec less-requires returns)

@@ -19,47 +19,54 @@ scan-requires c κs = search needs
 enum-known-scanned : tie.Need-enum-known-scanned
 enum-known-scanned c = search needs
 
-enum-told : tie.Need-enum-told
-enum-told c = search needs
-
-refused-by-requires : tie.Need-refused-by-requires
-refused-by-requires c κs = search needs
-
 returns-2 : tie.Need-returns-2
-returns-2 c = let i = c .before .before .before .before .before .before .in-range in
-    fed-refused _ _ _ _ _ (sym (i .ensures) ∙ not-false (i .result) (c .before .before .before .before .before .if1 .left))
-    (c .before .before .before .scan .ensures) (c .before .enum-told .given .1) (c .refused-by .ensures)
-
-returns-3 : tie.Need-returns-3
-returns-3 c = let i = c .before .before .before .before .before .before .before .in-range in
-    fed-15 _ _ _ _ _ (sym (i .ensures) ∙ not-false (i .result) (c .before .before .before .before .before .before .if1 .left))
-    (c .before .before .before .before .scan .ensures) (c .before .before .scanned .given .1) (c .if2 .taken)
+returns-2 c =
+    let told = c .before .before in
+    let y = told .before .before in
+    let i = y .before .before .before .in-range in
+    fed-15 _ _ _ _ _ (sym (i .ensures) ∙ not-false (i .result) (y .before .before .if1 .left)) (y .scan .ensures) (told .scanned .given .1)
+    (c .if2 .taken)
 
 rules-requires : tie.Need-rules-requires
 rules-requires c κs = search needs
 
 run-requires : tie.Need-run-requires
-run-requires c κs = let k = c .before .before .before .before .before in
-    let y = k .before .before in
+run-requires c κs =
+    let room = c .before .before .before in
+    let told = room .before .before in
+    let y = told .before .before in
     let i = y .before .before .before .in-range in
     let a = y .before .before .before .before .before .before .before .args in
     let e = sym (i .ensures) ∙ not-false (i .result) (y .before .before .if1 .left) in (
       one-length (a .self) (now (a .rows)) (now (a .arrivals)) (now (a .stamps)) (now (a .markers)) e (y .scan .ensures)
-          (k .scanned .given .1),
+          (told .scanned .given .1),
       runs (a .self) (now (a .rows)) (now (a .arrivals)) (now (a .stamps)) (now (a .markers)) e (y .scan .ensures)
-          (k .scanned .given .1) (c .before .rules .ensures) (c .before .before .before .if2 .left),
+          (told .scanned .given .1) (c .before .rules .ensures) (room .if2 .left),
     )
+
+enum-known-scanned-2 : tie.Need-enum-known-scanned-2
+enum-known-scanned-2 c = search needs
 
 same-length : tie.Need-same-length
 same-length c = search needs
 
-returns-4 : tie.Need-returns-4
-returns-4 c = let k = c .before .before .before .before .before .before .before in
-    let y = k .before .before in
+returns-3 : tie.Need-returns-3
+returns-3 c =
+    let room = c .before .before .before .before .before in
+    let told = room .before .before in
+    let y = told .before .before in
     let i = y .before .before .before .in-range in
     let e = sym (i .ensures) ∙ not-false (i .result) (y .before .before .if1 .left) in
-    fed _ _ _ _ _ e (y .scan .ensures) (k .scanned .given .1) (c .before .before .before .rules .ensures)
-    (c .before .before .before .before .before .if2 .left) (c .before .run .ensures)
+    fed _ _ _ _ _ e (y .scan .ensures) (told .scanned .given .1) (c .before .before .before .rules .ensures) (room .if2 .left)
+    (c .before .run .ensures)
+
+returns-4 : tie.Need-returns-4
+returns-4 c =
+    let told = c .before in
+    let y = told .before .before in
+    let i = y .before .before .before .in-range in
+    fed-refused _ _ _ _ _ (sym (i .ensures) ∙ not-false (i .result) (y .before .before .if1 .left)) (y .scan .ensures)
+    (told .scanned2 .given .1)
 
 pub feed-spec : {M : Type 1} → statement M
 feed-spec =
@@ -69,11 +76,10 @@ feed-spec =
     returns
     scan-requires
     enum-known-scanned
-    enum-told
-    refused-by-requires
     returns-2
-    returns-3
     rules-requires
     run-requires
+    enum-known-scanned-2
     same-length
+    returns-3
     returns-4)
