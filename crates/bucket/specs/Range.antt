@@ -1,19 +1,23 @@
--- The range of each number of the bucket, as docs/STATE.md gives it, by how many packets came: one list of tests, and what it means.
+-- The range of each number of the bucket, as docs/STATE.md gives it, by how many packets came: one table, and what it means.
 use mathlib.Core.List.{List, [], _∷_}
 use Prim.Native.Nat.{ℕ, _≤_}
-use Rattle.laws.specs.Every.{Test, at-most}
+use Rattle.laws.specs.Every.{Test, at-most, Entry, entry, tests}
 use Rattle.bucket.specs.declared.Bucket.{Bucket}
-use Rattle.bucket.specs.Paper.{networkFirst, networkLast}
+use Rattle.bucket.specs.Paper.{networkNumber, networkFirst, networkLast}
 
 -- it holds, began at, peaked at and names no more than the packets
-abbrev pub ranges : Bucket → ℕ → List Test
-ranges b packets =
-    at-most (b .level) packets
-    ∷ at-most (b .start) packets
-    ∷ at-most (b .peak) packets
-    ∷ at-most (networkFirst (b .network)) packets
-    ∷ at-most (networkLast (b .network)) packets
+abbrev pub table : Bucket → ℕ → List Entry
+table b packets =
+    entry (b .level) 8 (at-most (b .level) packets ∷ [])
+    ∷ entry (b .start) 8 (at-most (b .start) packets ∷ [])
+    ∷ entry (b .peak) 8 (at-most (b .peak) packets ∷ [])
+    ∷ entry (networkNumber (b .network)) 1 []
+    ∷ entry (networkFirst (b .network)) 8 (at-most (networkFirst (b .network)) packets ∷ [])
+    ∷ entry (networkLast (b .network)) 8 (at-most (networkLast (b .network)) packets ∷ [])
     ∷ []
+
+abbrev pub ranges : Bucket → ℕ → List Test
+ranges b packets = tests (table b packets)
 
 -- both ways: proofs/Ranging.antt
 pub record Ranged (b : Bucket) (packets : ℕ) : Type 0 where

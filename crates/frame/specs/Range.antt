@@ -4,12 +4,12 @@ use mathlib.Core.Path.{_≡_}
 use mathlib.Core.Bool.{true}
 use mathlib.Core.List.{List, [], _∷_}
 use Prim.Native.Nat.{ℕ, _+_, _*_, _≤_, _<_}
-use Rattle.laws.specs.Every.{Test, at-most, below, is, where-so}
+use Rattle.laws.specs.Every.{Test, at-most, below, is, where-so, Entry, entry, flag, tests}
 use Rattle.frame.specs.declared.Plan.{Plan}
 use Rattle.frame.specs.declared.Frame.{Frame}
 use Rattle.frame.specs.declared.Frames.{Frames}
 use Rattle.frame.specs.declared.Buffer.{Buffer}
-use Rattle.frame.specs.Paper.{bufferFrame, bufferPlace}
+use Rattle.frame.specs.Paper.{bufferNumber, bufferFrame, bufferPlace}
 
 pub record Planned (plan : Plan) : Type 0 where
   pub long : 27 ≤ plan .period
@@ -41,26 +41,33 @@ pub record Rowable (plan : Plan) (number marked : ℕ) (f : Frame) : Type 0 wher
   pub differs : f .differs ≤ 1000000000
 
 -- The range of each number that is kept of the frames, as docs/STATE.md gives it, by the plan and by what
--- came before, the first and the last arrival and how many packets: one list of tests, and what it means.
+-- came before, the first and the last arrival and how many packets: one table, and what it means.
 module _ (plan : Plan) (s : Frames) (first last packets : ℕ) where
-  abbrev pub ranges : List Test
-  ranges =
-      at-most (s .closed) packets
-      ∷ where-so (is (s .begun)) (below 0 packets)
-      ∷ where-so (is (s .begun)) (at-most first (s .marked))
-      ∷ where-so (is (s .begun)) (at-most (s .marked) last)
-      ∷ at-most (s .current .held) packets
-      ∷ where-so (below 0 (s .current .held)) (at-most (s .marked) (s .current .first))
+  abbrev pub table : List Entry
+  table =
+      entry (s .closed) 8 (at-most (s .closed) packets ∷ [])
+      ∷ entry (flag (s .begun)) 1 (where-so (is (s .begun)) (below 0 packets) ∷ [])
+      ∷ entry (s .marked) 8
+      (where-so (is (s .begun)) (at-most first (s .marked)) ∷ where-so (is (s .begun)) (at-most (s .marked) last) ∷ [])
+      ∷ entry (s .current .held) 8 (at-most (s .current .held) packets ∷ [])
+      ∷ entry (s .current .first) 8
+      (where-so (below 0 (s .current .held)) (at-most (s .marked) (s .current .first))
       ∷ where-so (below 0 (s .current .held)) (at-most (s .current .first) last)
-      ∷ at-most (s .current .phase) (2 * plan .period)
-      ∷ at-most (s .current .reads) (plan .packets)
-      ∷ at-most (s .current .differs) (s .current .held)
-      ∷ at-most (s .current .top) (s .current .held)
-      ∷ at-most (s .current .late) (s .current .held)
-      ∷ at-most (s .current .deficit) (plan .packets)
-      ∷ at-most (bufferFrame (s .buffer)) packets
-      ∷ at-most (bufferPlace (s .buffer)) packets
+      ∷ [])
+      ∷ entry (s .current .stamp) 4 []
+      ∷ entry (s .current .phase) 8 (at-most (s .current .phase) (2 * plan .period) ∷ [])
+      ∷ entry (s .current .reads) 8 (at-most (s .current .reads) (plan .packets) ∷ [])
+      ∷ entry (s .current .differs) 8 (at-most (s .current .differs) (s .current .held) ∷ [])
+      ∷ entry (s .current .top) 8 (at-most (s .current .top) (s .current .held) ∷ [])
+      ∷ entry (s .current .late) 8 (at-most (s .current .late) (s .current .held) ∷ [])
+      ∷ entry (s .current .deficit) 8 (at-most (s .current .deficit) (plan .packets) ∷ [])
+      ∷ entry (bufferNumber (s .buffer)) 1 []
+      ∷ entry (bufferFrame (s .buffer)) 8 (at-most (bufferFrame (s .buffer)) packets ∷ [])
+      ∷ entry (bufferPlace (s .buffer)) 8 (at-most (bufferPlace (s .buffer)) packets ∷ [])
       ∷ []
+
+  abbrev pub ranges : List Test
+  ranges = tests table
 
 pub record Answered (b : Buffer) (most : ℕ) : Type 0 where
   pub frame : bufferFrame b ≤ most

@@ -1,8 +1,8 @@
 -- A test of numbers, as the bool that the code finds and as the fact that it means: a list of tests, of any length, passes exactly
 -- where each fact holds.
-use mathlib.Core.Path.{_≡_, refl}
+use mathlib.Core.Path.{_≡_, refl, sym, ap, _∙_}
 use mathlib.Core.Bool.{Bool, true, false, not, _&&_, _||_}
-use mathlib.Core.List.{List, [], _∷_}
+use mathlib.Core.List.{List, [], _∷_, _++_, append-assoc}
 use Prim.Native.Nat.{ℕ, zero, suc, _≤_, _<_}
 use lib.Dec.{leb, ltb, eqb}
 use lib.ListN.{getD}
@@ -42,6 +42,30 @@ every ts = after true ts
 unfoldable pub All : List Test → Type 0
 All [] = Unit
 All (t ∷ ts) = Means t × All ts
+
+-- ---- a table of numbers
+
+-- one number: what it is, the bytes of its type, and the tests that are its range
+pub record Entry : Type 0 where
+  pub value : ℕ
+  pub bytes : ℕ
+  pub range : List Test
+
+abbrev pub entry : ℕ → ℕ → List Test → Entry
+entry value bytes range = record { value = value; bytes = bytes; range = range }
+
+-- a flag as a number
+abbrev pub flag : Bool → ℕ
+flag true = 1
+flag false = 0
+
+abbrev pub tests : List Entry → List Test
+tests [] = []
+tests (e ∷ es) = e .range ++ tests es
+
+abbrev pub values : List Entry → List ℕ
+values [] = []
+values (e ∷ es) = e .value ∷ values es
 
 -- facts put together: `x and y and tt`
 infixr 5 _and_
@@ -98,6 +122,29 @@ unfolding All
 fact [] x k = refl
 fact (t ∷ ts) x zero = x .0
 fact (t ∷ ts) x (suc k) = fact ts (x .1) k
+
+-- two lists of tests pass together where each does
+after-all : (b : Bool) (us : List Test) → after b us ≡ (b && every us)
+unfolding after
+after-all true us = refl
+after-all false us = none us
+  where
+    none : (us : List Test) → after false us ≡ false
+    none [] = refl
+    none (t ∷ us) = none us
+
+after-append : (b : Bool) (ts us : List Test) → after b (ts ++ us) ≡ after (after b ts) us
+unfolding after
+after-append b [] us = refl
+after-append b (t ∷ ts) us = after-append (b && passes t) ts us
+
+pub every-append : (ts us : List Test) → every (ts ++ us) ≡ (every ts && every us)
+every-append ts us = after-append true ts us ∙ after-all (every ts) us
+
+pub tests-append : (a b : List Entry) → tests (a ++ b) ≡ tests a ++ tests b
+tests-append [] b = refl
+tests-append (e ∷ a) b =
+    ap (λ (l : List Test). e .range ++ l) (tests-append a b) ∙ sym (append-assoc (e .range) (tests a) (tests b))
 
 -- where all pass, test k's fact; and all pass where each fact holds
 pub facts : (ts : List Test) → every ts ≡ true → (k : ℕ) → Means (getD ts k (is true))

@@ -16,11 +16,12 @@ use Rattle.frame.specs.declared.Buffer.the-variants.{None, Under, Over, Pass as
 use Rattle.frame.specs.Paper.{bufferNumber, bufferFrame, bufferPlace}
 use Rattle.timing.specs.declared.StreamNumbers.{StreamNumbers}
 use Rattle.timing.specs.declared.State.{State}
+use Rattle.laws.specs.Every.{flag}
 use Rattle.limits.specs.declared.Parameters.{Parameters}
 use Rattle.limits.specs.Paper.{given}
 use Rattle.limits.specs.Steps.{ParametersHeld}
 use Rattle.probe.specs.declared.Held.the-variants.{Known, Nothing}
-use Rattle.probe.specs.Words.{flagOf, wordsOf, networkIn, bufferIn, stateIn, same, heldBy}
+use Rattle.probe.specs.Words.{wordsOf, networkIn, bufferIn, stateIn, same, heldBy}
 use Rattle.probe.proofs.Alike.{alike, alike-only, unequal}
 
 -- ---- what the comparison says of the words
@@ -66,7 +67,7 @@ buffer-again Buffer-Pass = refl
 buffer-again (Under p) = refl
 buffer-again (Over p) = refl
 
-flag-again : (b : Bool) → eqb (flagOf b) 1 ≡ b
+flag-again : (b : Bool) → eqb (flag b) 1 ≡ b
 flag-again true = refl
 flag-again false = refl
 

@@ -5,6 +5,7 @@ use Prim.Native.Nat.{ℕ, _%_}
 use lib.Dec.{eqb}
 use lib.ListN.{getD}
 use Rattle.laws.specs.Choose.{pick}
+use Rattle.laws.specs.Every.{values}
 use Rattle.bucket.specs.declared.Bucket.{Bucket}
 use Rattle.bucket.specs.declared.Network.{Network}
 use Rattle.bucket.specs.declared.Network.the-variants.{Pass, Burst}
@@ -18,14 +19,11 @@ use Rattle.timing.specs.declared.StreamNumbers.{StreamNumbers}
 use Rattle.timing.specs.declared.State.{State}
 use Rattle.limits.specs.Paper.{given}
 use Rattle.timing.specs.Step.{ofParameters}
+use Rattle.timing.specs.Range.{table}
 use Rattle.probe.specs.declared.Held.{Held}
 use Rattle.probe.specs.declared.Held.the-variants.{Known, Nothing}
 
 -- ---- the words of a state
-
-abbrev pub flagOf : Bool → ℕ
-flagOf true = 1
-flagOf false = 0
 
 -- document 01's three numbers for each of the two answers
 abbrev pub verdictWords : State → List ℕ
@@ -38,42 +36,9 @@ verdictWords s =
     ∷ bufferPlace (s .frames .buffer)
     ∷ []
 
--- a number as itself, a bool as 0 or 1, an answer as its three numbers
+-- the values of the state's table: a number as itself, a bool as 0 or 1, an answer as its three numbers
 unfoldable pub wordsOf : State → List ℕ
-wordsOf s =
-    s .numbers .parameters .rate
-    ∷ s .numbers .parameters .schedule
-    ∷ s .numbers .parameters .class
-    ∷ s .numbers .parameters .height
-    ∷ s .numbers .parameters .n
-    ∷ s .numbers .parameters .maxudp
-    ∷ s .numbers .parameters .tro
-    ∷ s .past .packets
-    ∷ s .past .first
-    ∷ s .past .last
-    ∷ s .bucket .level
-    ∷ s .bucket .start
-    ∷ s .bucket .peak
-    ∷ networkNumber (s .bucket .network)
-    ∷ networkFirst (s .bucket .network)
-    ∷ networkLast (s .bucket .network)
-    ∷ s .drained
-    ∷ s .frames .closed
-    ∷ flagOf (s .frames .begun)
-    ∷ s .frames .marked
-    ∷ s .frames .current .held
-    ∷ s .frames .current .first
-    ∷ s .frames .current .stamp
-    ∷ s .frames .current .phase
-    ∷ s .frames .current .reads
-    ∷ s .frames .current .differs
-    ∷ s .frames .current .top
-    ∷ s .frames .current .late
-    ∷ s .frames .current .deficit
-    ∷ bufferNumber (s .frames .buffer)
-    ∷ bufferFrame (s .frames .buffer)
-    ∷ bufferPlace (s .frames .buffer)
-    ∷ []
+wordsOf s = values (table s)
 
 -- ---- words read as a state, whatever they are: what a field has no room for is left out, and a number that no answer has counts
 -- as the last one's

@@ -1,10 +1,10 @@
--- The ranges of a state, as docs/STATE.md gives them: stream numbers that set-up accepts, and each part of what is kept in
--- the ranges of its own type. `inRange`: refusal 9 is for a state where it is false.
+-- The table of a state's numbers, as docs/STATE.md gives it: the stream numbers, and each part of what is kept by the table of its own
+-- type. `inRange`: refusal 9 is for a state where it is false.
 use mathlib.Core.Bool.{Bool}
-use mathlib.Core.List.{List, [], _∷_}
+use mathlib.Core.List.{List, [], _∷_, _++_}
 use mathlib.Core.Path.{_≡_}
 use Prim.Native.Nat.{_≤_}
-use Rattle.laws.specs.Every.{Test, at-most, same, is, after, every}
+use Rattle.laws.specs.Every.{at-most, same, after, every, Entry, entry, tests}
 use Rattle.packet.specs.Range as P
 use Rattle.bucket.specs.Range as B
 use Rattle.frame.specs.Range as F
@@ -12,19 +12,32 @@ use Rattle.timing.specs.declared.State.{State}
 use Rattle.timing.specs.Step.{setUpOf, rulesOf}
 
 module _ (s : State) where
-  abbrev pub ranges : List Test
-  ranges =
-      same (setUpOf (s .numbers)) 0
-      ∷ is (every (P.ranges (s .past)))
-      ∷ is (every (B.ranges (s .bucket) (s .past .packets)))
-      ∷ at-most (s .drained) 1000000000
-      ∷ is (every (F.ranges (rulesOf (s .numbers) .plan) (s .frames) (s .past .first) (s .past .last) (s .past .packets)))
+  -- every number of a state, in the order of docs/STATE.md, with the bytes of its type and its range. The stream numbers are in range
+  -- exactly where set-up accepts them, which is one test for all seven.
+  abbrev pub streamTable : List Entry
+  streamTable =
+      entry (s .numbers .parameters .rate) 1 (same (setUpOf (s .numbers)) 0 ∷ [])
+      ∷ entry (s .numbers .parameters .schedule) 1 []
+      ∷ entry (s .numbers .parameters .class) 1 []
+      ∷ entry (s .numbers .parameters .height) 2 []
+      ∷ entry (s .numbers .parameters .n) 4 []
+      ∷ entry (s .numbers .parameters .maxudp) 2 []
+      ∷ entry (s .numbers .parameters .tro) 4 []
       ∷ []
+
+  abbrev pub drainedTable : List Entry
+  drainedTable = entry (s .drained) 8 (at-most (s .drained) 1000000000 ∷ []) ∷ []
+
+  abbrev pub framesTable : List Entry
+  framesTable = F.table (rulesOf (s .numbers) .plan) (s .frames) (s .past .first) (s .past .last) (s .past .packets)
+
+  abbrev pub table : List Entry
+  table = streamTable ++ (P.table (s .past) ++ (B.table (s .bucket) (s .past .packets) ++ (drainedTable ++ framesTable)))
 
   -- "9 exactly a state whose stream numbers set-up refuses or with a number outside its range in docs/"
   unfoldable pub inRange : Bool
   unfolding after rulesOf
-  inRange = every ranges
+  inRange = every (tests table)
 
 -- the same with no test and no list: what a state in range is known to be
 pub record Sound (s : State) : Type 0 where

@@ -1,9 +1,10 @@
 -- Set-up's answer first, and then each part by its own answer; what set-up accepts has a plan.
 use mathlib.Core.Path.{_∙_, sym, subst}
 use borrow.Author.Tests.{eq-eqb, ne-eqb}
+use Rattle.laws.specs.Every.{after}
 use Rattle.frame.specs.Range.{Planned}
 use Rattle.timing.specs.declared.Rules.{Rules}
-use Rattle.timing.specs.Range.{inRange}
+use Rattle.timing.specs.Laws.InRange.{by-parts}
 use Rattle.timing.specs.Laws.Planning.{planned}
 use borrow.Author.Needs.{needs}
 use Rattle.timing.proofs.State.in_range.Statement.{statement}
@@ -13,8 +14,8 @@ refusal-requires : tie.Need-refusal-requires
 refusal-requires c κs = search needs
 
 returns : tie.Need-returns
-unfolding inRange
-returns c = rw (ne-eqb _ 0 (λ z. c .if1 .taken (c .before .refusal .ensures ∙ z)))
+unfolding after
+returns c = rw (by-parts (c .before .before .before .args .self), ne-eqb _ 0 (λ z. c .if1 .taken (c .before .refusal .ensures ∙ z)))
 
 rules-requires : tie.Need-rules-requires
 rules-requires c κs = search needs
@@ -31,10 +32,12 @@ frames-in-range-requires c κs = let r = c .before .before .before .before in
     subst (λ (q : Rules). Planned (q .plan)) (sym (r .rules .ensures)) (planned _ (sym (start .before .refusal .ensures) ∙ start .if1 .left))
 
 returns-2 : tie.Need-returns-2
-unfolding inRange
-returns-2 c = let r = c .before .before .before .before .before in
+unfolding after
+returns-2 c =
+    let r = c .before .before .before .before .before in
     let start = r .before .before .before .before in
     rw (
+      by-parts (start .before .before .before .args .self),
       c .in-range3 .ensures,
       c .before .before .in-range2 .ensures,
       c .before .before .before .in-range .ensures,
