@@ -20,7 +20,7 @@ use Rattle.record.specs.declared.Head.{Head}
 use Rattle.record.specs.declared.Head.the-variants as head
 use Rattle.record.specs.declared.Next.{Next}
 use Rattle.record.specs.declared.Next.the-variants.{Packet, End, More, Refused}
-use Rattle.record.specs.Paper.{packetAt, formatRefusal, packetRefusal}
+use Rattle.record.specs.Paper.{packetBytes, headBytes, packetAt, formatRefusal, packetRefusal}
 use Rattle.record.specs.Paper.{Ending, done, stopped, Packets, packetsIn, Reading, unread, read, readingOf, file, endedFile, asFile}
 use Rattle.record.specs.Step.{cursor, after, packetOf, headRead, nextRead}
 use Rattle.record.specs.Pieces.{goesOn, nextAt, taken, Heard, heard, callsOf, allCalls, answers, allAnswers}
@@ -38,15 +38,15 @@ one-answer k at l e = rw e
 
 -- one packet more in front
 told-more : (past : Past) (at : ℕ) (p : packet.Packet) (ps : List packet.Packet) (e : Ending) (l : List Next)
-    → AnsweredBy (nextOf past (p .time)) (at + 16) ps e l
-    → AnsweredBy past at (p ∷ ps) e (Packet p (cursor (at + 16)) ∷ l)
+    → AnsweredBy (nextOf past (p .time)) (at + packetBytes) ps e l
+    → AnsweredBy past at (p ∷ ps) e (Packet p (cursor (at + packetBytes)) ∷ l)
 unfolding toldPackets fold
-told-more past at p ps done l t = ap (λ (r : List Next). Packet p (cursor (at + 16)) ∷ r) t
+told-more past at p ps done l t = ap (λ (r : List Next). Packet p (cursor (at + packetBytes)) ∷ r) t
 told-more past at p ps (stopped n o) l t =
-    let further : at + 16 + 16 * length ps ≡ at + 16 * suc (length ps) = omega arith in (
+    let further : at + packetBytes + packetBytes * length ps ≡ at + packetBytes * suc (length ps) = omega arith in (
       t .0,
       t .1,
-      ap (λ (r : List Next). Packet p (cursor (at + 16)) ∷ r) (t .2),
+      ap (λ (r : List Next). Packet p (cursor (at + packetBytes)) ∷ r) (t .2),
       record { number-is = t .3 .number-is; offset-is = t .3 .offset-is ∙ further; own = t .3 .own },
     )
 
@@ -64,48 +64,51 @@ module _ (past : Past) (at : ℕ) (l : List ℕ) (j : ℕ) where
       → Told (packetsIn past at l)
   unfolding toldPackets fold
   at-stop n i some e p f t =
-      let here : at ≡ at + 16 * 0 = omega arith in
+      let here : at ≡ at + packetBytes * 0 = omega arith in
       subst Told (sym (packets-stop past at l n some e p))
       (i, _, one-answer j at l f, record { number-is = t .number-is; offset-is = here; own = t .own })
 
   -- a packet, and what follows it
-  module _ (f : formatRefusal false l ≡ 0) (e : nextRead at l ≡ packetOf l (after at 16)) where
+  module _ (f : formatRefusal false l ≡ 0) (e : nextRead at l ≡ packetOf l (after at packetBytes)) where
     abbrev next : Packets
-    next = packetsIn (nextOf past (packetAt l .time)) (at + 16) (drop 16 l)
+    next = packetsIn (nextOf past (packetAt l .time)) (at + packetBytes) (drop packetBytes l)
 
     goes-on : packetRefusal past l ≡ 0 → at + length l < 2 ^ 64
-        → AnsweredBy (nextOf past (packetAt l .time)) (at + 16) (next .accepted) (next .ending) (answers j (at + 16) (drop 16 l))
+        → AnsweredBy (nextOf past (packetAt l .time)) (at + packetBytes) (next .accepted) (next .ending)
+        (answers j (at + packetBytes) (drop packetBytes l))
         → Told (packetsIn past at l)
     goes-on r w ih =
         let here = packet-here l f in
         let p = packetAt l in
-        let on : after at 16 ≡ cursor (at + 16) =
-        ap cursor (mod-eq-of-lt {n = at + 16} {m = 2 ^ 64} (omega (arith, here .sixteen))) in
+        let on : after at packetBytes ≡ cursor (at + packetBytes) =
+        ap cursor (mod-eq-of-lt {n = at + packetBytes} {m = 2 ^ 64} (omega (arith, here .sixteen))) in
         subst Told (sym (packets-go past at l r))
         (subst (AnsweredBy past at (p ∷ next .accepted) (next .ending)) (sym (one-answer j at l (e ∙ ap (packetOf l) on)))
-        (told-more past at p (next .accepted) (next .ending) (answers j (at + 16) (drop 16 l)) ih))
+        (told-more past at p (next .accepted) (next .ending) (answers j (at + packetBytes) (drop packetBytes l)) ih))
 
     at-packet : Dec (packetRefusal past l ≡ 0) → at + length l < 2 ^ 64
-        → AnsweredBy (nextOf past (packetAt l .time)) (at + 16) (next .accepted) (next .ending) (answers j (at + 16) (drop 16 l))
+        → AnsweredBy (nextOf past (packetAt l .time)) (at + packetBytes) (next .accepted) (next .ending)
+        (answers j (at + packetBytes) (drop packetBytes l))
         → Told (packetsIn past at l)
     at-packet (yes r) w ih = goes-on r w ih
     at-packet (no r) w ih =
         let number = second (formatRefusal false l) (numberOf past (packetAt l)) f in
-        at-stop (numberOf past (packetAt l)) (packetOf l (after at 16)) (omega (arith, packet-here l f .sixteen)) number
+        at-stop (numberOf past (packetAt l)) (packetOf l (after at packetBytes)) (omega (arith, packet-here l f .sixteen)) number
         (omega (arith, number, r)) e (record { number-is = refl; offset-is = refl; own = λ q. absurd (omega arith) })
 
 packets-told : (j : ℕ) (past : Past) (at : ℕ) (l : List ℕ) → length l < j → at + length l < 2 ^ 64
     → AnsweredBy past at (packetsIn past at l .accepted) (packetsIn past at l .ending) (answers j at l)
 packets-told zero past at l b w = absurd (omega arith)
 packets-told (suc j) past at l b w =
-    go (nextRead at l) refl (next-says at l) (packets-told j (nextOf past (packetAt l .time)) (at + 16) (drop 16 l))
+    go (nextRead at l) refl (next-says at l) (packets-told j (nextOf past (packetAt l .time)) (at + packetBytes) (drop packetBytes l))
   where
     further : Packets
-    further = packetsIn (nextOf past (packetAt l .time)) (at + 16) (drop 16 l)
+    further = packetsIn (nextOf past (packetAt l .time)) (at + packetBytes) (drop packetBytes l)
 
     go : (r : Next) → nextRead at l ≡ r → Says at l r
-        → (length (drop 16 l) < j → at + 16 + length (drop 16 l) < 2 ^ 64
-        → AnsweredBy (nextOf past (packetAt l .time)) (at + 16) (further .accepted) (further .ending) (answers j (at + 16) (drop 16 l)))
+        → (length (drop packetBytes l) < j → at + packetBytes + length (drop packetBytes l) < 2 ^ 64
+        → AnsweredBy (nextOf past (packetAt l .time)) (at + packetBytes) (further .accepted) (further .ending)
+        (answers j (at + packetBytes) (drop packetBytes l)))
         → AnsweredBy past at (packetsIn past at l .accepted) (packetsIn past at l .ending) (answers (suc j) at l)
     go End e s ih = at-end past at l j s e
     go More e s ih = absurd s
@@ -114,7 +117,7 @@ packets-told (suc j) past at l b w =
         (record { number-is = refl; offset-is = refl; own = λ q. s .3 })
     go (Packet p c) e s ih =
         let long = packet-here l (s .0) .sixteen in
-        let size = length-drop 16 l in
+        let size = length-drop packetBytes l in
         at-packet past at l j (s .0) (e ∙ sym (s .1)) (ℕ-discrete (packetRefusal past l) 0) w
         (ih (omega (arith, size, long)) (omega (arith, size, long)))
 
@@ -124,24 +127,24 @@ pub rest-answers : (s : List ℕ) (j : ℕ) → length s < 2 ^ 64 → length s <
 rest-answers s j w h = go (headRead s) (head-says s)
   where
     l : List ℕ
-    l = drop 19 s
+    l = drop headBytes s
 
     stood : (version kind : ℕ) (x : Parameters) (c : Cursor) → Stood s version kind x c → Dec (setUpRefusal x ≡ 0)
-        → Answered (readingOf s) (heard (head.Ready version kind x c) (λ at. answers j at (drop 19 s)))
+        → Answered (readingOf s) (heard (head.Ready version kind x c) (λ at. answers j at (drop headBytes s)))
     stood version kind x c q (no n) =
-        subst (λ (r : Reading). Answered r (heard (head.Ready version kind x c) (λ at. answers j at (drop 19 s))))
+        subst (λ (r : Reading). Answered r (heard (head.Ready version kind x c) (λ at. answers j at (drop headBytes s))))
         (sym (reads-refused q (setUpRefusal x) refl (omega arith))) (refl, refl)
     stood version kind x c q (yes z) =
-        let size : length (drop 19 s) + 19 ≡ length s = omega (arith, length-drop 19 s, q .nineteen) in
-        let told = packets-told j nothing 19 (drop 19 s) (omega (arith, size)) (omega (arith, size)) in
-        subst (λ (r : Reading). Answered r (heard (head.Ready version kind x c) (λ at. answers j at (drop 19 s))))
+        let size : length (drop headBytes s) + headBytes ≡ length s = omega (arith, length-drop headBytes s, q .nineteen) in
+        let told = packets-told j nothing headBytes (drop headBytes s) (omega (arith, size)) (omega (arith, size)) in
+        subst (λ (r : Reading). Answered r (heard (head.Ready version kind x c) (λ at. answers j at (drop headBytes s))))
         (sym (reads-packets q z)) (rw (q .version-1, q .kind-is-1, q .next-19), rw (q .next-19) told)
 
-    go : (y : Head) → SaysHead s y → Answered (readingOf s) (heard y (λ at. answers j at (drop 19 s)))
+    go : (y : Head) → SaysHead s y → Answered (readingOf s) (heard y (λ at. answers j at (drop headBytes s)))
     go (head.Ready version kind x c) q = stood version kind x c q (ℕ-discrete (setUpRefusal x) 0)
     go head.More q = absurd q
     go (head.Refused n o) q =
-        subst (λ (r : Reading). Answered r (heard (head.Refused n o) (λ at. answers j at (drop 19 s)))) (sym q) (refl, refl)
+        subst (λ (r : Reading). Answered r (heard (head.Refused n o) (λ at. answers j at (drop headBytes s)))) (sym q) (refl, refl)
 
 -- ---- and of the whole file, by the cursor: each answer leads as far as it took
 
@@ -151,7 +154,7 @@ next-along at l w = go (nextRead at l) (next-says at l)
   where
     go : (r : Next) → Says at l r → goesOn r ≡ true → nextAt r ≡ at + taken r
     go (Packet p c) s g =
-        let m = mod-eq-of-lt {n = at + 16} {m = 2 ^ 64} (omega (arith, packet-here l (s .0) .sixteen)) in
+        let m = mod-eq-of-lt {n = at + packetBytes} {m = 2 ^ 64} (omega (arith, packet-here l (s .0) .sixteen)) in
         let q = s .1 in
         cc
     go End s g = absurd (false-true g)
@@ -181,10 +184,10 @@ calls-along (suc k) at s h w = go (goesOn i) refl (calls-along k (nextAt i) s)
 all-along : (k : ℕ) (s : List ℕ) → length s < 2 ^ 64 → allCalls k s ≡ allAnswers k s
 all-along k s w = go (headRead s) (head-says s)
   where
-    go : (y : Head) → SaysHead s y → heard y (λ at. callsOf k at s) ≡ heard y (λ at. answers k at (drop 19 s))
+    go : (y : Head) → SaysHead s y → heard y (λ at. callsOf k at s) ≡ heard y (λ at. answers k at (drop headBytes s))
     go (head.Ready version kind x c) q =
-        rw (q .next-19) (ap (λ (l : List Next). record { head = head.Ready version kind x (cursor 19); after = l })
-        (calls-along k 19 s (q .nineteen) w))
+        rw (q .next-19) (ap (λ (l : List Next). record { head = head.Ready version kind x (cursor headBytes); after = l })
+        (calls-along k headBytes s (q .nineteen) w))
     go head.More q = refl
     go (head.Refused n o) q = refl
 
@@ -197,11 +200,11 @@ pub answered-file : (r : Reading) (y : Heard) (s : Parameters) (ps : List packet
 answered-file (unread n o) y s ps e a = absurd (refused-file n o s ps e)
 answered-file (read x r) y s ps e a = go (r .ending) e (a .1)
   where
-    go : (d : Ending) → endedFile x (r .accepted) d ≡ file s ps → AnsweredBy nothing 19 (r .accepted) d (y .after) → y ≡ told s ps
+    go : (d : Ending) → endedFile x (r .accepted) d ≡ file s ps → AnsweredBy nothing headBytes (r .accepted) d (y .after) → y ≡ told s ps
     go (stopped n o) e b = absurd (refused-file n o s ps e)
     go done e b =
         let same-numbers : x ≡ s = cc in
         let same-packets : r .accepted ≡ ps = cc in
         let e-head : y .head ≡ toldHead s = a .0 ∙ rw same-numbers in
-        let e-after : y .after ≡ toldPackets 19 ps ++ (End ∷ []) = b ∙ rw same-packets in
+        let e-after : y .after ≡ toldPackets headBytes ps ++ (End ∷ []) = b ∙ rw same-packets in
         λ j. record { head = e-head j; after = e-after j }

@@ -11,6 +11,7 @@ use Rattle.endian.proofs.Width.{number-byte}
 use Rattle.endian.proofs.Fields.{fields-back, bytes-again, fields-at}
 use Rattle.packet.specs.declared.Packet.{Packet}
 use Rattle.limits.specs.declared.Parameters.{Parameters}
+use Rattle.record.specs.Paper.{parametersLength, packetLength, parametersBytes, packetBytes}
 use Rattle.record.specs.Paper.{bodyLength, kindOf, parametersAt, packetAt}
 use Rattle.record.specs.Layout.{parameterWidths, parameterFields, packetWidths, packetFields}
 use Rattle.record.specs.Layout.{parameterRecord, packetRecord}
@@ -32,7 +33,7 @@ parameter-fields l =
 -- a record with its fields, in front of anything
 
 pub record PacketBack (p : Packet) (l : List ℕ) : Type 0 where
-  pub body-14 : bodyLength l ≡ 14
+  pub body-14 : bodyLength l ≡ packetLength
   pub kind-2 : kindOf l ≡ 2
   pub same : packetAt l ≡ p
 
@@ -46,7 +47,7 @@ packet-back p rest f =
     record { body-14 = cc; kind-2 = cc; same = λ j. record { time = e-time j; stamp = e-stamp j; marker = e-marker j } }
 
 pub record ParametersBack (s : Parameters) (l : List ℕ) : Type 0 where
-  pub body-16 : bodyLength l ≡ 16
+  pub body-16 : bodyLength l ≡ parametersLength
   pub kind-1 : kindOf l ≡ 1
   pub same : parametersAt l ≡ s
 
@@ -71,11 +72,12 @@ parameters-back s rest h =
 
 -- and the bytes of a record that was read
 
-pub packet-again : (l : List ℕ) → Bytes l → 16 ≤ length l → bodyLength l ≡ 14 → kindOf l ≡ 2 → packetRecord (packetAt l) ++ drop 16 l ≡ l
+pub packet-again : (l : List ℕ) → Bytes l → packetBytes ≤ length l → bodyLength l ≡ packetLength → kindOf l ≡ 2
+    → packetRecord (packetAt l) ++ drop packetBytes l ≡ l
 packet-again l b h e k =
     rw (packet-fields l, e, k) at (bytes-again Big packetWidths l b h)
 
-pub parameters-again : (l : List ℕ) → Bytes l → 18 ≤ length l → bodyLength l ≡ 16 → kindOf l ≡ 1
-    → parameterRecord (parametersAt l) ++ drop 18 l ≡ l
+pub parameters-again : (l : List ℕ) → Bytes l → parametersBytes ≤ length l → bodyLength l ≡ parametersLength → kindOf l ≡ 1
+    → parameterRecord (parametersAt l) ++ drop parametersBytes l ≡ l
 parameters-again l b h e k =
     rw (parameter-fields l, e, k) at (bytes-again Big parameterWidths l b h)

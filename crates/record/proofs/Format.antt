@@ -12,6 +12,7 @@ use borrow.Author.Tests.{lt-ltb, le-ltb, eq-eqb, ne-eqb, ltb-false, eqb-true, eq
 use Rattle.laws.specs.Choose.{pick, pick-either}
 use Rattle.endian.specs.Number.{Room}
 use Rattle.record.specs.declared.Framed.the-variants as framed
+use Rattle.record.specs.Paper.{parametersLength, packetLength, parametersBytes, packetBytes}
 use Rattle.record.specs.Paper.{bodyLength, kindOf, isParameters, kindLength, lone, inPlace, formatRefusal}
 use Rattle.record.specs.Step.{scrapOf, framedOf, Whole}
 
@@ -29,11 +30,11 @@ pub packet-2 : isParameters 2 ≡ false
 unfolding isParameters
 packet-2 = refl
 
-pub length-16 : (kind : ℕ) → isParameters kind ≡ true → kindLength kind ≡ 16
+pub length-16 : (kind : ℕ) → isParameters kind ≡ true → kindLength kind ≡ parametersLength
 unfolding kindLength
 length-16 kind e = rw e
 
-pub length-14 : kindLength 2 ≡ 14
+pub length-14 : kindLength 2 ≡ packetLength
 unfolding kindLength
 length-14 = rw packet-2
 
@@ -144,15 +145,15 @@ module _ (first : Bool) (l : List ℕ) where
 
 -- the bytes of a whole record whose length fits its kind
 module _ {body kind : ℕ} {l : List ℕ} (w : Whole body kind l) (fits : body ≡ kindLength kind) where
-  pub parameter-room : isParameters kind ≡ true → Room 18 l 0
+  pub parameter-room : isParameters kind ≡ true → Room parametersBytes l 0
   parameter-room e = record { inside = omega (arith, w .all-there, fits, length-16 kind e) }
 
-  pub packet-body : isParameters kind ≡ false → (kind ≡ 2) × (body ≡ 14)
+  pub packet-body : isParameters kind ≡ false → (kind ≡ 2) × (body ≡ packetLength)
   packet-body e =
       let two = packet-kind kind e (omega (arith, w .some-body, fits)) in
       (two, fits ∙ rw two length-14)
 
-  pub packet-room : isParameters kind ≡ false → Room 16 l 0
+  pub packet-room : isParameters kind ≡ false → Room packetBytes l 0
   packet-room e = record { inside = omega (arith, w .all-there, packet-body e .1) }
 
 -- what a record that is not refused is: whole, of the length of its kind, and in its place

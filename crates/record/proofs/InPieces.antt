@@ -17,6 +17,7 @@ use Rattle.record.specs.Step.{headPiece, headRead, nextPiece, nextRead}
 use Rattle.record.specs.Pieces.{goesOn, nextAt, taken, wantsMore, headWaits, heard, answers, allAnswers, inPieces, allInPieces}
 use Rattle.record.proofs.Saying.{SaysHead, head-says}
 use Rattle.record.proofs.Window.{next-same, head-same, next-full, head-full, read-within, head-answers}
+use Rattle.record.specs.Paper.{headBytes}
 
 -- the answer to the last window is the whole file's by definition, and never More
 pub last-answers : (at : ℕ) (w : List ℕ) → wantsMore (nextPiece at w true) ≡ false
@@ -124,7 +125,7 @@ joined (suc k) (suc j) at held (p ∷ pieces) a b =
 -- ---- from the first byte
 
 -- what follows a head that the held bytes show
-heard-on : (held : List ℕ) (y : Head) (f g : ℕ → List Next) → SaysHead held y → (19 ≤ length held → (at : ℕ) → f at ≡ g at)
+heard-on : (held : List ℕ) (y : Head) (f g : ℕ → List Next) → SaysHead held y → (headBytes ≤ length held → (at : ℕ) → f at ≡ g at)
     → heard y f ≡ heard y g
 heard-on held (head.Ready version kind x c) f g s same =
     ap (λ (l : List Next). record { head = head.Ready version kind x c; after = l }) (same (s .nineteen) (c .at))
@@ -134,16 +135,17 @@ heard-on held (head.Refused n o) f g s same = refl
 module _ (k j : ℕ) where
   shown : (held : List ℕ) (pieces : List (List ℕ)) (last : Bool) → length (held ++ flatten pieces) + length pieces < k
       → length (held ++ flatten pieces) < j → headWaits (headPiece held last) ≡ false → headPiece held last ≡ headRead (held ++ flatten pieces)
-      → heard (headPiece held last) (λ at. inPieces k at (drop 19 held) pieces) ≡ allAnswers j (held ++ flatten pieces)
+      → heard (headPiece held last) (λ at. inPieces k at (drop headBytes held) pieces) ≡ allAnswers j (held ++ flatten pieces)
   shown held pieces last a b m whole =
-      heard-on held (headPiece held last) (λ at. inPieces k at (drop 19 held) pieces) (λ at. answers j at (drop 19 (held ++ flatten pieces)))
+      heard-on held (headPiece held last) (λ at. inPieces k at (drop headBytes held) pieces)
+      (λ at. answers j at (drop headBytes (held ++ flatten pieces)))
       (subst (SaysHead held) (sym (head-alone held last m)) (head-says held))
       (λ h at.
-      let split = drop-append-le 19 held (flatten pieces) h in
-      let size : length (drop 19 held ++ flatten pieces) ≤ length (held ++ flatten pieces)
-      = omega (arith, length-append (drop 19 held) (flatten pieces), length-append held (flatten pieces), length-drop 19 held) in
-      joined k j at (drop 19 held) pieces (omega (arith, size)) (omega (arith, size)) ∙ ap (answers j at) (sym split))
-      ∙ ap (λ (y : Head). heard y (λ at. answers j at (drop 19 (held ++ flatten pieces)))) whole
+      let split = drop-append-le headBytes held (flatten pieces) h in
+      let size : length (drop headBytes held ++ flatten pieces) ≤ length (held ++ flatten pieces)
+      = omega (arith, length-append (drop headBytes held) (flatten pieces), length-append held (flatten pieces), length-drop headBytes held) in
+      joined k j at (drop headBytes held) pieces (omega (arith, size)) (omega (arith, size)) ∙ ap (answers j at) (sym split))
+      ∙ ap (λ (y : Head). heard y (λ at. answers j at (drop headBytes (held ++ flatten pieces)))) whole
 
   all-joined : (held : List ℕ) (pieces : List (List ℕ)) → length (held ++ flatten pieces) + length pieces < k
       → length (held ++ flatten pieces) < j → allInPieces k held pieces ≡ allAnswers j (held ++ flatten pieces)
@@ -154,7 +156,7 @@ module _ (k j : ℕ) where
       go : (t : Bool) → headWaits (headPiece held false) ≡ t
           → (length ((held ++ p) ++ flatten pieces) + length pieces < k → length ((held ++ p) ++ flatten pieces) < j
           → allInPieces k (held ++ p) pieces ≡ allAnswers j ((held ++ p) ++ flatten pieces))
-          → pick t (allInPieces k (held ++ p) pieces) (heard (headPiece held false) (λ at. inPieces k at (drop 19 held) (p ∷ pieces)))
+          → pick t (allInPieces k (held ++ p) pieces) (heard (headPiece held false) (λ at. inPieces k at (drop headBytes held) (p ∷ pieces)))
           ≡ allAnswers j (held ++ (p ++ flatten pieces))
       go true m more =
           let same = append-assoc held p (flatten pieces) in

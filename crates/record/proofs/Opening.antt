@@ -13,7 +13,7 @@ use Rattle.record.specs.declared.Cursor.{Cursor}
 use Rattle.record.specs.declared.Head.{Head}
 use Rattle.record.specs.declared.Head.the-variants.{Ready, More, Refused}
 use Rattle.record.specs.declared.Checked.the-variants as answer
-use Rattle.record.specs.Paper.{Ending, done, stopped, Packets, packetsIn, endedFile}
+use Rattle.record.specs.Paper.{headBytes, Ending, done, stopped, Packets, packetsIn, endedFile}
 use Rattle.record.specs.Step.{headRead}
 use Rattle.record.specs.Walk.{asChecked, checkedOf, finishBy, finish, refusedBy}
 use Rattle.record.proofs.Head.{the-type}
@@ -56,4 +56,4 @@ module _ (s : List ℕ) where
       pub opens-fine : setUpRefusal parameters ≡ 0 → finish parameters noPackets (packetsIn nothing (c .at) (drop (c .at) s)) ≡ checkedOf s
       unfolding checkedOf
       opens-fine f =
-          rw (reads-packets here f, here .next-19) (finish-checked parameters (packetsIn nothing 19 (drop 19 s)))
+          rw (reads-packets here f, here .next-19) (finish-checked parameters (packetsIn nothing headBytes (drop headBytes s)))

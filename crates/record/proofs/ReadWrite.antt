@@ -22,6 +22,7 @@ use Rattle.record.specs.declared.Written.{Written}
 use Rattle.record.specs.declared.Written.the-variants.{Done}
 use Rattle.record.specs.Write.{fileLength, Writes}
 use Rattle.limits.specs.Paper.{setUpRefusal}
+use Rattle.record.specs.Paper.{parametersBytes, packetBytes, headBytes}
 use Rattle.record.specs.Paper.{versionFits, parametersAt, packetAt, formatRefusal, parametersRefusal, packetRefusal}
 use Rattle.record.specs.Paper.{Ending, done, stopped, Packets, packetsIn, file, refused, endedFile, asFile, fileOf}
 use Rattle.record.specs.Layout.{parameterRecord, recordsOf, bytesIn}
@@ -47,13 +48,13 @@ unfolding recordsOf
 packets-again zero past at l h b e = rw (packets-end past at l (omega arith)) (sym (empty l (omega arith)))
 packets-again (suc k) past at l h b e =
     go (ℕ-discrete (length l) 0) (ℕ-discrete (packetRefusal past l) 0)
-    (packets-again k (nextOf past (packetAt l .time)) (at + 16) (drop 16 l))
+    (packets-again k (nextOf past (packetAt l .time)) (at + packetBytes) (drop packetBytes l))
   where
     next : Packets
-    next = packetsIn (nextOf past (packetAt l .time)) (at + 16) (drop 16 l)
+    next = packetsIn (nextOf past (packetAt l .time)) (at + packetBytes) (drop packetBytes l)
 
     go : Dec (length l ≡ 0) → Dec (packetRefusal past l ≡ 0)
-        → (length (drop 16 l) ≤ k → Bytes (drop 16 l) → next .ending ≡ done → recordsOf (next .accepted) ≡ drop 16 l)
+        → (length (drop packetBytes l) ≤ k → Bytes (drop packetBytes l) → next .ending ≡ done → recordsOf (next .accepted) ≡ drop packetBytes l)
         → recordsOf (packetsIn past at l .accepted) ≡ l
     go (yes z) d rest = rw (packets-end past at l z) (sym (empty l z))
     go (no n) (no r) rest =
@@ -61,7 +62,7 @@ packets-again (suc k) past at l h b e =
     go (no n) (yes r) rest =
         let here = packet-here l (neither _ _ r .0) in
         let goes = packets-go past at l r in
-        rw (goes, rest (rw length-drop (omega arith)) (bytes-drop 16 l b) (sym (ap (λ p. p .ending) goes) ∙ e))
+        rw (goes, rest (rw length-drop (omega arith)) (bytes-drop packetBytes l b) (sym (ap (λ p. p .ending) goes) ∙ e))
         (packet-again l b (here .sixteen) (here .body-14) (here .kind-is-2))
 
 -- and the scan refuses none of them
@@ -71,16 +72,17 @@ packets-scan zero past begun closed at l h e =
     (closed, scan-ends past begun closed (ap (λ p. p .accepted) (packets-end past at l (omega arith))))
 packets-scan (suc k) past begun closed at l h e =
     go (ℕ-discrete (length l) 0) (ℕ-discrete (packetRefusal past l) 0)
-    (packets-scan k (nextOf past p-time) (begun || marked (packetAt l)) (closed + closes begun (packetAt l)) (at + 16) (drop 16 l))
+    (packets-scan k (nextOf past p-time) (begun || marked (packetAt l)) (closed + closes begun (packetAt l))
+    (at + packetBytes) (drop packetBytes l))
   where
     p-time : ℕ
     p-time = packetAt l .time
 
     next : Packets
-    next = packetsIn (nextOf past p-time) (at + 16) (drop 16 l)
+    next = packetsIn (nextOf past p-time) (at + packetBytes) (drop packetBytes l)
 
     go : Dec (length l ≡ 0) → Dec (packetRefusal past l ≡ 0)
-        → (length (drop 16 l) ≤ k → next .ending ≡ done
+        → (length (drop packetBytes l) ≤ k → next .ending ≡ done
         → (n : ℕ)
         × (scanOf (nextOf past p-time) (begun || marked (packetAt l)) (closed + closes begun (packetAt l)) (next .accepted) ≡ scan.Fine n))
         → (n : ℕ) × (scanOf past begun closed (packetsIn past at l .accepted) ≡ scan.Fine n)
@@ -100,7 +102,7 @@ version-again (b ∷ s) e = rw e
 -- what an accepted file holds: its stream numbers and its packets, all accepted
 pub record FileHolds (s : List ℕ) (numbers : Parameters) (ps : List Packet) : Type 0 where
   pub set-up : setUpRefusal numbers ≡ 0
-  pub all-read : packetsIn nothing 19 (drop 19 s) ≡ record { accepted = ps; ending = done }
+  pub all-read : packetsIn nothing headBytes (drop headBytes s) ≡ record { accepted = ps; ending = done }
   pub closed : ℕ
   pub scan-fine : scanOf nothing false 0 ps ≡ scan.Fine closed
 
@@ -108,7 +110,7 @@ pub file-holds : (s : List ℕ) (numbers : Parameters) (ps : List Packet) → fi
 file-holds s numbers ps e = go (versionFits s) refl (ℕ-discrete (parametersRefusal (drop 1 s)) 0)
   where
     r : Packets
-    r = packetsIn nothing 19 (drop 19 s)
+    r = packetsIn nothing headBytes (drop headBytes s)
 
     ends : (d : Ending) → r .ending ≡ d → endedFile (parametersAt (drop 1 s)) (r .accepted) d ≡ file numbers ps
         → parametersRefusal (drop 1 s) ≡ 0 → FileHolds s numbers ps
@@ -116,7 +118,7 @@ file-holds s numbers ps e = go (versionFits s) refl (ℕ-discrete (parametersRef
     ends done q f z =
         let e-numbers : parametersAt (drop 1 s) ≡ numbers = cc in
         let e-packets : r .accepted ≡ ps = cc in
-        let scans = packets-scan (length (drop 19 s)) nothing false 0 19 (drop 19 s) (omega arith) q in
+        let scans = packets-scan (length (drop headBytes s)) nothing false 0 headBytes (drop headBytes s) (omega arith) q in
         let fine = neither (formatRefusal true (drop 1 s)) (setUpRefusal (parametersAt (drop 1 s))) z .1 in
         record {
           set-up = sym (ap setUpRefusal e-numbers) ∙ fine;
@@ -133,19 +135,19 @@ file-holds s numbers ps e = go (versionFits s) refl (ℕ-discrete (parametersRef
 
 -- and so is a whole file
 module _ (s : List ℕ) (b : Bytes s) where
-  head-again : versionFits s ≡ true → parametersRefusal (drop 1 s) ≡ 0 → 1 ∷ (parameterRecord (parametersAt (drop 1 s)) ++ drop 19 s) ≡ s
+  head-again : versionFits s ≡ true → parametersRefusal (drop 1 s) ≡ 0 → 1 ∷ (parameterRecord (parametersAt (drop 1 s)) ++ drop headBytes s) ≡ s
   head-again v e =
       let l = drop 1 s in
       let here = parameters-here l (neither _ _ e .0) in
       let again = parameters-again l (bytes-drop 1 s b) (here .eighteen) (here .body-16) (here .kind-is-1) in
-      rw (← drop-drop 18 1 s, again) (version-again s (eqb-true (getD s 0 0) 1 v))
+      rw (← drop-drop parametersBytes 1 s, again) (version-again s (eqb-true (getD s 0 0) 1 v))
 
   pub file-again : (numbers : Parameters) (ps : List Packet) → fileOf s ≡ file numbers ps → bytesIn numbers ps ≡ s
   unfolding bytesIn
   file-again numbers ps e = go (versionFits s) refl (ℕ-discrete (parametersRefusal (drop 1 s)) 0)
     where
       r : Packets
-      r = packetsIn nothing 19 (drop 19 s)
+      r = packetsIn nothing headBytes (drop headBytes s)
 
       ends : (d : Ending) → r .ending ≡ d → endedFile (parametersAt (drop 1 s)) (r .accepted) d ≡ file numbers ps
           → versionFits s ≡ true → parametersRefusal (drop 1 s) ≡ 0 → bytesIn numbers ps ≡ s
@@ -153,7 +155,8 @@ module _ (s : List ℕ) (b : Bytes s) where
       ends done q f v z =
           let e-numbers : parametersAt (drop 1 s) ≡ numbers = cc in
           let e-packets : r .accepted ≡ ps = cc in
-          let again = packets-again (length (drop 19 s)) nothing 19 (drop 19 s) (omega arith) (bytes-drop 19 s b) q in
+          let l = drop headBytes s in
+          let again = packets-again (length l) nothing headBytes l (omega arith) (bytes-drop headBytes s b) q in
           rw (← e-numbers, ← e-packets, again) (head-again v z)
 
       go : (t : Bool) → versionFits s ≡ t → Dec (parametersRefusal (drop 1 s) ≡ 0) → bytesIn numbers ps ≡ s

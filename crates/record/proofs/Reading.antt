@@ -13,6 +13,7 @@ use borrow.Author.Tests.{eq-eqb, ne-eqb, eqb-true, eqb-false, not-true}
 use Rattle.laws.specs.Choose.{pick-either, orElse}
 use Rattle.packet.specs.declared.Past.{Past}
 use Rattle.packet.specs.Step.{nothing, nextOf}
+use Rattle.record.specs.Paper.{parametersLength, packetLength, parametersBytes, packetBytes, headBytes}
 use Rattle.record.specs.Paper.{versionFits, bodyLength, kindOf, parametersAt, packetAt}
 use Rattle.record.specs.Paper.{formatRefusal, parametersRefusal, packetRefusal, unread, read, readingOf}
 use Rattle.record.specs.Paper.{done, stopped, none, more, packetsBy, packetsIn}
@@ -30,27 +31,27 @@ before a b h = rw (ne-eqb a 0 (λ e. omega arith))
 
 -- a record that the format accepts after the parameters is a packet's, of 16 bytes
 pub record PacketHere (l : List ℕ) : Type 0 where
-  pub body-14 : bodyLength l ≡ 14
+  pub body-14 : bodyLength l ≡ packetLength
   pub kind-is-2 : kindOf l ≡ 2
-  pub sixteen : 16 ≤ length l
+  pub sixteen : packetBytes ≤ length l
 
 pub packet-here : (l : List ℕ) → formatRefusal false l ≡ 0 → PacketHere l
 packet-here l e =
     let f = formed false l e in
     let k = packet-kind (kindOf l) (not-true _ (f .in-place)) (omega (arith, f .some-body, f .length-fits)) in
-    let b : bodyLength l ≡ 14 = f .length-fits ∙ rw k length-14 in
+    let b : bodyLength l ≡ packetLength = f .length-fits ∙ rw k length-14 in
     record { body-14 = b; kind-is-2 = k; sixteen = omega (arith, f .all-there) }
 
 -- and the first record that the format accepts is the parameters', of 18 bytes
 pub record ParametersHere (l : List ℕ) : Type 0 where
-  pub body-16 : bodyLength l ≡ 16
+  pub body-16 : bodyLength l ≡ parametersLength
   pub kind-is-1 : kindOf l ≡ 1
-  pub eighteen : 18 ≤ length l
+  pub eighteen : parametersBytes ≤ length l
 
 pub parameters-here : (l : List ℕ) → formatRefusal true l ≡ 0 → ParametersHere l
 parameters-here l e =
     let f = formed true l e in
-    let b : bodyLength l ≡ 16 = f .length-fits ∙ length-16 (kindOf l) (f .in-place) in
+    let b : bodyLength l ≡ parametersLength = f .length-fits ∙ length-16 (kindOf l) (f .in-place) in
     record { body-16 = b; kind-is-1 = kind-1 (kindOf l) (f .in-place); eighteen = omega (arith, f .all-there) }
 
 module _ (past : Past) (at : ℕ) (l : List ℕ) where
@@ -64,7 +65,7 @@ module _ (past : Past) (at : ℕ) (l : List ℕ) where
   by-stop k n h e p = rw (ne-eqb (length l) 0 (λ z. omega arith), e, ne-eqb n 0 (λ z. omega arith))
 
   by-go : (k : ℕ) → packetRefusal past l ≡ 0
-      → packetsBy (suc k) past at l ≡ more (packetAt l) (packetsBy k (nextOf past (packetAt l .time)) (at + 16) (drop 16 l))
+      → packetsBy (suc k) past at l ≡ more (packetAt l) (packetsBy k (nextOf past (packetAt l .time)) (at + packetBytes) (drop packetBytes l))
   unfolding packetsBy
   by-go k e =
       let h = packet-here l (neither _ _ e .0) in
@@ -77,18 +78,18 @@ by-same zero k past at l a b = by-end past at l 0 (omega arith) ∙ sym (by-end 
 by-same (suc j) zero past at l a b = by-end past at l (suc j) (omega arith) ∙ sym (by-end past at l 0 (omega arith))
 by-same (suc j) (suc k) past at l a b =
     go (ℕ-discrete (length l) 0) (ℕ-discrete (packetRefusal past l) 0)
-    (by-same j k (nextOf past (packetAt l .time)) (at + 16) (drop 16 l))
+    (by-same j k (nextOf past (packetAt l .time)) (at + packetBytes) (drop packetBytes l))
   where
     go : Dec (length l ≡ 0) → Dec (packetRefusal past l ≡ 0)
-        → (length (drop 16 l) ≤ j → length (drop 16 l) ≤ k
-        → packetsBy j (nextOf past (packetAt l .time)) (at + 16) (drop 16 l)
-        ≡ packetsBy k (nextOf past (packetAt l .time)) (at + 16) (drop 16 l))
+        → (length (drop packetBytes l) ≤ j → length (drop packetBytes l) ≤ k
+        → packetsBy j (nextOf past (packetAt l .time)) (at + packetBytes) (drop packetBytes l)
+        ≡ packetsBy k (nextOf past (packetAt l .time)) (at + packetBytes) (drop packetBytes l))
         → packetsBy (suc j) past at l ≡ packetsBy (suc k) past at l
     go (yes e) d rest = by-end past at l (suc j) e ∙ sym (by-end past at l (suc k) e)
     go (no n) (no r) rest =
         by-stop past at l j _ (omega arith) refl (omega arith) ∙ sym (by-stop past at l k _ (omega arith) refl (omega arith))
     go (no n) (yes e) rest =
-        let less : (i : ℕ) → length l ≤ suc i → length (drop 16 l) ≤ i = λ i m. rw length-drop (omega arith) in
+        let less : (i : ℕ) → length l ≤ suc i → length (drop packetBytes l) ≤ i = λ i m. rw length-drop (omega arith) in
         by-go past at l j e
         ∙ ap (more (packetAt l)) (rest (less j a) (less k b))
         ∙ sym (by-go past at l k e)
@@ -103,14 +104,14 @@ module _ (past : Past) (at : ℕ) (l : List ℕ) where
       ap (λ k. packetsBy k past at l) some ∙ by-stop past at l (length l - 1) n h e p
 
   pub packets-go : packetRefusal past l ≡ 0
-      → packetsIn past at l ≡ more (packetAt l) (packetsIn (nextOf past (packetAt l .time)) (at + 16) (drop 16 l))
+      → packetsIn past at l ≡ more (packetAt l) (packetsIn (nextOf past (packetAt l .time)) (at + packetBytes) (drop packetBytes l))
   packets-go e =
       let here = packet-here l (neither _ _ e .0) in
       let some : length l ≡ suc (length l - 1) = omega (arith, here .sixteen) in
       ap (λ k. packetsBy k past at l) some
       ∙ by-go past at l (length l - 1) e
       ∙ ap (more (packetAt l))
-      (by-same (length l - 1) (length (drop 16 l)) (nextOf past (packetAt l .time)) (at + 16) (drop 16 l)
+      (by-same (length l - 1) (length (drop packetBytes l)) (nextOf past (packetAt l .time)) (at + packetBytes) (drop packetBytes l)
       (rw length-drop (omega (arith, here .sixteen))) (omega arith))
 
   -- where nothing is refused up to the end, what is there is a packet's record, and it is accepted
@@ -135,8 +136,8 @@ module _ (s : List ℕ) where
   reading-stop n v e p = rw (v, e, ne-eqb n 0 (λ z. omega arith))
 
   pub reading-go : versionFits s ≡ true → parametersRefusal (drop 1 s) ≡ 0
-      → readingOf s ≡ read (parametersAt (drop 1 s)) (packetsIn nothing 19 (drop 19 s))
+      → readingOf s ≡ read (parametersAt (drop 1 s)) (packetsIn nothing headBytes (drop headBytes s))
   unfolding readingOf
   reading-go v e =
       let here = parameters-here (drop 1 s) (neither _ _ e .0) in
-      rw (v, eq-eqb (parametersRefusal (drop 1 s)) 0 e, here .body-16, drop-drop 18 1 s)
+      rw (v, eq-eqb (parametersRefusal (drop 1 s)) 0 e, here .body-16, drop-drop parametersBytes 1 s)

@@ -18,6 +18,7 @@ use Rattle.record.specs.declared.Head.{Head}
 use Rattle.record.specs.declared.Head.the-variants as head
 use Rattle.record.specs.declared.Next.{Next}
 use Rattle.record.specs.declared.Next.the-variants.{Packet, End, More, Refused}
+use Rattle.record.specs.Paper.{packetBytes, headBytes}
 use Rattle.record.specs.Paper.{versionFits, bodyLength, kindOf, isParameters, kindLength, parametersAt, formatRefusal}
 use Rattle.record.specs.Paper.{parametersRefusal, packetsIn, unread, read, readingOf}
 use Rattle.record.specs.Step.{cursor, after, packetOf, stepOver, framedOf, Whole, firstOf, headBy, headPiece, headRead}
@@ -32,7 +33,7 @@ use Rattle.record.proofs.Reading.{second, before, parameters-here, read
 -- what an answer says of the rest of the file: a packet whose format is not refused, nothing left, or the number of the format with
 -- the record's own offset, and how far behind it the next one begins, which is no further than the end
 abbrev pub Says : ℕ → List ℕ → Next → Type 0
-Says at l (Packet p c) = (formatRefusal false l ≡ 0) × (packetOf l (after at 16) ≡ Packet p c)
+Says at l (Packet p c) = (formatRefusal false l ≡ 0) × (packetOf l (after at packetBytes) ≡ Packet p c)
 Says at l End = length l ≡ 0
 Says at l More = ⊥
 Says at l (Refused n o size) = (0 < length l) × (formatRefusal false l ≡ n) × (0 < n) × (o ≡ at) × (size ≡ stepOver n l) × (size ≤ length l)
@@ -65,8 +66,8 @@ next-says at l = go (front l) (ℕ-discrete (length l) 0)
 pub record Stood (s : List ℕ) (version kind : ℕ) (parameters : Parameters) (c : Cursor) : Type 0 where
   pub version-1 : version ≡ 1
   pub kind-is-1 : kind ≡ 1
-  pub next-19 : c ≡ cursor 19
-  pub nineteen : 19 ≤ length s
+  pub next-19 : c ≡ cursor headBytes
+  pub nineteen : headBytes ≤ length s
   pub version-fits : versionFits s ≡ true
   pub format-fits : formatRefusal true (drop 1 s) ≡ 0
   pub parameters-are : parameters ≡ parametersAt (drop 1 s)
@@ -81,7 +82,7 @@ module _ (b : ℕ) (l : List ℕ) (v : eqb b 1 ≡ true) where
   stops : (n : ℕ) → formatRefusal true l ≡ n → 0 < n → readingOf (b ∷ l) ≡ unread n 1
   stops n e p = reading-stop (b ∷ l) n v (before _ _ (rw e p) ∙ e) p
 
-  stood : formatRefusal true l ≡ 0 → Stood (b ∷ l) b (kindOf l) (parametersAt l) (cursor 19)
+  stood : formatRefusal true l ≡ 0 → Stood (b ∷ l) b (kindOf l) (parametersAt l) (cursor headBytes)
   stood f =
       let here = parameters-here l f in
       record {
@@ -134,5 +135,5 @@ module _ {s : List ℕ} {version kind : ℕ} {parameters : Parameters} {c : Curs
   pub reads-refused : (n : ℕ) → setUpRefusal parameters ≡ n → 0 < n → readingOf s ≡ unread n 1
   reads-refused n e p = reading-stop s n (h .version-fits) (set-up-is ∙ e) p
 
-  pub reads-packets : setUpRefusal parameters ≡ 0 → readingOf s ≡ read parameters (packetsIn nothing 19 (drop 19 s))
+  pub reads-packets : setUpRefusal parameters ≡ 0 → readingOf s ≡ read parameters (packetsIn nothing headBytes (drop headBytes s))
   reads-packets e = reading-go s (h .version-fits) (set-up-is ∙ e) ∙ rw (h .parameters-are)

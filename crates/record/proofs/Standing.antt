@@ -9,26 +9,26 @@ use lib.Dec.{leb, eqb}
 use lib.ListN.{length}
 use borrow.Author.Tests.{eq-eqb, ne-eqb, le-leb, lt-leb, leb-true, eqb-true}
 use Rattle.laws.specs.Choose.{false-true}
-use Rattle.record.specs.Paper.{bodyLength, kindOf}
+use Rattle.record.specs.Paper.{packetLength, packetBytes, bodyLength, kindOf}
 use Rattle.record.specs.Step.{after, packetOf, wholeOf, nextBy, nextPiece, standsIn, Whole}
 use Rattle.record.proofs.Format.{packet-2, length-14, framed-whole}
 
 module _ (l : List ℕ) where
-  pub no-room : length l < 16 → false ≡ standsIn l
+  pub no-room : length l < packetBytes → false ≡ standsIn l
   unfolding standsIn
-  no-room h = sym (rw (lt-leb 16 (length l) h))
+  no-room h = sym (rw (lt-leb packetBytes (length l) h))
 
-  pub other-length : (bodyLength l ≡ 14 → ⊥) → false ≡ standsIn l
+  pub other-length : (bodyLength l ≡ packetLength → ⊥) → false ≡ standsIn l
   unfolding standsIn
-  other-length n = sym (rw (ne-eqb (bodyLength l) 14 n) (and-false (leb 16 (length l))))
+  other-length n = sym (rw (ne-eqb (bodyLength l) packetLength n) (and-false (leb packetBytes (length l))))
 
-  pub by-kind : 16 ≤ length l → bodyLength l ≡ 14 → eqb (kindOf l) 2 ≡ standsIn l
+  pub by-kind : packetBytes ≤ length l → bodyLength l ≡ packetLength → eqb (kindOf l) 2 ≡ standsIn l
   unfolding standsIn
-  by-kind h e = sym (rw (le-leb 16 (length l) h, eq-eqb (bodyLength l) 14 e))
+  by-kind h e = sym (rw (le-leb packetBytes (length l) h, eq-eqb (bodyLength l) packetLength e))
 
   pub record Stands : Type 0 where
-    pub sixteen : 16 ≤ length l
-    pub body : bodyLength l ≡ 14
+    pub sixteen : packetBytes ≤ length l
+    pub body : bodyLength l ≡ packetLength
     pub kind : kindOf l ≡ 2
 
   both : (a b : Bool) → a && b ≡ true → (a ≡ true) × (b ≡ true)
@@ -38,19 +38,19 @@ module _ (l : List ℕ) where
   pub stands : standsIn l ≡ true → Stands
   unfolding standsIn
   stands e =
-      let room = both (leb 16 (length l)) (eqb (bodyLength l) 14 && eqb (kindOf l) 2) e in
-      let rest = both (eqb (bodyLength l) 14) (eqb (kindOf l) 2) (room .1) in
+      let room = both (leb packetBytes (length l)) (eqb (bodyLength l) packetLength && eqb (kindOf l) 2) e in
+      let rest = both (eqb (bodyLength l) packetLength) (eqb (kindOf l) 2) (room .1) in
       record {
-        sixteen = leb-true 16 (length l) (room .0);
-        body = eqb-true (bodyLength l) 14 (rest .0);
+        sixteen = leb-true packetBytes (length l) (room .0);
+        body = eqb-true (bodyLength l) packetLength (rest .0);
         kind = eqb-true (kindOf l) 2 (rest .1);
       }
 
   -- the answer is the packet, whatever comes after it
-  pub stands-packet : (at : ℕ) (last : Bool) → Stands → packetOf l (after at 16) ≡ nextPiece at l last
+  pub stands-packet : (at : ℕ) (last : Bool) → Stands → packetOf l (after at packetBytes) ≡ nextPiece at l last
   unfolding nextPiece wholeOf
   stands-packet at last s =
-      let here : Whole 14 2 l = record {
+      let here : Whole packetLength 2 l = record {
         length-read = sym (s .body);
         kind-read = sym (s .kind);
         some-body = omega arith;

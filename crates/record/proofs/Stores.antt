@@ -15,6 +15,7 @@ use Rattle.packet.specs.Paper.{OneLength, lent, packetsFrom}
 use Rattle.packet.proofs.Lent.{packets-cons, packets-none}
 use Rattle.limits.specs.declared.Parameters.{Parameters}
 use Rattle.record.specs.Layout.{packetWith, packetRecord, headOf, recordsOf}
+use Rattle.record.specs.Paper.{parametersLength, packetLength, packetBytes}
 
 one-stored : (v : ℕ) (d : List ℕ) (at : ℕ) → sets d at (bytesOf 1 v) ≡ set d at v
 unfolding bytesOf
@@ -25,27 +26,28 @@ length-stored : (x : ℕ) → x < 256 → (d : List ℕ) (at : ℕ) → sets d a
 length-stored x h d at = sym (two-stored x d at) ∙ rw (div-eq-of-lt h, mod-eq-of-lt h)
 
 pub packet-stored : (t stamp marker : ℕ) (d : List ℕ) (at : ℕ)
-    → set (sets (sets (set (set (set d at 0) (at + 1) 14) (at + 2) 2) (at + 3) (bytesOf 8 t)) (at + 11) (bytesOf 4 stamp)) (at + 15) marker
+    → set (sets (sets (set (set (set d at 0) (at + 1) packetLength) (at + 2) 2) (at + 3) (bytesOf 8 t)) (at + 11) (bytesOf 4 stamp))
+    (at + 15) marker
     ≡ sets d at (packetRecord (packetWith t stamp marker))
 unfolding fieldBytes
-packet-stored t stamp marker d at = sym (simp (sets-join, length-bytes, one-stored, length-stored 14 (lit< tt), add-assoc))
+packet-stored t stamp marker d at = sym (simp (sets-join, length-bytes, one-stored, length-stored packetLength (lit< tt), add-assoc))
 
 pub head-stored : (s : Parameters) (d : List ℕ)
-    → sets (sets (sets (sets (set (set (set (set (set (set (set d 0 1) 1 0) 2 16) 3 1) 4 (s .rate)) 5 (s .schedule)) 6 (s .class))
+    → sets (sets (sets (sets (set (set (set (set (set (set (set d 0 1) 1 0) 2 parametersLength) 3 1) 4 (s .rate)) 5 (s .schedule)) 6 (s .class))
     7 (bytesOf 2 (s .height))) 9 (bytesOf 4 (s .n))) 13 (bytesOf 2 (s .maxudp))) 15 (bytesOf 4 (s .tro))
     ≡ sets d 0 (headOf s)
 unfolding fieldBytes
-head-stored s d = sym (simp (sets-join, length-bytes, one-stored, length-stored 16 (lit< tt)))
+head-stored s d = sym (simp (sets-join, length-bytes, one-stored, length-stored parametersLength (lit< tt)))
 
 -- the packets' records, one more at a time
 
-pub length-packet : (p : Packet) → length (packetRecord p) ≡ 16
+pub length-packet : (p : Packet) → length (packetRecord p) ≡ packetBytes
 unfolding fieldBytes
 length-packet p = simp (length-append, length-bytes)
 
 module _ {ts ss ms : List ℕ} (same : OneLength ts ss ms) (i : ℕ) (d : List ℕ) (at : ℕ) where
   pub records-go : i < length ts
-      → sets (sets d at (packetRecord (lent ts ss ms i))) (at + 16) (recordsOf (packetsFrom (i + 1) ts ss ms))
+      → sets (sets d at (packetRecord (lent ts ss ms i))) (at + packetBytes) (recordsOf (packetsFrom (i + 1) ts ss ms))
       ≡ sets d at (recordsOf (packetsFrom i ts ss ms))
   unfolding recordsOf
   records-go h =

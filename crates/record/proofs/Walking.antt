@@ -19,7 +19,7 @@ use Rattle.record.specs.declared.Next.{Next}
 use Rattle.record.proofs.Next.{the-type}
 use Rattle.record.specs.declared.Next.the-variants.{Packet, End, More, Refused}
 use Rattle.record.specs.declared.Checked.the-variants as answer
-use Rattle.record.specs.Paper.{packetAt, Ending, done, stopped, Packets, more, packetsIn}
+use Rattle.record.specs.Paper.{packetBytes, packetAt, Ending, done, stopped, Packets, more, packetsIn}
 use Rattle.record.specs.Step.{nextRead}
 use Rattle.record.specs.Walk.{fineWith, finishBy, finish, closing}
 use Rattle.record.proofs.Saying.{Says, next-says}
@@ -52,20 +52,20 @@ module _ (s : List ℕ) (at : ℕ) (fits : length s < 2 ^ 64) {p : packet.Packet
   here : Says at (drop at s) (Packet p next)
   here = subst (Says at (drop at s)) e (next-says at (drop at s))
 
-  pub next-within : at + 16 ≤ length s
+  pub next-within : at + packetBytes ≤ length s
   next-within = omega (arith, packet-here (drop at s) (here .0) .sixteen, length-drop at s)
 
-  pub next-at : next .at ≡ at + 16
+  pub next-at : next .at ≡ at + packetBytes
   next-at =
-      let m = mod-eq-of-lt {n = at + 16} {m = 2 ^ 64} (omega (arith, next-within)) in
+      let m = mod-eq-of-lt {n = at + packetBytes} {m = 2 ^ 64} (omega (arith, next-within)) in
       let w = here .1 in
       cc
 
   the-packet : packetAt (drop at s) ≡ p
   the-packet = let w = here .1 in cc
 
-  rest : drop 16 (drop at s) ≡ drop (next .at) s
-  rest = drop-drop 16 at s ∙ rw next-at
+  rest : drop packetBytes (drop at s) ≡ drop (next .at) s
+  rest = drop-drop packetBytes at s ∙ rw next-at
 
   module _ (numbers : Parameters) (y : Tally) where
     pub goes : numberOf (y .past) p ≡ 0
@@ -75,8 +75,9 @@ module _ (s : List ℕ) (at : ℕ) (fits : length s < 2 ^ 64) {p : packet.Packet
     goes f =
         let q = packetAt (drop at s) in
         ap (finish numbers y) (packets-go (y .past) at (drop at s) (second _ _ (here .0) ∙ ap (numberOf (y .past)) the-packet ∙ f))
-        ∙ finish-more numbers y q (packetsIn (nextOf (y .past) (q .time)) (at + 16) (drop 16 (drop at s)))
-        ∙ ap (λ (r : packet.Packet). finish numbers (tallied y r) (packetsIn (nextOf (y .past) (r .time)) (at + 16) (drop 16 (drop at s))))
+        ∙ finish-more numbers y q (packetsIn (nextOf (y .past) (q .time)) (at + packetBytes) (drop packetBytes (drop at s)))
+        ∙ ap (λ (r : packet.Packet). finish numbers (tallied y r)
+        (packetsIn (nextOf (y .past) (r .time)) (at + packetBytes) (drop packetBytes (drop at s))))
         the-packet
         ∙ rw (rest, next-at)
 

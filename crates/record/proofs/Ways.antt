@@ -13,7 +13,7 @@ use Rattle.record.specs.declared.Framed.{Framed}
 use Rattle.record.specs.declared.Framed.the-variants as framed
 use Rattle.record.specs.declared.Head.the-variants as head
 use Rattle.record.specs.declared.Next.the-variants as next
-use Rattle.record.specs.Paper.{bodyLength, isParameters, kindLength, parametersAt}
+use Rattle.record.specs.Paper.{packetBytes, headBytes, bodyLength, isParameters, kindLength, parametersAt}
 use Rattle.record.specs.Step.{cursor, after, packetOf, scrapOf, framedOf, Whole, firstOf, headBy, headPiece, wholeOf, nextBy, nextPiece}
 use Rattle.record.proofs.Format.{framed-short}
 
@@ -79,7 +79,7 @@ module _ (version body kind : ℕ) (l : List ℕ) where
   first-23 e p = rw (eq-eqb body (kindLength kind) e, p)
 
   pub first-ready : body ≡ kindLength kind → isParameters kind ≡ true
-      → firstOf version body kind l ≡ head.Ready version kind (parametersAt l) (cursor 19)
+      → firstOf version body kind l ≡ head.Ready version kind (parametersAt l) (cursor headBytes)
   unfolding firstOf
   first-ready e p = rw (eq-eqb body (kindLength kind) e, p)
 
@@ -92,7 +92,7 @@ module _ (at body kind : ℕ) (l : List ℕ) where
   unfolding wholeOf
   whole-23 e p = rw (eq-eqb body (kindLength kind) e, p)
 
-  pub whole-packet : body ≡ kindLength kind → isParameters kind ≡ false → wholeOf at body kind l ≡ packetOf l (after at 16)
+  pub whole-packet : body ≡ kindLength kind → isParameters kind ≡ false → wholeOf at body kind l ≡ packetOf l (after at packetBytes)
   unfolding wholeOf
   whole-packet e p = rw (eq-eqb body (kindLength kind) e, p)
 

@@ -18,7 +18,7 @@ use Rattle.record.specs.declared.Head.{Head}
 use Rattle.record.specs.declared.Head.the-variants as head
 use Rattle.record.specs.declared.Next.{Next}
 use Rattle.record.specs.declared.Next.the-variants.{Packet, End, More, Refused}
-use Rattle.record.specs.Paper.{bodyLength, isParameters, kindLength, parametersAt, packetAt}
+use Rattle.record.specs.Paper.{parametersBytes, packetBytes, headBytes, bodyLength, isParameters, kindLength, parametersAt, packetAt}
 use Rattle.record.specs.Step.{cursor, scrapOf, framedOf, Whole, firstOf, headBy, headPiece, headRead}
 use Rattle.record.specs.Step.{after, packetOf, wholeOf, nextBy, nextPiece, nextRead}
 use Rattle.record.specs.Pieces.{goesOn, taken, wantsMore, headWaits}
@@ -39,7 +39,7 @@ module _ (w v : List ℕ) where
   longer : length w ≤ length (w ++ v)
   longer = omega (arith, length-append w v)
 
-  parameters-front : 18 ≤ length w → parametersAt (w ++ v) ≡ parametersAt w
+  parameters-front : parametersBytes ≤ length w → parametersAt (w ++ v) ≡ parametersAt w
   parameters-front h =
       rw (
         byte-front 3 (omega arith),
@@ -51,7 +51,7 @@ module _ (w v : List ℕ) where
         number-front 4 14 (omega arith),
       )
 
-  packet-front : 16 ≤ length w → packetAt (w ++ v) ≡ packetAt w
+  packet-front : packetBytes ≤ length w → packetAt (w ++ v) ≡ packetAt w
   packet-front h = rw (number-front 8 3 (omega arith), number-front 4 11 (omega arith), byte-front 15 (omega arith))
 
   -- a length of 0, and a whole record
@@ -72,12 +72,12 @@ module _ (w v : List ℕ) where
     next-front at = go (eqb body (kindLength kind)) refl (isParameters kind) refl
       where
         r : Bool → Bool → List ℕ → Next
-        r t p l = pick t (pick p (Refused 23 at (2 + body)) (packetOf l (after at 16))) (Refused 22 at (2 + body))
+        r t p l = pick t (pick p (Refused 23 at (2 + body)) (packetOf l (after at packetBytes))) (Refused 22 at (2 + body))
 
         go : (t : Bool) → eqb body (kindLength kind) ≡ t → (p : Bool) → isParameters kind ≡ p → r t p (w ++ v) ≡ r t p w
         go true e true p = refl
         go true e false p =
-            ap (λ q. Packet q (after at 16))
+            ap (λ q. Packet q (after at packetBytes))
             (packet-front (omega (arith, packet-room a (eqb-true body (kindLength kind) e) p .inside)))
         go false e b p = refl
 
@@ -86,11 +86,11 @@ module _ (w v : List ℕ) where
     first-front version = go (eqb body (kindLength kind)) refl (isParameters kind) refl
       where
         r : Bool → Bool → List ℕ → Head
-        r t p l = pick t (pick p (head.Ready version kind (parametersAt l) (cursor 19)) (head.Refused 23 1)) (head.Refused 22 1)
+        r t p l = pick t (pick p (head.Ready version kind (parametersAt l) (cursor headBytes)) (head.Refused 23 1)) (head.Refused 22 1)
 
         go : (t : Bool) → eqb body (kindLength kind) ≡ t → (p : Bool) → isParameters kind ≡ p → r t p (w ++ v) ≡ r t p w
         go true e true p =
-            ap (λ x. head.Ready version kind x (cursor 19))
+            ap (λ x. head.Ready version kind x (cursor headBytes))
             (parameters-front (omega (arith, parameter-room a (eqb-true body (kindLength kind) e) p .inside)))
         go true e false p = refl
         go false e b p = refl

@@ -16,6 +16,7 @@ use Rattle.packet.proofs.Refusals.{accepted}
 use Rattle.packet.proofs.Turn.{scan-goes, ready-accepted, fine-ready}
 use Rattle.limits.specs.declared.Parameters.{Parameters}
 use Rattle.limits.specs.Paper.{setUpRefusal}
+use Rattle.record.specs.Paper.{parametersLength, packetLength, parametersBytes, packetBytes, headBytes}
 use Rattle.record.specs.Paper.{packetAt, formatRefusal, packetRefusal}
 use Rattle.record.specs.Paper.{done, Packets, more, packetsIn, read, readingOf}
 use Rattle.endian.specs.Fields.{Fit}
@@ -43,8 +44,8 @@ packet-format : (p : Packet) (rest : List ℕ) → Fit packetWidths (packetField
 packet-format p rest f =
     let l = packetRecord p ++ rest in
     let back = packet-back p rest f in
-    let long : length l ≡ 16 + length rest = length-append (packetRecord p) rest ∙ rw (length-packet p) in
-    let here : Whole 14 2 l = record {
+    let long : length l ≡ packetBytes + length rest = length-append (packetRecord p) rest ∙ rw (length-packet p) in
+    let here : Whole packetLength 2 l = record {
       length-read = sym (back .body-14);
       kind-read = sym (back .kind-2);
       some-body = omega arith;
@@ -65,10 +66,10 @@ packets-written (p ∷ ps) past begun closed n at held e =
     let fine : packetRefusal past l ≡ 0 =
     second _ _ (packet-format p (recordsOf ps) f) ∙ ap (numberOf past) (back .same) ∙ ok in
     let then =
-    packets-written ps (nextOf past (p .time)) (begun || marked p) (closed + closes begun p) n (at + 16) (held .2) go in
-    let rest : packetsIn (nextOf past (packetAt l .time)) (at + 16) (drop 16 l) ≡ every ps =
-    ap (λ q. packetsIn (nextOf past (q .time)) (at + 16) (drop 16 l)) (back .same)
-    ∙ ap (packetsIn (nextOf past (p .time)) (at + 16)) (drop-at (packetRecord p) (recordsOf ps) 16 (length-packet p))
+    packets-written ps (nextOf past (p .time)) (begun || marked p) (closed + closes begun p) n (at + packetBytes) (held .2) go in
+    let rest : packetsIn (nextOf past (packetAt l .time)) (at + packetBytes) (drop packetBytes l) ≡ every ps =
+    ap (λ q. packetsIn (nextOf past (q .time)) (at + packetBytes) (drop packetBytes l)) (back .same)
+    ∙ ap (packetsIn (nextOf past (p .time)) (at + packetBytes)) (drop-at (packetRecord p) (recordsOf ps) packetBytes (length-packet p))
     ∙ then in
     packets-go past at l fine ∙ ap (more (packetAt l)) rest ∙ ap (λ q. more q (every ps)) (back .same)
 
@@ -79,9 +80,9 @@ unfolding bytesIn
 file-written s ps n hs hp e f =
     let l = parameterRecord s ++ recordsOf ps in
     let back = parameters-back s (recordsOf ps) hs in
-    let long : length (parameterRecord s) ≡ 18 = omega (arith, length-head s) in
-    let size : length l ≡ 18 + length (recordsOf ps) = length-append (parameterRecord s) (recordsOf ps) ∙ rw long in
-    let here : Whole 16 1 l = record {
+    let long : length (parameterRecord s) ≡ parametersBytes = omega (arith, length-head s) in
+    let size : length l ≡ parametersBytes + length (recordsOf ps) = length-append (parameterRecord s) (recordsOf ps) ∙ rw long in
+    let here : Whole parametersLength 1 l = record {
       length-read = sym (back .body-16);
       kind-read = sym (back .kind-1);
       some-body = omega arith;
@@ -89,4 +90,4 @@ file-written s ps n hs hp e f =
     } in
     let format : formatRefusal true l ≡ 0 = there true l here ∙ rw (length-16 1 parameters-1, parameters-1) in
     reading-go (1 ∷ l) refl (second _ _ format ∙ ap setUpRefusal (back .same) ∙ e)
-    ∙ rw (back .same, drop-at (parameterRecord s) (recordsOf ps) 18 long, packets-written ps nothing false 0 n 19 hp f)
+    ∙ rw (back .same, drop-at (parameterRecord s) (recordsOf ps) parametersBytes long, packets-written ps nothing false 0 n headBytes hp f)

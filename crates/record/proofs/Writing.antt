@@ -30,12 +30,13 @@ use Rattle.limits.specs.Paper.{setUpRefusal}
 use Rattle.record.specs.Layout.{packetRecord, headOf, recordsOf, bytesIn, PacketsHeld}
 use Rattle.record.specs.Write.{fileLength, scanning, writtenOf, Writes}
 use Rattle.record.proofs.Stores.{length-packet}
+use Rattle.record.specs.Paper.{packetBytes, headBytes}
 
-pub length-head : (s : Parameters) → length (headOf s) ≡ 19
+pub length-head : (s : Parameters) → length (headOf s) ≡ headBytes
 unfolding fieldBytes
 length-head s = simp (length-append, length-bytes)
 
-pub length-records : (ps : List Packet) → length (recordsOf ps) ≡ 16 * length ps
+pub length-records : (ps : List Packet) → length (recordsOf ps) ≡ packetBytes * length ps
 unfolding recordsOf
 length-records [] = refl
 length-records (p ∷ ps) =
@@ -45,13 +46,13 @@ pub length-file : (s : Parameters) (ps : List Packet) → length (bytesIn s ps) 
 unfolding bytesIn
 length-file s ps = rw (length-append (headOf s) (recordsOf ps), length-head s, length-records ps)
 
-one-run : (s : Parameters) (ps : List Packet) (d : List ℕ) → sets (sets d 0 (headOf s)) 19 (recordsOf ps) ≡ sets d 0 (bytesIn s ps)
+one-run : (s : Parameters) (ps : List Packet) (d : List ℕ) → sets (sets d 0 (headOf s)) headBytes (recordsOf ps) ≡ sets d 0 (bytesIn s ps)
 unfolding bytesIn
 one-run s ps d = sym (sets-join (headOf s) (recordsOf ps) d 0 ∙ rw (length-head s))
 
 -- the head stored, and the records after it, are the file stored: it stands in front of what was there
 pub file-stored : (s : Parameters) (ps : List Packet) (d : List ℕ) → fileLength (length ps) ≤ length d
-    → sets (sets d 0 (headOf s)) 19 (recordsOf ps) ≡ bytesIn s ps ++ drop (fileLength (length ps)) d
+    → sets (sets d 0 (headOf s)) headBytes (recordsOf ps) ≡ bytesIn s ps ++ drop (fileLength (length ps)) d
 file-stored s ps d h =
     one-run s ps d ∙ sets-eq (bytesIn s ps) d 0 (omega (arith, length-file s ps)) ∙ rw (zero-add (length (bytesIn s ps)), length-file s ps)
 
@@ -134,7 +135,7 @@ leaves-all s ts ss ms out e f = record { answered = e; left = rw f refl }
 
 pub writes-file : (s : Parameters) (ts ss ms out : List ℕ) {after : List ℕ} {n : ℕ} → WasWritten s ts ss ms (length out) n
     → Done n ≡ writtenOf s ts ss ms (length out)
-    → after ≡ sets (sets out 0 (headOf s)) 19 (recordsOf (packets ts ss ms)) → Writes s ts ss ms out (Done n) after
+    → after ≡ sets (sets out 0 (headOf s)) headBytes (recordsOf (packets ts ss ms)) → Writes s ts ss ms out (Done n) after
 writes-file s ts ss ms out w e g =
     let many = as-many ts ss ms (w .scan-fine) in
     record {

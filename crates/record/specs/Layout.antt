@@ -5,20 +5,21 @@ use Rattle.endian.specs.declared.Order.the-variants.{Big}
 use Rattle.endian.specs.Fields.{fieldBytes}
 use Rattle.packet.specs.declared.Packet.{Packet}
 use Rattle.limits.specs.declared.Parameters.{Parameters}
+use Rattle.record.specs.Paper.{parametersLength, packetLength}
 
 -- "length (two bytes, big-endian, of the body), body. Kind 1, 16 bytes: kind, rate, schedule, class, height (2), n (4), MAXUDP (2), TRO (4"
 abbrev pub parameterWidths : List ℕ
 parameterWidths = 2 ∷ 1 ∷ 1 ∷ 1 ∷ 1 ∷ 2 ∷ 4 ∷ 2 ∷ 4 ∷ []
 
 abbrev pub parameterFields : Parameters → List ℕ
-parameterFields s = 16 ∷ 1 ∷ s .rate ∷ s .schedule ∷ s .class ∷ s .height ∷ s .n ∷ s .maxudp ∷ s .tro ∷ []
+parameterFields s = parametersLength ∷ 1 ∷ s .rate ∷ s .schedule ∷ s .class ∷ s .height ∷ s .n ∷ s .maxudp ∷ s .tro ∷ []
 
 -- "Kind 2, 14 bytes: kind, arrival (8), timestamp (4), marker."
 abbrev pub packetWidths : List ℕ
 packetWidths = 2 ∷ 1 ∷ 8 ∷ 4 ∷ 1 ∷ []
 
 abbrev pub packetFields : Packet → List ℕ
-packetFields p = 14 ∷ 2 ∷ p .time ∷ p .stamp ∷ p .marker ∷ []
+packetFields p = packetLength ∷ 2 ∷ p .time ∷ p .stamp ∷ p .marker ∷ []
 
 abbrev pub packetWith : ℕ → ℕ → ℕ → Packet
 packetWith t stamp marker = record { time = t; stamp = stamp; marker = marker }

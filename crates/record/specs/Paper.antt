@@ -24,6 +24,24 @@ bodyLength l = numberAt 2 l 0
 abbrev pub kindOf : List ℕ → ℕ
 kindOf l = getD l 2 0
 
+-- "Kind 1, 16 bytes": the length of its body, and the bytes of the whole record
+abbrev pub parametersLength : ℕ
+parametersLength = 16
+
+abbrev pub parametersBytes : ℕ
+parametersBytes = 2 + parametersLength
+
+-- "Kind 2, 14 bytes"
+abbrev pub packetLength : ℕ
+packetLength = 14
+
+abbrev pub packetBytes : ℕ
+packetBytes = 2 + packetLength
+
+-- the head of a file, before its packets: the version byte and the record of the parameters
+abbrev pub headBytes : ℕ
+headBytes = 1 + parametersBytes
+
 -- "Kind 1, 16 bytes: kind, rate, schedule, class, height (2), n (4), MAXUDP (2), TRO (4; all ones is default)."
 -- "Records keep class 0 and a default TRO as written."
 abbrev pub parametersAt : List ℕ → Parameters
@@ -47,7 +65,7 @@ isParameters kind = eqb kind 1
 
 -- the length of each kind's body; 0, which no record has, for an unknown kind
 unfoldable pub kindLength : ℕ → ℕ
-kindLength kind = pick (isParameters kind) 16 (pick (eqb kind 2) 14 0)
+kindLength kind = pick (isParameters kind) parametersLength (pick (eqb kind 2) packetLength 0)
 
 -- "A lone version byte is 23 at offset 1."
 abbrev pub lone : Bool → List ℕ → Bool

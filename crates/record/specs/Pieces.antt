@@ -15,7 +15,7 @@ use Rattle.record.specs.declared.Head.{Head}
 use Rattle.record.specs.declared.Head.the-variants as head
 use Rattle.record.specs.declared.Next.{Next}
 use Rattle.record.specs.declared.Next.the-variants.{Packet, End, More, Refused}
-use Rattle.record.specs.Paper.{Ending, done, stopped, Reading, unread, read}
+use Rattle.record.specs.Paper.{packetBytes, headBytes, Ending, done, stopped, Reading, unread, read}
 use Rattle.record.specs.Step.{cursor, headPiece, headRead, nextPiece, nextRead}
 
 -- whether reading goes on after an answer, at what offset, and how many bytes it took
@@ -32,7 +32,7 @@ nextAt More = 0
 nextAt (Refused number offset size) = 0
 
 abbrev pub taken : Next → ℕ
-taken (Packet p c) = 16
+taken (Packet p c) = packetBytes
 taken End = 0
 taken More = 0
 taken (Refused number offset size) = 0
@@ -96,7 +96,7 @@ answers (suc k) at l =
     nextRead at l ∷ pick (goesOn (nextRead at l)) (answers k (nextAt (nextRead at l)) (drop (taken (nextRead at l)) l)) []
 
 abbrev pub allAnswers : ℕ → List ℕ → Heard
-allAnswers k s = heard (headRead s) (λ at. answers k at (drop 19 s))
+allAnswers k s = heard (headRead s) (λ at. answers k at (drop headBytes s))
 
 -- the same of a file in pieces: the bytes held, and the pieces still to come; by at most so many steps
 unfoldable pub inPieces : ℕ → ℕ → List ℕ → List (List ℕ) → List Next
@@ -112,28 +112,28 @@ inPieces (suc k) at held (p ∷ pieces) =
     ∷ pick (goesOn (nextPiece at held false))
     (inPieces k (nextAt (nextPiece at held false)) (drop (taken (nextPiece at held false)) held) (p ∷ pieces)) [])
 
--- from the first byte on: the head has 19 bytes
+-- from the first byte on
 unfoldable pub allInPieces : ℕ → List ℕ → List (List ℕ) → Heard
-allInPieces k held [] = heard (headPiece held true) (λ at. inPieces k at (drop 19 held) [])
+allInPieces k held [] = heard (headPiece held true) (λ at. inPieces k at (drop headBytes held) [])
 allInPieces k held (p ∷ pieces) =
     pick (headWaits (headPiece held false))
     (allInPieces k (held ++ p) pieces)
-    (heard (headPiece held false) (λ at. inPieces k at (drop 19 held) (p ∷ pieces)))
+    (heard (headPiece held false) (λ at. inPieces k at (drop headBytes held) (p ∷ pieces)))
 
 -- ---- the records that the reader gives, call after call, and what the file reads as
 
 -- packets from an offset on, one after the other
 unfoldable pub toldPackets : ℕ → List packet.Packet → List Next
 toldPackets at [] = []
-toldPackets at (p ∷ ps) = Packet p (cursor (at + 16)) ∷ toldPackets (at + 16) ps
+toldPackets at (p ∷ ps) = Packet p (cursor (at + packetBytes)) ∷ toldPackets (at + packetBytes) ps
 
 -- version 1 and kind 1 with the parameters
 abbrev pub toldHead : Parameters → Head
-toldHead parameters = head.Ready 1 1 parameters (cursor 19)
+toldHead parameters = head.Ready 1 1 parameters (cursor headBytes)
 
 -- the head, each packet in order, the end
 abbrev pub told : Parameters → List packet.Packet → Heard
-told parameters ps = record { head = toldHead parameters; after = toldPackets 19 ps ++ (End ∷ []) }
+told parameters ps = record { head = toldHead parameters; after = toldPackets headBytes ps ++ (End ∷ []) }
 
 -- a head is refused with this number and offset: by the reader itself, or by set-up, which refuses the parameters at offset 1
 abbrev pub HeadRefused : ℕ → ℕ → Head → Type 0
@@ -161,9 +161,9 @@ Then front P l = (r : Next) × (more : List Next) × (l ≡ front ++ (r ∷ more
 abbrev pub AnsweredBy : Past → ℕ → List packet.Packet → Ending → List Next → Type 0
 AnsweredBy past at ps done l = l ≡ toldPackets at ps ++ (End ∷ [])
 AnsweredBy past at ps (stopped number offset) l =
-    Then (toldPackets at ps) (StopsAt (pastAfter past ps) (at + 16 * length ps) number offset) l
+    Then (toldPackets at ps) (StopsAt (pastAfter past ps) (at + packetBytes * length ps) number offset) l
 
 -- the answers of a file are its records: all of them and the end, or those up to the refusal, with its number and offset
 abbrev pub Answered : Reading → Heard → Type 0
 Answered (unread number offset) y = HeadRefused number offset (y .head)
-Answered (read parameters r) y = (y .head ≡ toldHead parameters) × AnsweredBy nothing 19 (r .accepted) (r .ending) (y .after)
+Answered (read parameters r) y = (y .head ≡ toldHead parameters) × AnsweredBy nothing headBytes (r .accepted) (r .ending) (y .after)

@@ -14,6 +14,7 @@ use Rattle.record.specs.declared.Head.{Head}
 use Rattle.record.specs.declared.Head.the-variants as head
 use Rattle.record.specs.declared.Next.{Next}
 use Rattle.record.specs.declared.Next.the-variants as next
+use Rattle.record.specs.Paper.{packetLength, packetBytes, headBytes}
 use Rattle.record.specs.Paper.{versionFits, bodyLength, kindOf, parametersAt, packetAt, isParameters, kindLength}
 
 -- ---- framing: what stands in front of a window, after which more may come unless it is the last
@@ -45,7 +46,7 @@ cursor at = record { at = at }
 unfoldable pub firstOf : ℕ → ℕ → ℕ → List ℕ → Head
 firstOf version body kind l =
     pick (eqb body (kindLength kind))
-    (pick (isParameters kind) (head.Ready version kind (parametersAt l) (cursor 19)) (head.Refused 23 1))
+    (pick (isParameters kind) (head.Ready version kind (parametersAt l) (cursor headBytes)) (head.Refused 23 1))
     (head.Refused 22 1)
 
 abbrev pub headBy : ℕ → List ℕ → Framed → Head
@@ -80,7 +81,7 @@ stepOver number l = pick (eqb number 21) 0 (2 + bodyLength l)
 unfoldable pub wholeOf : ℕ → ℕ → ℕ → List ℕ → Next
 wholeOf at body kind l =
     pick (eqb body (kindLength kind))
-    (pick (isParameters kind) (next.Refused 23 at (2 + body)) (packetOf l (after at 16)))
+    (pick (isParameters kind) (next.Refused 23 at (2 + body)) (packetOf l (after at packetBytes)))
     (next.Refused 22 at (2 + body))
 
 abbrev pub nextBy : ℕ → List ℕ → Framed → Next
@@ -98,4 +99,4 @@ nextRead at l = nextPiece at l true
 
 -- a whole packet's record stands in front
 unfoldable pub standsIn : List ℕ → Bool
-standsIn l = leb 16 (length l) && (eqb (bodyLength l) 14 && eqb (kindOf l) 2)
+standsIn l = leb packetBytes (length l) && (eqb (bodyLength l) packetLength && eqb (kindOf l) 2)

@@ -15,10 +15,11 @@ use Rattle.record.specs.declared.Written.{Written}
 use Rattle.record.specs.declared.Written.the-variants.{Done, Refused}
 use Rattle.limits.specs.Paper.{setUpRefusal}
 use Rattle.record.specs.Layout.{bytesIn}
+use Rattle.record.specs.Paper.{packetBytes, headBytes}
 
--- the bytes of a file of so many packets: the version, 18 for the parameters, 16 for a packet
+-- the bytes of a file of so many packets
 abbrev pub fileLength : ℕ → ℕ
-fileLength packets = 19 + 16 * packets
+fileLength packets = headBytes + packetBytes * packets
 
 -- "24 the writer's lent bytes are fewer than the file needs", with place 0
 abbrev pub fitting : ℕ → ℕ → Written

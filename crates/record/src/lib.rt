@@ -21,6 +21,7 @@ ghost use Rattle.endian.specs.Number.{Room};
 ghost use Rattle.record.specs.declared.Head.the-variants.{Refused};
 ghost use Rattle.packet.specs.Paper.{packets};
 ghost use Rattle.packet.specs.Step.{nothing, noPackets};
+ghost use Rattle.record.specs.Paper.{parametersBytes, packetBytes, headBytes};
 ghost use Rattle.record.specs.Paper.{parametersAt, packetAt, isParameters, kindLength, packetsIn};
 ghost use Rattle.record.specs.Step.{scrapOf, framedOf, Whole, firstOf, headBy, headPiece, after, packetOf, wholeOf, nextPiece, standsIn};
 ghost use Rattle.record.specs.Layout.{packetWith, packetRecord, headOf, recordsOf};
@@ -90,6 +91,17 @@ const PARAMETERS: u8 = 1;
 
 const PACKET: u8 = 2;
 
+// The lengths of the bodies.
+const PARAMETERS_LENGTH: u8 = 16;
+
+const PACKET_LENGTH: u8 = 14;
+
+// The bytes of a packet's record, its length among them: `packetBytes`.
+pub const PACKET_BYTES: usize = 2 + PACKET_LENGTH as usize;
+
+// The bytes of a file's head, its version byte and its parameters: `headBytes`.
+pub const HEAD_BYTES: usize = 1 + (2 + PARAMETERS_LENGTH as usize);
+
 // The one place that tells which kinds hold the parameters.
 fn is_parameters(kind: u8) -> bool
     ensures { λ r. ⌜ r ≡ isParameters kind ⌝ }
@@ -102,10 +114,10 @@ fn kind_length(kind: u8) -> u16
     ensures { λ r. ⌜ r ≡ kindLength kind ⌝ }
 {
     if is_parameters(kind) {
-        return 16;
+        return PARAMETERS_LENGTH as u16;
     }
     if kind == PACKET {
-        return 14;
+        return PACKET_LENGTH as u16;
     }
     0
 }
@@ -114,7 +126,7 @@ fn kind_length(kind: u8) -> u16
 //  | length | kind | rate | schedule | class | height | n   | MAXUDP | TRO |
 //  | 0   16 | 1    |      |          |       |        |     |        |     |
 fn parameters_of(s: &[u8]) -> Parameters
-    requires { ⌜ Room 18 (now s) 0 ⌝ }
+    requires { ⌜ Room parametersBytes (now s) 0 ⌝ }
     ensures { λ r. ⌜ r ≡ parametersAt (now (s .entry)) ⌝ }
 {
     Parameters {
@@ -132,7 +144,7 @@ fn parameters_of(s: &[u8]) -> Parameters
 //  | length | kind | arrival | timestamp | marker |
 //  | 0   14 | 2    |         |           |        |
 pub fn packet_at(s: &[u8]) -> Packet
-    requires { ⌜ Room 16 (now s) 0 ⌝ }
+    requires { ⌜ Room packetBytes (now s) 0 ⌝ }
     ensures { λ r. ⌜ r ≡ packetAt (now (s .entry)) ⌝ }
 {
     Packet {
@@ -143,7 +155,7 @@ pub fn packet_at(s: &[u8]) -> Packet
 }
 
 fn packet_of(s: &[u8], next: Cursor) -> Next
-    requires { ⌜ Room 16 (now s) 0 ⌝ }
+    requires { ⌜ Room packetBytes (now s) 0 ⌝ }
     ensures { λ r. ⌜ r ≡ packetOf (now (s .entry)) next ⌝ }
 {
     Next::Packet {
@@ -156,7 +168,7 @@ fn packet_of(s: &[u8], next: Cursor) -> Next
 fn packet_stands(window: &[u8]) -> bool
     ensures { λ r. ⌜ r ≡ standsIn (now (window .entry)) ⌝ }
 {
-    if window.len() < 16 {
+    if window.len() < PACKET_BYTES {
         return false;
     }
     if read16(window, 0) != kind_length(PACKET) {
@@ -167,10 +179,10 @@ fn packet_stands(window: &[u8]) -> bool
 
 // Behind a packet's record. An offset past 2^64 would wrap; no file is that long.
 fn after_packet(at: u64) -> Cursor
-    ensures { λ r. ⌜ r ≡ after at 16 ⌝ }
+    ensures { λ r. ⌜ r ≡ after at packetBytes ⌝ }
 {
     Cursor {
-        at: std::num::wrapping_add_u64(at, 16),
+        at: std::num::wrapping_add_u64(at, PACKET_BYTES as u64),
     }
 }
 
@@ -234,7 +246,9 @@ fn first_record(version: u8, body: u16, kind: u8, s: &[u8]) -> Head
         version: version,
         kind: kind,
         parameters: parameters_of(s),
-        next: Cursor { at: 19 },
+        next: Cursor {
+            at: HEAD_BYTES as u64,
+        },
     }
 }
 
@@ -442,7 +456,7 @@ pub fn would_write(
     let scanned = Past::none().scan(false, arrivals, stamps, markers);
     match scanned {
         Scanned::Fine(_) => {
-            let needed = 19 + 16 * arrivals.len();
+            let needed = HEAD_BYTES + PACKET_BYTES * arrivals.len();
             if room < needed {
                 return Written::Refused {
                     number: 24,
@@ -480,12 +494,12 @@ pub fn write(
 
 // The version byte and the parameters.
 fn write_parameters(numbers: Parameters, out: &mut [u8])
-    requires { ⌜ Room 19 (now out) 0 ⌝ }
+    requires { ⌜ Room headBytes (now out) 0 ⌝ }
     ensures { λ _. ⌜ now (out .exit) ≡ sets (now (out .entry)) 0 (headOf numbers) ⌝ }
 {
     out[0] = VERSION;
     out[1] = 0;
-    out[2] = 16;
+    out[2] = PARAMETERS_LENGTH;
     out[3] = PARAMETERS;
     out[4] = numbers.rate;
     out[5] = numbers.schedule;
@@ -498,11 +512,11 @@ fn write_parameters(numbers: Parameters, out: &mut [u8])
 
 // One packet's record at an offset.
 fn write_packet(t: u64, stamp: u32, marker: u8, out: &mut [u8], at: usize)
-    requires { ⌜ Room 16 (now out) at ⌝ }
+    requires { ⌜ Room packetBytes (now out) at ⌝ }
     ensures { λ _. ⌜ now (out .exit) ≡ sets (now (out .entry)) at (packetRecord (packetWith t stamp marker)) ⌝ }
 {
     out[at] = 0;
-    out[at + 1] = 14;
+    out[at + 1] = PACKET_LENGTH;
     out[at + 2] = PACKET;
     write64(out, at + 3, t);
     write32(out, at + 11, stamp);
@@ -513,13 +527,13 @@ fn write_packet(t: u64, stamp: u32, marker: u8, out: &mut [u8], at: usize)
 fn write_packets(arrivals: &[u64], stamps: &[u32], markers: &[u8], out: &mut [u8])
     requires { ⌜ Fitting (now arrivals) (now stamps) (now markers) (now out) ⌝ }
     ensures { λ _. ⌜ now (out .exit)
-        ≡ sets (now (out .entry)) 19 (recordsOf (packets (now (arrivals .entry)) (now (stamps .entry)) (now (markers .entry)))) ⌝ }
+        ≡ sets (now (out .entry)) headBytes (recordsOf (packets (now (arrivals .entry)) (now (stamps .entry)) (now (markers .entry)))) ⌝ }
 {
     let mut i = 0;
-    let mut at = 19;
+    let mut at = HEAD_BYTES;
     while i < arrivals.len() {
         write_packet(arrivals[i], stamps[i], markers[i], out, at);
-        at += 16;
+        at += PACKET_BYTES;
         i += 1;
     }
 }

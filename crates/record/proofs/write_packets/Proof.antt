@@ -10,11 +10,12 @@ use Rattle.record.specs.Layout.{recordsOf}
 use Rattle.record.proofs.Stores.{records-go, records-end}
 use Rattle.record.proofs.write_packets.Statement.{statement}
 use Rattle.record.proofs.write_packets.Tie as tie
+use Rattle.record.specs.Paper.{packetBytes, headBytes}
 
 abbrev Inv-loop : tie.InvT-loop
 Inv-loop arrivals stamps markers out₀ i₀ at₀ out i at =
-    (sets out at (recordsOf (packetsFrom i arrivals stamps markers)) ≡ sets out₀ 19 (recordsOf (packets arrivals stamps markers)))
-    × (at ≡ 19 + 16 * i) × (i ≤ length arrivals) × (length out ≡ length out₀)
+    (sets out at (recordsOf (packetsFrom i arrivals stamps markers)) ≡ sets out₀ headBytes (recordsOf (packets arrivals stamps markers)))
+    × (at ≡ headBytes + packetBytes * i) × (i ≤ length arrivals) × (length out ≡ length out₀)
 
 abbrev μ-loop : tie.MeasureT-loop
 μ-loop arrivals stamps markers out₀ i₀ at₀ out i at = length arrivals - i
