@@ -9,7 +9,7 @@ use native.Mathlib.Numerals.{add-one}
 use lib.Dec.{eqb·suc-zero}
 use borrow.Author.Tests.{ltb-true, ltb-false, lt-ltb, le-ltb}
 use Rattle.laws.specs.Count.{count-same}
-use Rattle.grain.specs.Paper.{frameTime, phase, readBefore, readsBefore}
+use Rattle.grain.specs.Paper.{grains, frameTime, phase, readBefore, readsBefore}
 use Rattle.grain.proofs.Rounding.{phase-from}
 use Rattle.frame.specs.declared.Plan.{Plan}
 use Rattle.frame.specs.Step.{openedOf, countedOf, pushOf}
@@ -40,10 +40,10 @@ reads-shift n base num den x base′ x′ s s′ e f =
 
 -- so the code's reads, from one period before the frame's start on, are the paper's
 pub reads-are : (plan : Plan) (time stamp : ℕ → ℕ) (j : ℕ) → 0 < plan .period → time 0 ≤ time j
-    → readsFrom plan time stamp j ≡ readsBefore (plan .packets) (frameTime (27 * time 0) (plan .period) + plan .tro) (plan .reads .num)
-    (plan .reads .den) (27 * time j)
+    → readsFrom plan time stamp j ≡ readsBefore (plan .packets) (frameTime (grains (time 0)) (plan .period) + plan .tro) (plan .reads .num)
+    (plan .reads .den) (grains (time j))
 reads-are plan time stamp j p l =
     reads-shift (plan .packets) (plan .tro + plan .period) (plan .reads .num) (plan .reads .den)
-    (27 * (time j - time 0) + phase (27 * time 0) (plan .period))
-    (frameTime (27 * time 0) (plan .period) + plan .tro) (27 * time j) (frameTime (27 * time 0) (plan .period)) (plan .period)
-    (omega arith) (omega (arith, phase-from (27 * time 0) (plan .period) p))
+    (grains (time j - time 0) + phase (grains (time 0)) (plan .period))
+    (frameTime (grains (time 0)) (plan .period) + plan .tro) (grains (time j)) (frameTime (grains (time 0)) (plan .period)) (plan .period)
+    (omega arith) (omega (arith, phase-from (grains (time 0)) (plan .period) p))

@@ -7,7 +7,7 @@ use native.Mathlib.Nat.{mul-le-mul}
 use lib.Dec.{eqb}
 use borrow.Author.Tests.{eqb-false}
 use Rattle.laws.specs.Choose.{pick}
-use Rattle.grain.specs.Paper.{phase}
+use Rattle.grain.specs.Paper.{grains, phase}
 use Rattle.grain.proofs.Rounding.{phase-small}
 use Rattle.grain.proofs.Extremes.{reads-fit}
 use Rattle.frame.specs.declared.Plan.{Plan}
@@ -30,7 +30,7 @@ timed plan f t stamp p h = go (eqb (f .held) 0) refl
       held = f .held;
       first = pick z t (f .first);
       stamp = pick z stamp (f .stamp);
-      phase = pick z (phase (27 * t) (plan .period)) (f .phase);
+      phase = pick z (phase (grains t) (plan .period)) (f .phase);
       differs = f .differs;
       reads = f .reads;
       top = f .top;
@@ -41,7 +41,7 @@ timed plan f t stamp p h = go (eqb (f .held) 0) refl
       few = h .few;
       order = omega arith;
       near = omega arith;
-      phased = omega (arith, p .long, phase-small (27 * t) (plan .period) (omega (arith, p .long)));
+      phased = omega (arith, p .long, phase-small (grains t) (plan .period) (omega (arith, p .long)));
       read = h .read;
     }
     go false e =
@@ -60,7 +60,7 @@ module _ {plan : Plan} {f g : Frame} {t : ℕ} (stamp : ℕ) (e : g ≡ openedOf
   opened-timed = subst (λ (x : Frame). Timed plan x t) (sym e) (timed plan f t stamp p h)
 
   -- the time since the frame's first packet, with the phase
-  pub time-fits : 27 * (t - g .first) + g .phase ≤ 16204294967296
+  pub time-fits : grains (t - g .first) + g .phase ≤ 16204294967296
   time-fits = omega (arith, opened-timed .near, opened-timed .phased, p .short)
 
   pub guess-fits : g .reads * plan .reads .num < 18446744073709551616
@@ -69,7 +69,7 @@ module _ {plan : Plan} {f g : Frame} {t : ℕ} (stamp : ℕ) (e : g ≡ openedOf
       let m : plan .reads .num ≤ 51539607552 = omega (arith, p .near, p .short) in
       omega (arith, mul-le-mul n m)
 
-  pub reach-fits : (base : ℕ) → (27 * (t - g .first) + g .phase - base) * plan .reads .den + plan .reads .num < 18446744073709551616
+  pub reach-fits : (base : ℕ) → (grains (t - g .first) + g .phase - base) * plan .reads .den + plan .reads .num < 18446744073709551616
   reach-fits base =
-      reads-fit (27 * (t - g .first) + g .phase - base) (plan .reads .den) (plan .reads .num) (omega (arith, time-fits)) (p .divided)
+      reads-fit (grains (t - g .first) + g .phase - base) (plan .reads .den) (plan .reads .num) (omega (arith, time-fits)) (p .divided)
       (omega (arith, p .near, p .short))

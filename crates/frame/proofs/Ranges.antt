@@ -9,7 +9,7 @@ use borrow.Author.Tests.{eqb-false}
 use Rattle.laws.specs.Choose.{pick, pick-either, false-true}
 use Rattle.laws.specs.Count.{count-le}
 use Rattle.laws.specs.Every.{every, All, facts, of-facts, _and_}
-use Rattle.grain.specs.Paper.{readBefore}
+use Rattle.grain.specs.Paper.{grains, readBefore}
 use Rattle.frame.specs.declared.Plan.{Plan}
 use Rattle.frame.specs.declared.Frame.{Frame}
 use Rattle.frame.specs.declared.Frames.{Frames}
@@ -105,7 +105,7 @@ module _ (plan : Plan) (s : Frames) (first last packets t : ℕ) (p : Planned pl
       → o .late ≡ s .current .late → s .marked ≤ o .first → Timed plan o t → Pushed (countedOf o stamp (readsOf plan o t))
   unfolding countedOf
   counted o stamp eh ed et ef el from z =
-      let few = count-le (readBefore (plan .tro + plan .period) (plan .reads .num) (plan .reads .den) (27 * (t - o .first) + o .phase)) (plan .packets) in
+      let few = count-le (readBefore (plan .tro + plan .period) (plan .reads .num) (plan .reads .den) (grains (t - o .first) + o .phase)) (plan .packets) in
       record {
         held = omega arith;
         first-from = from;

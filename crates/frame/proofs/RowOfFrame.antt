@@ -147,12 +147,12 @@ module _ (plan : Plan) (h : History) (ordered : Climbs (h .time) (h .packets)) (
     fpt-is : subℕ ((closedAt plan h i) .phase) (plan .period) ≡ firstPacketTime (arrival plan h (since h i) 0) (plan .period)
     fpt-is = rw phase-is (phase-less (arrival plan h (since h i) 0) (plan .period) (omega (arith, p .long)))
 
-    latency-is : latency (27 * (closedAt plan h i) .first) ((closedAt plan h i) .stamp)
+    latency-is : latency (grains ((closedAt plan h i) .first)) ((closedAt plan h i) .stamp)
         ≡ latency (arrival plan h (since h i) 0) (h .stamp (since h i))
     latency-is = rw (first-is, stamp-is)
 
     -- the marker packet before the frame comes no later than its first
-    gap-is : closesAt h i ≡ true → pos (27 * ((closedAt plan h i) .first - markedTime plan h i))
+    gap-is : closesAt h i ≡ true → pos (grains ((closedAt plan h i) .first - markedTime plan h i))
         ≡ subℕ (arrival plan h (since h i) 0) (grains (h .time (pred (since h i))))
     gap-is e =
         let began = begun-since h i (closing-begun (h .marked i) (begunAt h i) e) in
@@ -161,8 +161,8 @@ module _ (plan : Plan) (h : History) (ordered : Climbs (h .time) (h .packets)) (
         let from = h .time (since h i + 0) in
         let to = h .time (pred (since h i)) in
         rw (first-is, marked-time h plan i began)
-        (differ-same (pos (27 * (from - to))) (subℕ (27 * from) (27 * to)) (27 * (from - to)) 0 (27 * from) (27 * to)
-        (omega arith) (differ-sub (27 * from) (27 * to)) (omega arith))
+        (differ-same (pos (grains (from - to))) (subℕ (grains from) (grains to)) (grains (from - to)) 0 (grains from) (grains to)
+        (omega arith) (differ-sub (grains from) (grains to)) (omega arith))
 
     pub times-are : closesAt h i ≡ true → Times plan h (since h i) (wholeRow plan (numberAt h i) (markedTime plan h i) (closedAt plan h i))
     unfolding wholeRow

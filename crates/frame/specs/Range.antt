@@ -4,6 +4,7 @@ use mathlib.Core.Path.{_≡_}
 use mathlib.Core.Bool.{true}
 use mathlib.Core.List.{List, [], _∷_}
 use Prim.Native.Nat.{ℕ, _+_, _*_, _≤_, _<_}
+use Rattle.grain.specs.Paper.{nanosecond}
 use Rattle.laws.specs.Every.{Test, at-most, below, is, where-so, Entry, entry, flag, tests}
 use Rattle.frame.specs.declared.Plan.{Plan}
 use Rattle.frame.specs.declared.Frame.{Frame}
@@ -12,7 +13,7 @@ use Rattle.frame.specs.declared.Buffer.{Buffer}
 use Rattle.frame.specs.Paper.{bufferNumber, bufferFrame, bufferPlace}
 
 pub record Planned (plan : Plan) : Type 0 where
-  pub long : 27 ≤ plan .period
+  pub long : nanosecond ≤ plan .period
   pub short : plan .period ≤ 2147483648
   pub some : 0 < plan .packets
   pub few : plan .packets ≤ 20000

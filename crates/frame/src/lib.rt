@@ -8,6 +8,7 @@ ghost use Prim.Native.Nat.{_+_, _-_, _≤_, _<_, max};
 ghost use lib.ListN.{length};
 ghost use lib.Seq.{sets};
 ghost use Rattle.laws.specs.Every.{every};
+ghost use Rattle.grain.specs.Paper.{nanosecond};
 ghost use Rattle.frame.specs.Paper.{bufferNumber, bufferFrame, bufferPlace, hasFailed, isNone};
 ghost use Rattle.frame.specs.Step.{lower, emptyOf, openedOf, countedOf, pushOf, kindOf, detailOf, wholeRow, brokenRow, rowOf};
 ghost use Rattle.frame.specs.Step.{numbersOf, rowWidth, answerOf, joined, noFrames, arriveOf, closeOf};
@@ -110,7 +111,7 @@ impl Frame {
 
     // The first packet sets the frame's times.
     fn opened(mut self, period: u64, t: u64, stamp: u32) -> Frame
-        requires { ⌜ (27 ≤ period) × (period ≤ 2147483648) ⌝ }
+        requires { ⌜ (nanosecond ≤ period) × (period ≤ 2147483648) ⌝ }
         ensures { λ r. ⌜ r ≡ openedOf self period t stamp ⌝ }
     {
         if self.held == 0 {

@@ -6,8 +6,11 @@ use lib.IntN.{ℤ, pos, subℕ, _-ℤ_}
 use Rattle.laws.specs.Count.{count}
 
 -- "27 grains are one nanosecond."
+abbrev pub nanosecond : ℕ
+nanosecond = 27
+
 abbrev pub grains : ℕ → ℕ
-grains t = 27 * t
+grains t = nanosecond * t
 
 -- "N = round(27t/F), halves up": N·F is at most half of F after g, and g
 -- is less than half of F after N·F. One N is so: proofs/Rounding.antt.

@@ -7,7 +7,7 @@ ghost use Prim.Native.Nat.{_+_, _*_, _-_, _/_, _%_, _≤_, _<_};
 ghost use lib.IntN.{subℕ};
 ghost use mir.Syntax.{w64};
 ghost use mir.Val.{ofZ};
-ghost use Rattle.grain.specs.Paper.{grains, phase, latency, instants as instantsOf, readsBefore};
+ghost use Rattle.grain.specs.Paper.{nanosecond, grains, phase, latency, instants as instantsOf, readsBefore};
 
 // The one home of both numbers: every crate that needs them takes them from here.
 pub const GRAINS_PER_NANOSECOND: u64 = 27;
@@ -26,7 +26,7 @@ pub struct Spacing {
 
 // What is left of 27·t when whole m's are taken away. t is divided first: 27 times its rest is below 27·m and fits.
 pub fn rest27(t: u64, m: u64) -> u64
-    requires { ⌜ (27 ≤ m) × (m ≤ 576460752303423488) ⌝ }
+    requires { ⌜ (nanosecond ≤ m) × (m ≤ 576460752303423488) ⌝ }
     ensures { λ r. ⌜ r ≡ grains t % m ⌝ }
 {
     let part = GRAINS_PER_NANOSECOND * (t % m);
@@ -36,7 +36,7 @@ pub fn rest27(t: u64, m: u64) -> u64
 // 27·t less the frame start that lies nearest, and one frame more, so that it is never below 0: where in
 // the two frames around that start the time lies.
 pub fn frame_phase(t: u64, frame: u64) -> u64
-    requires { ⌜ (27 ≤ frame) × (frame ≤ 576460752303423488) ⌝ }
+    requires { ⌜ (nanosecond ≤ frame) × (frame ≤ 576460752303423488) ⌝ }
     ensures { λ r. ⌜ r ≡ phase (grains t) frame ⌝ }
 {
     let past = rest27(t, frame);

@@ -27,7 +27,7 @@ use Rattle.bucket.specs.Paper as bucket
 use Rattle.bucket.proofs.Owner as proved-bucket
 use Rattle.frame.specs.declared.Row.{Row}
 use Rattle.frame.specs.Paper as frame
-use Rattle.frame.specs.Step.{numbersOf}
+use Rattle.frame.specs.Step.{rowWidth, numbersOf}
 use Rattle.frame.specs.ByPlace as by-place
 use Rattle.frame.proofs.BufferOfFrames as proved-frames
 use Rattle.timing.specs.declared.StreamNumbers.{StreamNumbers}
@@ -64,7 +64,7 @@ refusal-changes-nothing = refused-stays
 pub order-of-refusals : (s : State) (rows : List ℤ) (ts ss ms : List ℕ) → fedNumber (feedOf s rows ts ss ms .answer)
     ≡ orElse (pick (inRange s) 0 9)
     (orElse (scannedNumber (scannedOf (s .past) (s .frames .begun) ts ss ms))
-    (pick (leb (scannedClosed (scannedOf (s .past) (s .frames .begun) ts ss ms) * 10) (length rows)) 0 15))
+    (pick (leb (scannedClosed (scannedOf (s .past) (s .frames .begun) ts ss ms) * rowWidth) (length rows)) 0 15))
 order-of-refusals = fed-numbered
 
 -- "A refused call accepts none of its packets, returns the number and the packet's place in the history (0 for 1 to 10 and 24, the call's
@@ -72,7 +72,7 @@ order-of-refusals = fed-numbered
 pub place-of-refusal : (s : State) (rows : List ℤ) (ts ss ms : List ℕ) → fedPlace (feedOf s rows ts ss ms .answer)
     ≡ pick (inRange s)
     (pick (eqb (scannedNumber (scannedOf (s .past) (s .frames .begun) ts ss ms)) 0)
-    (pick (leb (scannedClosed (scannedOf (s .past) (s .frames .begun) ts ss ms) * 10) (length rows)) 0 (s .past .packets))
+    (pick (leb (scannedClosed (scannedOf (s .past) (s .frames .begun) ts ss ms) * rowWidth) (length rows)) 0 (s .past .packets))
     (scannedPlace (scannedOf (s .past) (s .frames .begun) ts ss ms)))
     0
 place-of-refusal = fed-placed
@@ -144,7 +144,7 @@ module _ (x : StreamNumbers) (set-up : setUpOf x ≡ 0) (l : List Packet) (close
   -- its ten numbers stand at 10·k to 10·k + 9 of the lent ones, k being the frame's number
   pub numbers-of-row : (i : ℕ) (r : Row) (lent : List ℤ) → i < length l → by-place.rowsAt (rulesOf x .plan) (frameHistory x l) i ≡ r ∷ []
       → length (numbers (rowsTo x l (length l))) ≤ length lent
-      → take 10 (drop (10 * frame.numberAt (frameHistory x l) i) (sets lent 0 (numbers (rowsTo x l (length l))))) ≡ numbersOf r
+      → take rowWidth (drop (rowWidth * frame.numberAt (frameHistory x l) i) (sets lent 0 (numbers (rowsTo x l (length l))))) ≡ numbersOf r
   numbers-of-row i r lent = numbers-of-frame x l i (length l) r lent
 
   -- C_MAX and VRX_FULL are the largest whole numbers not greater than the paper's fractions, a TRO is as given or all of its fraction, and

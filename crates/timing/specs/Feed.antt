@@ -16,7 +16,7 @@ use Rattle.packet.specs.declared.Packet.{Packet}
 use Rattle.packet.specs.Paper.{packets}
 use Rattle.packet.specs.Step.{elapsedOf, nextOf, numberOf, scanOf, scannedOf}
 use Rattle.frame.specs.declared.Row.{Row}
-use Rattle.frame.specs.Step.{rowOf}
+use Rattle.frame.specs.Step.{rowWidth, rowOf}
 use Rattle.frame.specs.Range.{Planned, Pushable, Rowable}
 use Rattle.timing.specs.declared.Rules.{Rules}
 use Rattle.timing.specs.declared.State.{State}
@@ -97,7 +97,7 @@ module _ (s : State) (rows : List ℤ) where
 
   -- "15 fewer than ten row numbers per frame closed in this call", with "the call's first packet's" place
   abbrev pub roomFor : ℕ → List Packet → Outcome
-  roomFor closed l = pick (leb (closed * 10) (length rows)) (acceptedAs l) (refusedBy 15 (s .past .packets))
+  roomFor closed l = pick (leb (closed * rowWidth) (length rows)) (acceptedAs l) (refusedBy 15 (s .past .packets))
 
   abbrev pub byScan : Scanned → List Packet → Outcome
   byScan (Fine closed) l = roomFor closed l
@@ -157,5 +157,5 @@ pub data Stops : State → List Call → ℕ → ℕ → Type 0 where
 unfoldable pub Rooms : State → List Call → Type 0
 Rooms s [] = Unit
 Rooms s (c ∷ cs) =
-    (length (rowsAfter (rulesOf (s .numbers)) s (c .packets)) * 10 ≤ length (c .rows))
+    (length (rowsAfter (rulesOf (s .numbers)) s (c .packets)) * rowWidth ≤ length (c .rows))
     × Rooms (stateAfter (rulesOf (s .numbers)) s (c .packets)) cs

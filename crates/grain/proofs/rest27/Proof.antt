@@ -1,6 +1,7 @@
 -- 27 times the rest of t by m is below 27·m and fits; its rest is that of 27·t by the law of WideDivision.
 use native.Mathlib.Omega.{arith}
 use native.Mathlib.Nat.{mod-lt}
+use Rattle.grain.specs.Paper.{nanosecond}
 use Rattle.grain.proofs.WideDivision.{remainder}
 use borrow.Author.Needs.{needs}
 use Rattle.grain.proofs.rest27.Statement.{statement}
@@ -16,7 +17,7 @@ rem-result : tie.Need-rem-result
 rem-result c = search needs
 
 returns : tie.Need-returns
-returns c = remainder 27 (c .args .t) (c .args .m)
+returns c = remainder nanosecond (c .args .t) (c .args .m)
 
 pub rest27-spec : {M : Type 1} → statement M
 rest27-spec = tie.close (tie.spec rem-part mul-part rem-result returns)

@@ -5,7 +5,7 @@ use native.Mathlib.Omega.{arith}
 use lib.IntN.{subℕ}
 use mir.Syntax.{w64}
 use mir.Facts.{toZ-ofZ}
-use Rattle.grain.specs.Paper.{tick, wrap}
+use Rattle.grain.specs.Paper.{grains, tick, wrap}
 use Rattle.grain.proofs.EncodedTime.{latency-is}
 use native.Mathlib.Nat.{mod-lt}
 use borrow.Author.Needs.{needs}
@@ -19,12 +19,12 @@ mul-difference : tie.Need-mul-difference
 mul-difference c = search needs
 
 difference-requires : tie.Need-difference-requires
-difference-requires c κs = omega (arith, c .rest27 .ensures, mod-lt (27 * c .before .args .t) {m = wrap} (omega arith))
+difference-requires c κs = omega (arith, c .rest27 .ensures, mod-lt (grains (c .before .args .t)) {m = wrap} (omega arith))
 
 returns : tie.Need-returns
 returns c = let a = c .before .before .args in
     toZ-ofZ {w = w64} (record { sfits = c .difference .ok }) ∙ c .difference .ensures
-    ∙ ap (λ (n : ℕ). subℕ n (tick * a .stamp)) (c .before .rest27 .ensures) ∙ latency-is (27 * a .t) (a .stamp)
+    ∙ ap (λ (n : ℕ). subℕ n (tick * a .stamp)) (c .before .rest27 .ensures) ∙ latency-is (grains (a .t)) (a .stamp)
 
 pub video-latency-spec : {M : Type 1} → statement M
 video-latency-spec =

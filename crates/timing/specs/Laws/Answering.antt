@@ -17,6 +17,7 @@ use Rattle.packet.specs.declared.Packet.{Packet}
 use Rattle.packet.specs.Paper.{packets}
 use Rattle.packet.specs.Step.{scannedOf, scannedNumber, scannedPlace, scannedClosed}
 use Rattle.packet.proofs.Turn.{scanned-some}
+use Rattle.frame.specs.Step.{rowWidth}
 use Rattle.timing.specs.declared.StreamNumbers.{StreamNumbers}
 use Rattle.timing.specs.declared.State.{State}
 use Rattle.timing.specs.declared.SetUp.{SetUp}
@@ -77,9 +78,9 @@ module _ (s : State) (rows : List ℤ) (ts ss ms : List ℕ) where
   scanned = scannedOf (s .past) (s .frames .begun) ts ss ms
 
   abbrev roomy : Scanned → Bool
-  roomy x = leb (scannedClosed x * 10) (length rows)
+  roomy x = leb (scannedClosed x * rowWidth) (length rows)
 
-  by-room : (n : ℕ) (t : Bool) → leb (n * 10) (length rows) ≡ t
+  by-room : (n : ℕ) (t : Bool) → leb (n * rowWidth) (length rows) ≡ t
       → (fedNumber (byScan s rows (Fine n) (packets ts ss ms) .answer) ≡ pick t 0 15)
       × (fedPlace (byScan s rows (Fine n) (packets ts ss ms) .answer) ≡ pick t 0 (s .past .packets))
   by-room n true e = (rw e, rw e)
@@ -89,7 +90,7 @@ module _ (s : State) (rows : List ℤ) (ts ss ms : List ℕ) where
       → (fedNumber (byScan s rows x (packets ts ss ms) .answer) ≡ orElse (scannedNumber x) (pick (roomy x) 0 15))
       × (fedPlace (byScan s rows x (packets ts ss ms) .answer)
       ≡ pick (eqb (scannedNumber x) 0) (pick (roomy x) 0 (s .past .packets)) (scannedPlace x))
-  by-scanned (Fine n) e = by-room n (leb (n * 10) (length rows)) refl
+  by-scanned (Fine n) e = by-room n (leb (n * rowWidth) (length rows)) refl
   by-scanned (Scan-Refused r) e =
       let some = ne-eqb (r .number) 0 (scanned-some (s .past) (s .frames .begun) ts ss ms r e) in
       (sym (rw some), sym (rw some))

@@ -17,6 +17,7 @@ use Rattle.packet.specs.declared.Packet.{Packet}
 use Rattle.packet.specs.Paper.{packets}
 use Rattle.packet.specs.Step.{numberOf, nextOf, closes, scanOf, scannedOf}
 use Rattle.packet.proofs.Turn.{scanned-fine}
+use Rattle.frame.specs.Step.{rowWidth}
 use Rattle.timing.specs.declared.Rules.{Rules}
 use Rattle.timing.specs.declared.State.{State}
 use Rattle.timing.specs.declared.Fed.the-variants.{Accepted}
@@ -66,12 +67,12 @@ passes-scan (q ∷ l) rules s k p =
 
 -- one call of packets that pass, with room
 pub accepts : (s : State) (rows : List ℤ) (l : List Packet) → Sound s → Passes (s .past) l
-    → length (rowsAfter (rulesOf (s .numbers)) s l) * 10 ≤ length rows
+    → length (rowsAfter (rulesOf (s .numbers)) s l) * rowWidth ≤ length rows
     → feedAll s rows l ≡ acceptedAs s rows l
 unfolding feedAll
 accepts s rows l x p room =
     rw (of-sound s x, passes-scan l (rulesOf (s .numbers)) s 0 p)
-    (rw (le-leb ((0 + length (rowsAfter (rulesOf (s .numbers)) s l)) * 10) (length rows) (omega arith)))
+    (rw (le-leb ((0 + length (rowsAfter (rulesOf (s .numbers)) s l)) * rowWidth) (length rows) (omega arith)))
 
 -- passing may be cut
 pub passes-cut : (rules : Rules) (s : State) (l m : List Packet) → Passes (s .past) (l ++ m) → Passes (s .past) l

@@ -10,7 +10,7 @@ use lib.ListN.{length, take}
 use lib.Seq.{take-suc, take-length}
 use Rattle.laws.specs.Choose.{pick}
 use Rattle.laws.specs.Fold.{fold, fold-up-to, fold-states}
-use Rattle.grain.specs.Paper.{instants}
+use Rattle.grain.specs.Paper.{grains, instants}
 use borrow.Author.Tests.{ltb-false}
 use Rattle.laws.specs.Climb.{Climbs}
 use Rattle.packet.specs.declared.Refusal.{Refusal}
@@ -61,7 +61,7 @@ step-is rules s p = go (marked p)
 
 module _ (x : StreamNumbers) (l : List Packet) where
   -- nanoseconds since the first packet, and grains
-  elapsed-is : (i : ℕ) → 27 * elapsedOf (pastAt l i) (at l i .time) ≡ 27 * at l i .time - 27 * at l 0 .time
+  elapsed-is : (i : ℕ) → grains (elapsedOf (pastAt l i) (at l i .time)) ≡ grains (at l i .time) - grains (at l 0 .time)
   elapsed-is zero = omega arith
   elapsed-is (suc i) = rw (eqb·suc-zero i) (omega arith)
 

@@ -19,6 +19,7 @@ use Rattle.packet.specs.Step.{scanOf, scannedOf}
 use Rattle.packet.proofs.Turn.{scanned-fine, lengths-same}
 use Rattle.laws.specs.Choose.{pick}
 use Rattle.laws.specs.Fold.{fold}
+use Rattle.frame.specs.Step.{rowWidth}
 use Rattle.timing.specs.declared.State.{State}
 use Rattle.timing.specs.declared.Rules.{Rules}
 use Rattle.timing.specs.declared.Fed.{Fed}
@@ -51,10 +52,10 @@ module _ (s : State) (rows : List ℤ) (ts ss ms : List ℕ) where
       room-for : roomFor s rows n (packets ts ss ms) ≡ feedOf s rows ts ss ms
       room-for = ap (λ (y : Scanned). byScan s rows y (packets ts ss ms)) (sym g) ∙ by-scan x f
 
-      pub fed-15 : length rows / 10 < n → Is (feedOf s rows ts ss ms) (Refused 15 (s .past .packets) s) rows
+      pub fed-15 : length rows / rowWidth < n → Is (feedOf s rows ts ss ms) (Refused 15 (s .past .packets) s) rows
       fed-15 l =
-          let few : length rows < n * 10 = div-lt-iff-lt-mul {k = 10} {x = length rows} {y = n} (omega arith) .0 l in
-          is (sym (rw (lt-leb (n * 10) (length rows) few)) ∙ room-for)
+          let few : length rows < n * rowWidth = div-lt-iff-lt-mul {k = rowWidth} {x = length rows} {y = n} (omega arith) .0 l in
+          is (sym (rw (lt-leb (n * rowWidth) (length rows) few)) ∙ room-for)
 
       fine : OneLength ts ss ms × (scanOf (s .past) (s .frames .begun) 0 (packets ts ss ms) ≡ Fine n)
       fine = scanned-fine (s .past) (s .frames .begun) ts ss ms n (sym f ∙ g)
@@ -62,11 +63,11 @@ module _ (s : State) (rows : List ℤ) (ts ss ms : List ℕ) where
       pub one-length : OneLength ts ss ms
       one-length = fine .0
 
-      enough : n ≤ length rows / 10 → n * 10 ≤ length rows
-      enough l = le-div-iff-mul-le {k = 10} {x = n} {y = length rows} (omega arith) .0 l
+      enough : n ≤ length rows / rowWidth → n * rowWidth ≤ length rows
+      enough l = le-div-iff-mul-le {k = rowWidth} {x = n} {y = length rows} (omega arith) .0 l
 
       -- the rules that the code has worked out
-      module _ {q : Rules} (eq : q ≡ rulesOf (s .numbers)) (l : n ≤ length rows / 10) where
+      module _ {q : Rules} (eq : q ≡ rulesOf (s .numbers)) (l : n ≤ length rows / rowWidth) where
         pub runs : Runs numbers q s (packets ts ss ms) 0 (length rows)
         runs =
             let r = scan-runs (packets ts ss ms) q s 0 n (fine .1) in
@@ -79,7 +80,7 @@ module _ (s : State) (rows : List ℤ) (ts ss ms : List ℕ) where
         pub fed : {t : State} {after : List ℤ} → Ran numbers q s (packets ts ss ms) 0 rows t after → Is (feedOf s rows ts ss ms) (Accepted t) after
         fed {t} {after} ran =
             let r = subst (λ (x : Rules). Ran numbers x s (packets ts ss ms) 0 rows t after) eq ran in
-            let o = is {q = acceptedAs s rows (packets ts ss ms)} (sym (rw (le-leb (n * 10) (length rows) (enough l))) ∙ room-for) in
+            let o = is {q = acceptedAs s rows (packets ts ss ms)} (sym (rw (le-leb (n * rowWidth) (length rows) (enough l))) ∙ room-for) in
             record { answer-is = ap Accepted (r .state-is) ∙ o .answer-is; rows-are = r .rows-are ∙ o .rows-are }
 
 -- ---- what an answer tells
@@ -87,7 +88,7 @@ module _ (s : State) (rows : List ℤ) (ts ss ms : List ℕ) where
 -- a refusal leaves state and rows
 refused-room : (s t : State) (rows : List ℤ) (n k p : ℕ) (l : List Packet) → (roomFor s rows n l) .answer ≡ Refused k p t → (t ≡ s)
     × ((roomFor s rows n l) .rows ≡ rows)
-refused-room s t rows n k p l = go (leb (n * 10) (length rows))
+refused-room s t rows n k p l = go (leb (n * rowWidth) (length rows))
   where
     go : (b : Bool) → (pick b (acceptedAs s rows l) (refusedBy s rows 15 (s .past .packets))) .answer ≡ Refused k p t
         → (t ≡ s) × ((pick b (acceptedAs s rows l) (refusedBy s rows 15 (s .past .packets))) .rows ≡ rows)
@@ -119,7 +120,7 @@ pub record From (s t : State) (l : List Packet) : Type 0 where
 
 accepted-room : (s t : State) (rows : List ℤ) (n : ℕ) (l : List Packet) → (roomFor s rows n l) .answer ≡ Accepted t → t
     ≡ stateAfter (rulesOf (s .numbers)) s l
-accepted-room s t rows n l = go (leb (n * 10) (length rows))
+accepted-room s t rows n l = go (leb (n * rowWidth) (length rows))
   where
     go : (b : Bool) → (pick b (acceptedAs s rows l) (refusedBy s rows 15 (s .past .packets))) .answer ≡ Accepted t → t
         ≡ stateAfter (rulesOf (s .numbers)) s l

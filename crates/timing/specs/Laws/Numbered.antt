@@ -15,7 +15,7 @@ use Rattle.laws.specs.Lay.{sets-front}
 use Rattle.packet.specs.declared.Packet.{Packet}
 use Rattle.frame.specs.declared.Row.{Row}
 use Rattle.frame.specs.Paper.{closesAt, numberAt}
-use Rattle.frame.specs.Step.{numbersOf}
+use Rattle.frame.specs.Step.{rowWidth, numbersOf}
 use Rattle.frame.specs.ByPlace.{rowsAt}
 use Rattle.timing.specs.declared.StreamNumbers.{StreamNumbers}
 use Rattle.timing.specs.Step.{rulesOf, numbers}
@@ -61,7 +61,7 @@ module _ (x : StreamNumbers) (l : List Packet) where
   -- of all the numbers laid from the front of lent ones, ten for each frame closed before, and then ten of this
   pub numbers-of-frame : (i m : ℕ) (r : Row) (lent : List ℤ) → i < m → rowsAt (rulesOf x .plan) (frameHistory x l) i ≡ r ∷ []
       → length (numbers (rowsTo x l m)) ≤ length lent
-      → take 10 (drop (10 * numberAt (frameHistory x l) i) (sets lent 0 (numbers (rowsTo x l m)))) ≡ numbersOf r
+      → take rowWidth (drop (rowWidth * numberAt (frameHistory x l) i) (sets lent 0 (numbers (rowsTo x l m)))) ≡ numbersOf r
   unfolding numbers
   numbers-of-frame i m r lent h e room =
       let w = rows-from i m h in
@@ -74,7 +74,7 @@ module _ (x : StreamNumbers) (l : List Packet) where
       sets-front out lent room ∙ ap (λ (o : List ℤ). o ++ drop (length out) lent) cut
       ∙ append-assoc before (numbersOf r ++ numbers (w .0)) (drop (length out) lent)
       ∙ ap (λ (o : List ℤ). before ++ o) (append-assoc (numbersOf r) (numbers (w .0)) (drop (length out) lent)) in
-      let size : length before ≡ 10 * numberAt (frameHistory x l) i = omega (arith, numbers-length (rowsTo x l i), rows-counted i) in
-      ap (λ (o : List ℤ). take 10 (drop (10 * numberAt (frameHistory x l) i) o)) all
-      ∙ ap (take 10) (drop-at before (numbersOf r ++ behind) (10 * numberAt (frameHistory x l) i) size)
-      ∙ take-at (numbersOf r) behind 10 refl
+      let size : length before ≡ rowWidth * numberAt (frameHistory x l) i = omega (arith, numbers-length (rowsTo x l i), rows-counted i) in
+      ap (λ (o : List ℤ). take rowWidth (drop (rowWidth * numberAt (frameHistory x l) i) o)) all
+      ∙ ap (take rowWidth) (drop-at before (numbersOf r ++ behind) (rowWidth * numberAt (frameHistory x l) i) size)
+      ∙ take-at (numbersOf r) behind rowWidth refl

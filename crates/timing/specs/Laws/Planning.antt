@@ -7,7 +7,7 @@ use native.Mathlib.Nat.{mul-le-mul, mul-le-mul-left, div-mul-le-self}
 use Rattle.limits.specs.Paper.{activeRatio, readNum, readDen}
 use Rattle.limits.specs.Accepted.{Accepted, accepted}
 use Rattle.limits.specs.Facts.{frame-most, frame-least, tro-below}
-use Rattle.grain.specs.Paper.{instants}
+use Rattle.grain.specs.Paper.{grains, instants}
 use Rattle.frame.specs.Range.{Planned}
 use Rattle.timing.specs.declared.StreamNumbers.{StreamNumbers}
 use Rattle.timing.specs.Step.{setUpOf, frameOf, rulesOf}
@@ -50,19 +50,19 @@ module _ (x : StreamNumbers) (e : setUpOf x ≡ 0) where
 
   -- the drain instants of 600 s are fewer than a billion, and their products fit
   module _ (ns : ℕ) (h : ns ≤ 600000000000) where
-    pub reach-fits : 27 * ns * (rulesOf x .drains .den) ≤ 3564000000000000000
+    pub reach-fits : grains ns * (rulesOf x .drains .den) ≤ 3564000000000000000
     unfolding rulesOf
     reach-fits =
-        let long : 27 * ns ≤ 16200000000000 = omega arith in
+        let long : grains ns ≤ 16200000000000 = omega arith in
         let many : 11 * x .parameters .n ≤ 220000 = omega (arith, fine .n-fits .1) in
         omega (arith, mul-le-mul long many)
 
-    pub drains-few : instants (27 * ns) (rulesOf x .drains .num) (rulesOf x .drains .den) ≤ 1000000000
+    pub drains-few : instants (grains ns) (rulesOf x .drains .num) (rulesOf x .drains .den) ≤ 1000000000
     unfolding rulesOf
     drains-few =
-        let d = instants (27 * ns) (rulesOf x .drains .num) (rulesOf x .drains .den) in
+        let d = instants (grains ns) (rulesOf x .drains .num) (rulesOf x .drains .den) in
         let far : 4500000000 ≤ 10 * frameOf x = omega (arith, frame-long) in
-        omega (arith, div-mul-le-self (27 * ns * (11 * x .parameters .n)) (10 * frameOf x), mul-le-mul-left d far, reach-fits)
+        omega (arith, div-mul-le-self (grains ns * (11 * x .parameters .n)) (10 * frameOf x), mul-le-mul-left d far, reach-fits)
 
   pub spacing-some : 0 < rulesOf x .drains .num
   unfolding rulesOf

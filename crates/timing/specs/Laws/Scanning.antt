@@ -22,7 +22,7 @@ use Rattle.timing.specs.Feed.{Passes}
 use Rattle.timing.specs.Laws.Running.{step-past}
 
 -- ten numbers a row
-pub numbers-length : (l : List Row) → length (numbers l) ≡ length l * 10
+pub numbers-length : (l : List Row) → length (numbers l) ≡ length l * F.rowWidth
 unfolding numbers
 numbers-length [] = refl
 numbers-length (r ∷ l) = omega (arith, length-append (F.numbersOf r) (numbers l), numbers-length l)

@@ -5,6 +5,7 @@ use Prim.Native.Nat.{_*_, _-_}
 use native.Mathlib.Omega.{arith}
 use mir.Syntax.{w64}
 use mir.Facts.{toZ-pos, toZ-ofZ}
+use Rattle.grain.specs.Paper.{grains}
 use Rattle.grain.proofs.EncodedTime.{offset-made, offset-read}
 use Rattle.frame.specs.Step.{wholeRow}
 use borrow.Author.Needs.{needs}
@@ -22,7 +23,7 @@ sub-offset c = let s = c .before .before in
     let a = s .args in
     let d = c .before .difference in
     let v = c .video-latency in
-    offset-made (27 * a .self .first) (a .self .stamp) (a .self .phase) (a .plan .period) (omega arith) (omega arith) (omega arith)
+    offset-made (grains (a .self .first)) (a .self .stamp) (a .self .phase) (a .plan .period) (omega arith) (omega arith) (omega arith)
     (d .ensures) (v .ensures) (record { sfits = d .ok }) (record { sfits = v .ok })
 
 cast-t8 : tie.Need-cast-t8
@@ -57,7 +58,7 @@ returns c = let s = c .before .before .before .before .before .before .before in
     let v = c .before .before .before .before .before .video-latency in
     let m = c .before .before .before .difference2 in
     let fpt = toZ-ofZ {w = w64} (record { sfits = d .ok }) ∙ d .ensures in
-    let offset = offset-read (27 * a .self .first) (a .self .stamp) (a .self .phase) (a .plan .period) (omega arith) (omega arith)
+    let offset = offset-read (grains (a .self .first)) (a .self .stamp) (a .self .phase) (a .plan .period) (omega arith) (omega arith)
     (omega arith)
     (d .ensures) (v .ensures) (record { sfits = d .ok }) (record { sfits = v .ok }) in
     let latency = toZ-ofZ {w = w64} (record { sfits = v .ok }) ∙ v .ensures in
@@ -69,7 +70,7 @@ returns c = let s = c .before .before .before .before .before .before .before in
       offset = offset j;
       latency = latency j;
       margin = (toZ-ofZ {w = w64} (record { sfits = m .ok }) ∙ m .ensures) j;
-      gap = toZ-pos w64 {n = 27 * (a .self .first - a .marked)} (omega arith) j;
+      gap = toZ-pos w64 {n = grains (a .self .first - a .marked)} (omega arith) j;
       peak = toZ-pos w64 {n = a .self .top} (omega arith) j;
       least = (toZ-ofZ {w = w64} (record { sfits = c .difference3 .ok }) ∙ c .difference3 .ensures) j;
     }

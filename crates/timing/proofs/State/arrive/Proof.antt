@@ -2,7 +2,7 @@
 use Prim.Native.Nat.{ℕ, _*_, _-_}
 use native.Mathlib.Omega.{arith}
 use mathlib.Core.Path.{_≡_, ap, _∙_}
-use Rattle.grain.specs.Paper.{instants}
+use Rattle.grain.specs.Paper.{grains as grainsOf, instants}
 use Rattle.bucket.specs.Step as B
 use Rattle.packet.specs.Step.{elapsedOf}
 use Rattle.timing.specs.Step.{arriveOf, drainedOf}
@@ -39,8 +39,8 @@ unfolding arriveOf
 returns c = let n = c .before .before .before in
     let i = n .before in
     let a = i .before .before .before .before .before .before .before .before .args in
-    let grains : i .before .grains .result ≡ 27 * elapsedOf (a .self .past) (a .t) = i .before .grains .ensures
-    ∙ ap (λ (n : ℕ). 27 * n) (i .before .before .elapsed .ensures) in
+    let grains : i .before .grains .result ≡ grainsOf (elapsedOf (a .self .past) (a .t)) = i .before .grains .ensures
+    ∙ ap grainsOf (i .before .before .elapsed .ensures) in
     let drained : i .instants .result ≡ drainedOf (a .rules) (a .self .past) (a .t) =
     i .instants .ensures ∙ ap (λ (n : ℕ). instants n (a .rules .drains .num) (a .rules .drains .den)) grains in
     let drains : c .before .before .less .result ≡ drainedOf (a .rules) (a .self .past) (a .t) - a .self .drained =
