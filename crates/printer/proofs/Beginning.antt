@@ -17,7 +17,7 @@ use Rattle.limits.specs.declared.Parameters.{Parameters}
 use Rattle.limits.specs.Paper.{setUpRefusal}
 use Rattle.record.specs.declared.Head.{Head}
 use Rattle.record.specs.declared.Head.the-variants as head
-use Rattle.record.specs.Paper.{packetsIn}
+use Rattle.record.specs.Paper.{headBytes, packetsIn}
 use Rattle.record.specs.Step.{headPiece, headRead}
 use Rattle.record.specs.Pieces.{headWaits}
 use Rattle.record.proofs.Saying.{Stood, SaysHead, head-says, reads-refused, reads-packets}
@@ -37,7 +37,7 @@ use Rattle.printer.specs.Drive.{Stands, restFrom}
 abbrev pub Tells : List ℕ → List ℕ → Opened → Type 0
 Tells w v Wanting = Unit
 Tells w v (Unopened number offset) = outputOf (w ++ v) ≡ refusalLine number offset
-Tells w v (Opens walk) = Stands walk × (outputOf (w ++ v) ≡ restFrom walk (drop 19 w ++ v))
+Tells w v (Opens walk) = Stands walk × (outputOf (w ++ v) ≡ restFrom walk (drop headBytes w ++ v))
 
 module _ (w v : List ℕ) (last : Bool) (l : last ≡ true → v ≡ []) where
   -- what the window shows of the head is the whole file's head
@@ -52,7 +52,7 @@ module _ (w v : List ℕ) (last : Bool) (l : last ≡ true → v ≡ []) where
     here : Stood (w ++ v) version kind x c
     here = whole (head.Ready version kind x c) e refl
 
-    nineteen : 19 ≤ length w
+    nineteen : headBytes ≤ length w
     nineteen = subst (SaysHead w) (sym (head-alone w last (ap headWaits e)) ∙ e) (head-says w) .nineteen
 
     fresh-tells : setUpRefusal x ≡ 0 → Tells w v (Opens (record { at = c; state = freshOf (ofParameters x) }))
@@ -62,8 +62,8 @@ module _ (w v : List ℕ) (last : Bool) (l : last ≡ true → v ≡ []) where
         let state = freshOf (ofParameters x) in (
           record { sound = sound-fresh (ofParameters x) fine; offset = ap (λ (d : Cursor). d .at) (here .next-19) },
           ap outputBy (reads-packets here fine)
-              ∙ ap (λ (m : List ℕ). linesOf rules state (packetsIn nothing 19 m)) (drop-append-le 19 w v nineteen)
-              ∙ ap (λ (d : Cursor). linesOf rules state (packetsIn nothing (d .at) (drop 19 w ++ v))) (sym (here .next-19)),
+              ∙ ap (λ (m : List ℕ). linesOf rules state (packetsIn nothing headBytes m)) (drop-append-le headBytes w v nineteen)
+              ∙ ap (λ (d : Cursor). linesOf rules state (packetsIn nothing (d .at) (drop headBytes w ++ v))) (sym (here .next-19)),
         )
 
     refused-tells : 0 < setUpRefusal x → Tells w v (Unopened (setUpRefusal x) 1)

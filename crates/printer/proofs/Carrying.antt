@@ -17,11 +17,11 @@ use Rattle.packet.specs.declared.Packet as packet
 use Rattle.packet.specs.Step.{numberOf, nextOf}
 use Rattle.packet.proofs.Refusals.{accepted}
 use Rattle.frame.specs.declared.Row.{Row}
-use Rattle.text.specs.Lines.{rowLine, refusalLine}
+use Rattle.text.specs.Lines.{lineRoom, rowLine, refusalLine}
 use Rattle.record.specs.declared.Cursor.{Cursor}
 use Rattle.record.specs.declared.Next.{Next}
 use Rattle.record.specs.declared.Next.the-variants.{Packet, End, More, Refused}
-use Rattle.record.specs.Paper.{packetAt, packetRefusal, Packets, packetsIn, more}
+use Rattle.record.specs.Paper.{packetBytes, packetAt, packetRefusal, Packets, packetsIn, more}
 use Rattle.record.specs.Step.{nextRead, nextPiece}
 use Rattle.record.specs.Pieces.{wantsMore}
 use Rattle.record.proofs.Reading.{second, before, packets-end, packets-stop, packets-go}
@@ -66,14 +66,14 @@ module _ (rules : Rules) (s : State) where
     rest-stop n some e p = rw (packets-stop (s .past) at l n some e p)
 
     rest-go : (p : packet.Packet) → packetAt l ≡ p → packetRefusal (s .past) l ≡ 0
-        → restOf rules s at l ≡ rowLines (rowsOf rules s p) ++ restOf rules (stepOf rules s p) (at + 16) (drop 16 l)
+        → restOf rules s at l ≡ rowLines (rowsOf rules s p) ++ restOf rules (stepOf rules s p) (at + packetBytes) (drop 16 l)
     unfolding restOf
     rest-go p same e =
-        let tail = packetsIn (nextOf (s .past) (p .time)) (at + 16) (drop 16 l) in
+        let tail = packetsIn (nextOf (s .past) (p .time)) (at + packetBytes) (drop 16 l) in
         let split : packetsIn (s .past) at l ≡ more p tail = packets-go (s .past) at l e
-        ∙ ap (λ (x : packet.Packet). more x (packetsIn (nextOf (s .past) (x .time)) (at + 16) (drop 16 l))) same in
+        ∙ ap (λ (x : packet.Packet). more x (packetsIn (nextOf (s .past) (x .time)) (at + packetBytes) (drop 16 l))) same in
         ap (linesOf rules s) split ∙ lines-more p tail
-        ∙ ap (λ (x : Past). rowLines (rowsOf rules s p) ++ linesOf rules (stepOf rules s p) (packetsIn x (at + 16) (drop 16 l)))
+        ∙ ap (λ (x : Past). rowLines (rowsOf rules s p) ++ linesOf rules (stepOf rules s p) (packetsIn x (at + packetBytes) (drop 16 l)))
         (sym (step-past rules s p))
 
 -- ---- what stands at the walk stands there in the whole file
@@ -113,10 +113,10 @@ module _ (rules : Rules) (walk : Walk) (w v : List ℕ) (q : rules ≡ rulesOf (
     the-refusal : packetRefusal (walk .state .past) (w ++ v) ≡ numberOf (walk .state .past) p
     the-refusal = second _ _ (s .0) ∙ ap (numberOf (walk .state .past)) the-packet
 
-    pub the-next : numberOf (walk .state .past) p ≡ 0 → c .at ≡ walk .at .at + 16
+    pub the-next : numberOf (walk .state .past) p ≡ 0 → c .at ≡ walk .at .at + packetBytes
     the-next e =
         let few = accepted (walk .state .past) (p .time) (p .marker) e .few in
-        let m = mod-eq-of-lt {n = walk .at .at + 16} {m = 2 ^ 64} (omega (arith, z .offset, few)) in
+        let m = mod-eq-of-lt {n = walk .at .at + packetBytes} {m = 2 ^ 64} (omega (arith, z .offset, few)) in
         let f = s .1 in
         cc
 
@@ -127,20 +127,20 @@ module _ (rules : Rules) (walk : Walk) (w v : List ℕ) (q : rules ≡ rulesOf (
           offset = omega (arith, the-next e, z .offset, ap (λ (x : Past). x .packets) (step-past rules (walk .state) p));
         }
 
-    carried-on : (k : Took) → 16 ≤ length w → numberOf (walk .state .past) p ≡ 0
+    carried-on : (k : Took) → packetBytes ≤ length w → numberOf (walk .state .past) p ≡ 0
         → Carries rules (stepped rules walk p c) (drop 16 w) v k
         → Carries rules walk w v (andThen 16 (linesAt rules walk p) k)
     carried-on k room e f =
         let next = stepOf rules (walk .state) p in
         let lines = linesAt rules walk p in
         let go : restOf rules (walk .state) (walk .at .at) (w ++ v)
-        ≡ lines ++ restOf rules next (walk .at .at + 16) (drop 16 (w ++ v)) =
+        ≡ lines ++ restOf rules next (walk .at .at + packetBytes) (drop 16 (w ++ v)) =
         rest-go rules (walk .state) (walk .at .at) (w ++ v) p the-packet (the-refusal ∙ e) in
-        let same : restOf rules next (walk .at .at + 16) (drop 16 (w ++ v)) ≡ restOf rules next (c .at) (drop 16 w ++ v) =
+        let same : restOf rules next (walk .at .at + packetBytes) (drop 16 (w ++ v)) ≡ restOf rules next (c .at) (drop 16 w ++ v) =
         rw (the-next e, drop-append-le 16 w v room) in
         let left : restOf rules (k .walk .state) (k .walk .at .at) (drop (k .used) (drop 16 w) ++ v)
-        ≡ restOf rules (k .walk .state) (k .walk .at .at) (drop (16 + k .used) w ++ v) =
-        ap (λ (x : List ℕ). restOf rules (k .walk .state) (k .walk .at .at) (x ++ v)) (drop-drop (k .used) 16 w) in (
+        ≡ restOf rules (k .walk .state) (k .walk .at .at) (drop (packetBytes + k .used) w ++ v) =
+        ap (λ (x : List ℕ). restOf rules (k .walk .state) (k .walk .at .at) (x ++ v)) (drop-drop (k .used) packetBytes w) in (
           go ∙ ap (λ (x : List ℕ). lines ++ x) (same ∙ f .0 ∙ ap (λ (x : List ℕ). k .text ++ pick (k .ended) [] x) left)
               ∙ sym (append-assoc lines (k .text) _),
           f .1,
@@ -149,7 +149,7 @@ module _ (rules : Rules) (walk : Walk) (w v : List ℕ) (q : rules ≡ rulesOf (
 
   -- what stands there, by cases
   carries-item : (r : Next) (room : ℕ) (on : Walk → ℕ → Took) → (wantsMore r ≡ false → Says (walk .at .at) (w ++ v) r)
-      → ((p : packet.Packet) (c : Cursor) → r ≡ Packet p c → 16 ≤ length w)
+      → ((p : packet.Packet) (c : Cursor) → r ≡ Packet p c → packetBytes ≤ length w)
       → ((next : Walk) (left : ℕ) → rules ≡ rulesOf (next .state .numbers) → Stands next → Carries rules next (drop 16 w) v (on next left))
       → Carries rules walk w v (itemBy rules walk room on r)
   unfolding lineOf
@@ -173,7 +173,7 @@ carries-walk : (k : ℕ) (rules : Rules) (walk : Walk) (w v : List ℕ) (last : 
 unfolding walkBy
 carries-walk zero rules walk w v last room l q z = waits rules walk w v q z
 carries-walk (suc k) rules walk w v last room l q z =
-    pick-either (Carries rules walk w v) (ltb room 256) (λ e. waits rules walk w v q z)
+    pick-either (Carries rules walk w v) (ltb room lineRoom) (λ e. waits rules walk w v q z)
     (λ e. carries-item rules walk w v q z (nextPiece (walk .at .at) w last) room _
     (λ m. subst (Says (walk .at .at) (w ++ v)) (follows (walk .at .at) w v last _ l refl m)
     (next-says (walk .at .at) (w ++ v)))
@@ -186,5 +186,5 @@ pub take-carries : (walk : Walk) (w v : List ℕ) (last : Bool) (room : ℕ) →
 unfolding takeOf
 take-carries walk w v last room l z =
     let rules = rulesOf (walk .state .numbers) in
-    pick-either (Carries rules walk w v) (ltb room 256) (λ e. waits rules walk w v refl z)
+    pick-either (Carries rules walk w v) (ltb room lineRoom) (λ e. waits rules walk w v refl z)
     (λ e. rw (of-sound (walk .state) (z .sound)) (carries-walk _ rules walk w v last room l refl z))

@@ -14,6 +14,8 @@ use Rattle.record.specs.declared.Next.{Next}
 use Rattle.record.specs.declared.Next.the-variants.{Packet, End, More, Refused}
 use Rattle.record.specs.declared.Head.{Head}
 use Rattle.record.specs.declared.Head.the-variants as head
+use Rattle.record.specs.Paper.{headBytes}
+use Rattle.text.specs.Lines.{lineRoom}
 use Rattle.record.specs.Step.{headPiece, nextPiece}
 use Rattle.record.specs.Pieces.{headWaits}
 use Rattle.record.proofs.Saying.{SaysHead, head-says}
@@ -36,7 +38,7 @@ walk-inside : (k : ℕ) (rules : Rules) (walk : Walk) (w : List ℕ) (last : Boo
 unfolding walkBy
 walk-inside zero rules walk w last room = omega arith
 walk-inside (suc k) rules walk w last room =
-    pick-either (Inside w) (ltb room 256) (λ e. omega arith)
+    pick-either (Inside w) (ltb room lineRoom) (λ e. omega arith)
     (λ e. go (nextPiece (walk .at .at) w last) refl (λ next left. walk-inside k rules next (drop 16 w) last left))
   where
     go : (r : Next) → nextPiece (walk .at .at) w last ≡ r
@@ -58,13 +60,13 @@ walk-inside (suc k) rules walk w last room =
 pub take-inside : (walk : Walk) (w : List ℕ) (last : Bool) (room : ℕ) → takeOf walk w last room .used ≤ length w
 unfolding takeOf
 take-inside walk w last room =
-    pick-either (Inside w) (ltb room 256) (λ e. omega arith)
+    pick-either (Inside w) (ltb room lineRoom) (λ e. omega arith)
     (λ e. pick-either (Inside w) (inRange (walk .state))
     (λ f. walk-inside _ (rulesOf (walk .state .numbers)) walk w last room) (λ f. omega arith))
 
 -- a walk begins where the window shows the version byte and the parameters
 
-ready-headed : (x : Parameters) (c : Cursor) (bytes : ℕ) → 19 ≤ bytes → Headed (readyOf x c) bytes
+ready-headed : (x : Parameters) (c : Cursor) (bytes : ℕ) → headBytes ≤ bytes → Headed (readyOf x c) bytes
 unfolding readyOf
 ready-headed x c bytes h = go (setUpAs (ofParameters x))
   where

@@ -9,9 +9,10 @@ use native.Mathlib.Omega.{arith}
 use lib.ListN.{length, drop, getD, length-drop}
 use Rattle.laws.specs.Choose.{pick}
 use Rattle.record.specs.declared.Next.the-variants.{More}
+use Rattle.record.specs.Paper.{headBytes}
 use Rattle.record.specs.Step.{nextPiece}
 use Rattle.record.proofs.InPieces.{last-answers, window-suffices}
-use Rattle.text.specs.Lines.{summaryLine, refusalLine}
+use Rattle.text.specs.Lines.{lineRoom, summaryLine, refusalLine}
 use Rattle.timing.specs.declared.State.{State}
 use Rattle.timing.specs.Step.{rulesOf}
 use Rattle.timing.specs.Answers.{answersOf, verdictOf}
@@ -95,50 +96,50 @@ prints-output (walked w v last walk s e d) =
 -- ---- and it comes to that
 
 -- a call with room for a line ends or takes a record, if its window is the last or has 65,537 bytes
-pub moves-last : (walk : Walk) (w : List ℕ) (room : ℕ) → 256 ≤ room → takeOf walk w true room .ended ≡ false
+pub moves-last : (walk : Walk) (w : List ℕ) (room : ℕ) → lineRoom ≤ room → takeOf walk w true room .ended ≡ false
     → 0 < takeOf walk w true room .used
 moves-last walk w room h e = take-moves walk w true room h (last-answers (walk .at .at) w) e
 
-pub moves-full : (walk : Walk) (w : List ℕ) (last : Bool) (room : ℕ) → 256 ≤ room → ((i : ℕ) → getD w i 0 < 256) → 65537 ≤ length w
+pub moves-full : (walk : Walk) (w : List ℕ) (last : Bool) (room : ℕ) → lineRoom ≤ room → ((i : ℕ) → getD w i 0 < 256) → 65537 ≤ length w
     → takeOf walk w last room .ended ≡ false → 0 < takeOf walk w last room .used
 moves-full walk w last room h b l e = take-moves walk w last room h (window-suffices (walk .at .at) w last b l) e
 
 -- a call that does neither had no room for a line or wanted more bytes
 pub stuck-why : (walk : Walk) (w : List ℕ) (last : Bool) (room : ℕ) → takeOf walk w last room .ended ≡ false
-    → takeOf walk w last room .used ≡ 0 → (room < 256) ⊎ (nextPiece (walk .at .at) w last ≡ More)
+    → takeOf walk w last room .used ≡ 0 → (room < lineRoom) ⊎ (nextPiece (walk .at .at) w last ≡ More)
 stuck-why walk w last room = take-stuck walk w last room
 
 -- so from every walk that a file leads to, calls go through whatever rest of a file there is
 driven : (n : ℕ) (walk : Walk) (rest : List ℕ) → length rest < n → Stands walk → Drives walk rest (restFrom walk rest)
 driven zero walk rest h z = absurd (omega arith)
 driven (suc n) walk rest h z =
-    go (takeOf walk rest true 256 .ended) refl
-    (driven n (takeOf walk rest true 256 .walk) (drop (takeOf walk rest true 256 .used) rest ++ []))
+    go (takeOf walk rest true lineRoom .ended) refl
+    (driven n (takeOf walk rest true lineRoom .walk) (drop (takeOf walk rest true lineRoom .used) rest ++ []))
   where
     whole : Shows rest rest [] true
     whole = record { all = sym (append-nil rest); ends = λ e. refl }
 
-    stands : Stands (takeOf walk rest true 256 .walk)
-    stands = take-stands walk rest [] true 256 z (λ e. refl)
+    stands : Stands (takeOf walk rest true lineRoom .walk)
+    stands = take-stands walk rest [] true lineRoom z (λ e. refl)
 
-    go : (t : Bool) → takeOf walk rest true 256 .ended ≡ t
-        → (length (drop (takeOf walk rest true 256 .used) rest ++ []) < n → Stands (takeOf walk rest true 256 .walk)
-        → Drives (takeOf walk rest true 256 .walk) (drop (takeOf walk rest true 256 .used) rest ++ [])
-        (restFrom (takeOf walk rest true 256 .walk) (drop (takeOf walk rest true 256 .used) rest ++ [])))
+    go : (t : Bool) → takeOf walk rest true lineRoom .ended ≡ t
+        → (length (drop (takeOf walk rest true lineRoom .used) rest ++ []) < n → Stands (takeOf walk rest true lineRoom .walk)
+        → Drives (takeOf walk rest true lineRoom .walk) (drop (takeOf walk rest true lineRoom .used) rest ++ [])
+        (restFrom (takeOf walk rest true lineRoom .walk) (drop (takeOf walk rest true lineRoom .used) rest ++ [])))
         → Drives walk rest (restFrom walk rest)
     go true e on =
-        last-call rest [] true 256 whole e
-        (ap (restFrom walk) (sym (append-nil rest)) ∙ sym (take-ended walk rest [] true 256 z (λ f. refl) e))
+        last-call rest [] true lineRoom whole e
+        (ap (restFrom walk) (sym (append-nil rest)) ∙ sym (take-ended walk rest [] true lineRoom z (λ f. refl) e))
     go false e on =
-        let used = takeOf walk rest true 256 .used in
+        let used = takeOf walk rest true lineRoom .used in
         let less : length (drop used rest ++ []) < n = rw append-nil (omega (
           arith,
-          moves-last walk rest 256 (omega arith) e,
-          take-inside walk rest true 256,
+          moves-last walk rest lineRoom (omega arith) e,
+          take-inside walk rest true lineRoom,
           length-drop used rest,
         )) in
-        call rest [] true 256 _ whole e
-        (ap (restFrom walk) (sym (append-nil rest)) ∙ sym (take-goes-on walk rest [] true 256 z (λ f. refl) e)) (on less stands)
+        call rest [] true lineRoom _ whole e
+        (ap (restFrom walk) (sym (append-nil rest)) ∙ sym (take-goes-on walk rest [] true lineRoom z (λ f. refl) e)) (on less stands)
 
 pub rest-driven : (walk : Walk) (rest : List ℕ) → Stands walk → Drives walk rest (restFrom walk rest)
 rest-driven walk rest z = driven (suc (length rest)) walk rest (omega arith) z
@@ -159,4 +160,4 @@ file-printed file = go (beginOf file true) refl (begin-tells file [] true (λ e.
     go (Ready walk) e t =
         let u = subst (Tells file []) e t in
         walked file [] true walk whole e
-        (subst (Drives walk (drop 19 file ++ [])) (sym (output ∙ u .1)) (rest-driven walk (drop 19 file ++ []) (u .0)))
+        (subst (Drives walk (drop headBytes file ++ [])) (sym (output ∙ u .1)) (rest-driven walk (drop headBytes file ++ []) (u .0)))

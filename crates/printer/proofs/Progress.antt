@@ -13,6 +13,8 @@ use Rattle.laws.specs.Choose.{pick-either, false-true}
 use Rattle.packet.specs.Step.{numberOf}
 use Rattle.record.specs.declared.Next.{Next}
 use Rattle.record.specs.declared.Next.the-variants.{Packet, End, More, Refused}
+use Rattle.record.specs.Paper.{packetBytes}
+use Rattle.text.specs.Lines.{lineRoom}
 use Rattle.record.specs.Step.{nextPiece}
 use Rattle.record.specs.Pieces.{wantsMore}
 use Rattle.timing.specs.declared.Rules.{Rules}
@@ -23,7 +25,7 @@ use Rattle.printer.specs.Step.{Took, itemBy, walkBy, takeOf}
 
 module _ (walk : Walk) (w : List ℕ) (last : Bool) (room : ℕ) where
   Stuck : Took → Type 0
-  Stuck k = k .ended ≡ false → k .used ≡ 0 → (room < 256) ⊎ (nextPiece (walk .at .at) w last ≡ More)
+  Stuck k = k .ended ≡ false → k .used ≡ 0 → (room < lineRoom) ⊎ (nextPiece (walk .at .at) w last ≡ More)
 
   stuck-item : (rules : Rules) (on : Walk → ℕ → Took) (r : Next) → nextPiece (walk .at .at) w last ≡ r → Stuck (itemBy rules walk room on r)
   unfolding Stuck
@@ -35,22 +37,22 @@ module _ (walk : Walk) (w : List ℕ) (last : Bool) (room : ℕ) where
   stuck-item rules on (Refused n o size) e f u = absurd (false-true (sym f))
 
   pub take-stuck : takeOf walk w last room .ended ≡ false → takeOf walk w last room .used ≡ 0
-      → (room < 256) ⊎ (nextPiece (walk .at .at) w last ≡ More)
+      → (room < lineRoom) ⊎ (nextPiece (walk .at .at) w last ≡ More)
   unfolding Stuck takeOf walkBy
   take-stuck =
       let rules = rulesOf (walk .state .numbers) in
-      pick-either Stuck (ltb room 256) (λ e f u. inl (ltb-true room 256 e))
+      pick-either Stuck (ltb room lineRoom) (λ e f u. inl (ltb-true room lineRoom e))
       (λ e. pick-either Stuck (inRange (walk .state))
-      (λ g. pick-either Stuck (ltb room 256) (λ h f u. inl (ltb-true room 256 h))
-      (λ h. stuck-item rules (λ next left. walkBy (length w / 16) rules next (drop 16 w) last left) (nextPiece (walk .at .at) w last) refl))
+      (λ g. pick-either Stuck (ltb room lineRoom) (λ h f u. inl (ltb-true room lineRoom h))
+      (λ h. stuck-item rules (λ next left. walkBy (length w / packetBytes) rules next (drop 16 w) last left) (nextPiece (walk .at .at) w last) refl))
       (λ g f u. absurd (false-true (sym f))))
 
   -- so with room for a line, and a window that is not answered More, it goes on
-  pub take-moves : 256 ≤ room → wantsMore (nextPiece (walk .at .at) w last) ≡ false → takeOf walk w last room .ended ≡ false
+  pub take-moves : lineRoom ≤ room → wantsMore (nextPiece (walk .at .at) w last) ≡ false → takeOf walk w last room .ended ≡ false
       → 0 < takeOf walk w last room .used
   take-moves h m e = go (ℕ-discrete (takeOf walk w last room .used) 0)
     where
-      stops : (room < 256) ⊎ (nextPiece (walk .at .at) w last ≡ More) → ⊥
+      stops : (room < lineRoom) ⊎ (nextPiece (walk .at .at) w last ≡ More) → ⊥
       stops (inl l) = omega arith
       stops (inr l) = false-true (sym m ∙ ap wantsMore l)
 

@@ -19,6 +19,7 @@ use Rattle.record.specs.declared.Cursor.{Cursor}
 use Rattle.record.specs.declared.Next.{Next}
 use Rattle.record.proofs.Next.{the-type}
 use Rattle.record.specs.declared.Next.the-variants.{Packet, End, More, Refused}
+use Rattle.record.specs.Paper.{packetBytes}
 use Rattle.record.specs.Step.{nextPiece}
 use Rattle.record.specs.Pieces.{taken, wantsMore}
 use Rattle.record.proofs.Window.{read-within}
@@ -37,9 +38,9 @@ use Rattle.printer.specs.Step.{Took, stays, stopsAt, andThen, stepped, l
 
 -- ---- what a window's answer says of the window
 
--- a packet's record has 16 bytes
+-- a packet's record is all there
 pub piece-sixteen : (at : ℕ) (w : List ℕ) (last : Bool) {p : packet.Packet} {c : Cursor} → nextPiece at w last ≡ Packet p c
-    → 16 ≤ length w
+    → packetBytes ≤ length w
 piece-sixteen at w last e =
     let i = sym (piece-alone at w last (ap wantsMore e)) ∙ e in
     subst (λ (r : Next). taken r ≤ length w) i (read-within at w .1)
@@ -53,7 +54,7 @@ module _ (rules : Rules) (walk : Walk) (w : List ℕ) (last : Bool) (room : ℕ)
 
   module _ (h : lineRoom ≤ room) where
     onward : Walk → ℕ → Took
-    onward next left = walkBy (length w / 16) rules next (drop 16 w) last left
+    onward next left = walkBy (length w / packetBytes) rules next (drop 16 w) last left
 
     walk-item : (r : Next) → nextPiece (walk .at .at) w last ≡ r → walkOf rules walk w last room ≡ itemBy rules walk room onward r
     unfolding walkBy onward
@@ -71,10 +72,10 @@ module _ (rules : Rules) (walk : Walk) (w : List ℕ) (last : Bool) (room : ℕ)
 
     module _ {p : packet.Packet} {c : Cursor} (e : nextPiece (walk .at .at) w last ≡ Packet p c) where
       pub walk-refuses : (n : ℕ) → n ≡ numberOf (walk .state .past) p → (n ≡ 0 → ⊥)
-          → walkOf rules walk w last room ≡ stopsAt (Refused n (walk .at .at) 16) walk
+          → walkOf rules walk w last room ≡ stopsAt (Refused n (walk .at .at) packetBytes) walk
       walk-refuses n f some = walk-item _ e ∙ rw (← f, ne-eqb n 0 some)
 
-      fuel : length w / 16 ≡ suc (length (drop 16 w) / 16)
+      fuel : length w / packetBytes ≡ suc (length (drop 16 w) / packetBytes)
       fuel = let s = piece-sixteen (walk .at .at) w last e in omega (arith, length-drop 16 w)
 
       pub walk-goes : 0 ≡ numberOf (walk .state .past) p
@@ -140,7 +141,7 @@ loop-begins rules walk w last out =
 
 module _ {k₀ : Took} {out₀ : List ℕ} {used written : ℕ} {out : List ℕ} where
   loop-on : {lines : List ℕ} {k : Took} {written′ : ℕ} {out′ : List ℕ} → Loop k₀ out₀ (andThen 16 lines k) used written out
-      → Put lines written out written′ out′ → Loop k₀ out₀ k (used + 16) written′ out′
+      → Put lines written out written′ out′ → Loop k₀ out₀ k (used + packetBytes) written′ out′
   loop-on l p = record {
     walk-same = l .walk-same;
     used-same = omega (arith, l .used-same);
@@ -169,12 +170,12 @@ module _ {k₀ : Took} {out₀ : List ℕ} {used written : ℕ} {out : List ℕ}
       (l : Loop k₀ out₀ (walkOf rules walk (drop used w) last (length out - written)) used written out)
       (h : lineRoom ≤ length out - written) (e : nextPiece (walk .at .at) (drop used w) last ≡ Packet p c)
       (f : 0 ≡ numberOf (walk .state .past) p) where
-    pub next-inside : used ≤ length w → used + 16 ≤ length w
+    pub next-inside : used ≤ length w → used + packetBytes ≤ length w
     next-inside u = omega (arith, piece-sixteen _ _ _ e, length-drop used w)
 
     loop-next : {s′ : State} {written′ : ℕ} {out′ : List ℕ} → Turn as-lines rules (walk .state) p written out s′ written′ out′
-        → Loop k₀ out₀ (walkOf rules (record { at = c; state = s′ }) (drop (used + 16) w) last (length out′ - written′))
-        (used + 16) written′ out′
+        → Loop k₀ out₀ (walkOf rules (record { at = c; state = s′ }) (drop (used + packetBytes) w) last (length out′ - written′))
+        (used + packetBytes) written′ out′
     loop-next {s′} {written′} {out′} q =
         let lines = linesAt rules walk p in
         let left : length out - written - length lines ≡ length out′ - written′ = omega (arith, put-length (q .put), q .put .next) in
@@ -184,8 +185,8 @@ module _ {k₀ : Took} {out₀ : List ℕ} {used written : ℕ} {out : List ℕ}
     -- and all that a turn leaves to the next
     pub next-turn : {s′ : State} {written′ : ℕ} {out′ : List ℕ} → Going rules (walk .state) → used ≤ length w
         → Turn as-lines rules (walk .state) p written out s′ written′ out′ × (written′ ≤ length out)
-        → Loop k₀ out₀ (walkOf rules (record { at = c; state = s′ }) (drop (used + 16) w) last (length out′ - written′))
-        (used + 16) written′ out′ × Going rules s′ × (used + 16 ≤ length w) × (written′ ≤ length out′)
+        → Loop k₀ out₀ (walkOf rules (record { at = c; state = s′ }) (drop (used + packetBytes) w) last (length out′ - written′))
+        (used + packetBytes) written′ out′ × Going rules s′ × (used + packetBytes ≤ length w) × (written′ ≤ length out′)
     next-turn g u q =
         let t = q .0 in (
           loop-next t,

@@ -4,6 +4,7 @@ use mathlib.Core.Bool.{Bool, true, false}
 use mathlib.Core.List.{List, [], _++_}
 use Prim.Native.Nat.{ℕ, _+_, _*_}
 use lib.ListN.{drop}
+use Rattle.record.specs.Paper.{packetBytes, headBytes}
 use Rattle.text.specs.Lines.{refusalLine}
 use Rattle.timing.specs.Step.{rulesOf}
 use Rattle.timing.specs.Range.{Sound}
@@ -15,7 +16,7 @@ use Rattle.printer.specs.Step.{beginOf, takeOf}
 -- a walk that a file can lead to: a state in range, and an offset that its packets account for
 pub record Stands (walk : Walk) : Type 0 where
   pub sound : Sound (walk .state)
-  pub offset : walk .at .at ≡ 19 + 16 * walk .state .past .packets
+  pub offset : walk .at .at ≡ headBytes + packetBytes * walk .state .past .packets
 
 -- what is still to be printed of the rest of a file, from a walk on
 abbrev pub restFrom : Walk → List ℕ → List ℕ
@@ -39,4 +40,4 @@ pub data Prints : List ℕ → List ℕ → Type 0 where
   refused : {file text : List ℕ} (w v : List ℕ) (last : Bool) (number offset : ℕ) → Shows file w v last
       → beginOf w last ≡ Refused number offset → text ≡ refusalLine number offset → Prints file text
   walked : {file text : List ℕ} (w v : List ℕ) (last : Bool) (walk : Walk) → Shows file w v last → beginOf w last ≡ Ready walk
-      → Drives walk (drop 19 w ++ v) text → Prints file text
+      → Drives walk (drop headBytes w ++ v) text → Prints file text

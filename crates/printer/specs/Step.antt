@@ -16,6 +16,7 @@ use Rattle.record.specs.declared.Head.{Head}
 use Rattle.record.specs.declared.Head.the-variants as head
 use Rattle.record.specs.declared.Next.{Next}
 use Rattle.record.specs.declared.Next.the-variants.{Packet, End, More, Refused}
+use Rattle.record.specs.Paper.{packetBytes, headBytes}
 use Rattle.record.specs.Step.{headPiece, nextPiece}
 use Rattle.record.specs.Pieces.{wantsMore}
 use Rattle.timing.specs.declared.Rules.{Rules}
@@ -64,7 +65,7 @@ openedOffset (Opens walk) = 0
 abbrev pub Headed : Opened → ℕ → Type 0
 Headed Wanting bytes = Unit
 Headed (Unopened number offset) bytes = Unit
-Headed (Opens walk) bytes = 19 ≤ bytes
+Headed (Opens walk) bytes = headBytes ≤ bytes
 
 -- ---- a piece
 
@@ -105,7 +106,7 @@ abbrev pub packetBy : Rules → Walk → ℕ → (Walk → ℕ → Took) → pac
 packetBy rules walk room on p c =
     pick (eqb (numberOf (walk .state .past) p) 0)
     (andThen 16 (linesAt rules walk p) (on (stepped rules walk p c) (room - length (linesAt rules walk p))))
-    (stopsAt (Refused (numberOf (walk .state .past) p) (walk .at .at) 16) walk)
+    (stopsAt (Refused (numberOf (walk .state .past) p) (walk .at .at) packetBytes) walk)
 
 abbrev pub itemBy : Rules → Walk → ℕ → (Walk → ℕ → Took) → Next → Took
 itemBy rules walk room on (Packet p c) = packetBy rules walk room on p c
@@ -120,9 +121,9 @@ walkBy (suc k) rules walk w last room =
     pick (ltb room lineRoom) (stays walk)
     (itemBy rules walk room (λ next left. walkBy k rules next (drop 16 w) last left) (nextPiece (walk .at .at) w last))
 
--- a packet takes 16 bytes, so that this many turns are enough
+-- a packet takes bytes, so that this many turns are enough
 abbrev pub walkOf : Rules → Walk → List ℕ → Bool → ℕ → Took
-walkOf rules walk w last room = walkBy (suc (length w / 16)) rules walk w last room
+walkOf rules walk w last room = walkBy (suc (length w / packetBytes)) rules walk w last room
 
 -- a call: no room for a line; 9 for a state that is not in range; else record by record
 unfoldable pub takeOf : Walk → List ℕ → Bool → ℕ → Took

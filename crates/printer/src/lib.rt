@@ -7,6 +7,7 @@ ghost use Prim.Native.Nat.{_+_, _≤_};
 ghost use lib.ListN.{length};
 ghost use Rattle.text.specs.Lines.{lineRoom, Line};
 ghost use Rattle.record.specs.declared.Next.the-variants.{Refused};
+ghost use Rattle.record.specs.Paper.{packetBytes};
 ghost use Rattle.record.specs.Pieces.{wantsMore};
 ghost use Rattle.timing.specs.Feed.{closing, Going};
 ghost use Rattle.printer.specs.Paper.{rowLines, sumLine};
@@ -15,6 +16,7 @@ use limits::Parameters;
 use record::Cursor;
 use record::Head;
 use record::Next;
+use record::PACKET_BYTES;
 use text::LINE;
 use timing::Judged;
 use timing::Rules;
@@ -22,16 +24,13 @@ use timing::SetUp;
 use timing::State;
 use timing::StreamNumbers;
 
-// A packet's record, its length included.
-const PACKET: usize = 16;
-
 // Where the reader stands, and what was measured up to there.
 pub struct Walk {
     pub at: Cursor,
     pub state: State,
 }
 
-// The start of a file: more bytes are wanted; its refusal; or the walk after its first 19 bytes.
+// The start of a file: more bytes are wanted; its refusal; or the walk after its head.
 pub enum Opened {
     More,
     Refused { number: u8, offset: u64 },
@@ -85,12 +84,12 @@ pub fn begin(window: &[u8], last: bool) -> Opened
 
 // A packet that is refused ends the reading as a refused record does, at its own offset.
 fn refused(number: u8, at: Cursor) -> Next
-    ensures { λ r. ⌜ r ≡ Refused number (at .at) 16 ⌝ }
+    ensures { λ r. ⌜ r ≡ Refused number (at .at) packetBytes ⌝ }
 {
     Next::Refused {
         number: number,
         offset: at.at,
-        size: 16,
+        size: PACKET_BYTES as u64,
     }
 }
 
@@ -208,7 +207,7 @@ impl Walk {
                 s = s.mark(rules, packet.time);
             }
             at = next;
-            used += PACKET;
+            used += PACKET_BYTES;
         }
         Taken {
             walk: Walk { at: at, state: s },

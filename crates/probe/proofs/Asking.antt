@@ -19,6 +19,8 @@ use Rattle.packet.specs.declared.Packet.{Packet}
 use Rattle.packet.specs.Paper.{packets}
 use Rattle.packet.specs.Step.{scannedOf}
 use Rattle.timing.specs.declared.State.{State}
+use Rattle.frame.specs.Step.{rowWidth}
+use Rattle.timing.specs.Answers.{summaryWidth}
 use Rattle.timing.specs.Step.{rulesOf, stateAfter}
 use Rattle.timing.specs.Range.{inRange}
 use Rattle.timing.specs.Feed.{Outcome, refusedBy, acceptedAs, byScan, feedOf}
@@ -31,7 +33,7 @@ use Rattle.probe.specs.Calls.{refused, accepted, byFed, byHeld, callOf, 
 -- ---- by what is found
 
 abbrev byRoom : (room space packets closed : ℕ) → Answer
-byRoom room space packets closed = pick (leb (closed * 10) room && leb 9 space) (answer 0 0) (answer 15 packets)
+byRoom room space packets closed = pick (leb (closed * rowWidth) room && leb summaryWidth space) (answer 0 0) (answer 15 packets)
 
 abbrev byScanned : (room space packets : ℕ) → Scanned → Answer
 byScanned room space packets (Fine closed) = byRoom room space packets closed
@@ -61,14 +63,14 @@ module _ (ts ss ms : List ℕ) where
 
       enough : (s : State) (l : List Packet) (a : Bool)
           → fed words rows out s (pick a (acceptedAs s rows l) (refusedBy s rows 15 (s .past .packets)))
-          ≡ pick (a && leb 9 (length out)) (answer 0 0) (answer 15 (s .past .packets))
-      enough s l true = room (s .past .packets) (stateAfter (rulesOf (s .numbers)) s l) (acceptedAs s rows l .rows) (leb 9 (length out))
+          ≡ pick (a && leb summaryWidth (length out)) (answer 0 0) (answer 15 (s .past .packets))
+      enough s l true = room (s .past .packets) (stateAfter (rulesOf (s .numbers)) s l) (acceptedAs s rows l .rows) (leb summaryWidth (length out))
       enough s l false = refl
 
       found : (s : State) (b : Bool) (x : Scanned)
           → fed words rows out s (pick b (byScan s rows x (packets ts ss ms)) (refusedBy s rows 9 0))
           ≡ pick b (byScanned (length rows) (length out) (s .past .packets) x) (answer 9 0)
-      found s true (Fine closed) = enough s (packets ts ss ms) (leb (closed * 10) (length rows))
+      found s true (Fine closed) = enough s (packets ts ss ms) (leb (closed * rowWidth) (length rows))
       found s true (Refused r) = refl
       found s false x = refl
 
@@ -114,20 +116,20 @@ module _ (ts ss ms : List ℕ) where
           fine : byRoom room space (s .past .packets) closed ≡ askedOf words ts ss ms room space
           fine = sym (rw q) ∙ in-turn
 
-          pub asked-short : (room / 10 < closed) ⊎ (space < 9) → answer 15 (s .past .packets) ≡ askedOf words ts ss ms room space
+          pub asked-short : (room / rowWidth < closed) ⊎ (space < summaryWidth) → answer 15 (s .past .packets) ≡ askedOf words ts ss ms room space
           asked-short h = sym (go h) ∙ fine
             where
-              go : (room / 10 < closed) ⊎ (space < 9) → byRoom room space (s .past .packets) closed ≡ answer 15 (s .past .packets)
+              go : (room / rowWidth < closed) ⊎ (space < summaryWidth) → byRoom room space (s .past .packets) closed ≡ answer 15 (s .past .packets)
               go (inl l) =
-                  let few : room < closed * 10 = div-lt-iff-lt-mul {k = 10} {x = room} {y = closed} (omega arith) .0 l in
-                  rw (lt-leb (closed * 10) room few)
-              go (inr l) = rw (lt-leb 9 space l) (either (leb (closed * 10) room))
+                  let few : room < closed * rowWidth = div-lt-iff-lt-mul {k = rowWidth} {x = room} {y = closed} (omega arith) .0 l in
+                  rw (lt-leb (closed * rowWidth) room few)
+              go (inr l) = rw (lt-leb summaryWidth space l) (either (leb (closed * rowWidth) room))
                 where
                   either : (b : Bool) → pick (b && false) (answer 0 0) (answer 15 (s .past .packets)) ≡ answer 15 (s .past .packets)
                   either true = refl
                   either false = refl
 
-          pub asked-done : closed ≤ room / 10 → 9 ≤ space → answer 0 0 ≡ askedOf words ts ss ms room space
+          pub asked-done : closed ≤ room / rowWidth → summaryWidth ≤ space → answer 0 0 ≡ askedOf words ts ss ms room space
           asked-done l k =
-              let enough : closed * 10 ≤ room = le-div-iff-mul-le {k = 10} {x = closed} {y = room} (omega arith) .0 l in
-              sym (rw (le-leb (closed * 10) room enough, le-leb 9 space k)) ∙ fine
+              let enough : closed * rowWidth ≤ room = le-div-iff-mul-le {k = rowWidth} {x = closed} {y = room} (omega arith) .0 l in
+              sym (rw (le-leb (closed * rowWidth) room enough, le-leb summaryWidth space k)) ∙ fine

@@ -14,7 +14,7 @@ use Rattle.timing.specs.declared.State.{State}
 use Rattle.timing.specs.declared.Fed.{Fed}
 use Rattle.timing.specs.declared.Fed.the-variants.{Accepted, Refused}
 use Rattle.timing.specs.Step.{setUpOf, freshOf}
-use Rattle.timing.specs.Answers.{summaryOf}
+use Rattle.timing.specs.Answers.{summaryWidth, summaryOf}
 use Rattle.timing.specs.Feed.{feedOf, Is}
 use Rattle.timing.specs.Laws.Answering.{set-up-then}
 use Rattle.timing.specs.Demands.{refusal-changes-nothing}
@@ -75,14 +75,14 @@ module _ (words : List ℕ) (rows : List ℤ) (out ts ss ms : List ℕ) where
   no-state e f = is (refused words rows out 9 0) (by-held (sym f ∙ e))
 
   -- where there is no room for the summary the call is refused, whatever the words hold
-  short : length out < 9 → callOf words rows out ts ss ms
+  short : length out < summaryWidth → callOf words rows out ts ss ms
       ≡ refused words rows out (callOf words rows out ts ss ms .number) (callOf words rows out ts ss ms .place)
   unfolding callOf
   short h = go (heldBy (take 32 words))
     where
       fed : (s : State) (b : Fed) (after : List ℤ) → byFed words rows out s b after
           ≡ refused words rows out (byFed words rows out s b after .number) (byFed words rows out s b after .place)
-      fed s (Accepted t) after = rw (lt-leb 9 (length out) h)
+      fed s (Accepted t) after = rw (lt-leb summaryWidth (length out) h)
       fed s (Refused number place t) after = refl
 
       go : (x : Held) → byHeld words rows out ts ss ms x
@@ -90,7 +90,7 @@ module _ (words : List ℕ) (rows : List ℤ) (out ts ss ms : List ℕ) where
       go (Known s) = fed s (feedOf s rows ts ss ms .answer) (feedOf s rows ts ss ms .rows)
       go Nothing = refl
 
-  pub no-summary : {a : Answer} → length out < 9 → a ≡ askedOf words ts ss ms (length rows) (length out)
+  pub no-summary : {a : Answer} → length out < summaryWidth → a ≡ askedOf words ts ss ms (length rows) (length out)
       → Feeds (callOf words rows out ts ss ms) (a .number) words rows out
   no-summary h e =
       let told = callOf words rows out ts ss ms in
@@ -114,11 +114,11 @@ module _ (words : List ℕ) (rows : List ℤ) (out ts ss ms : List ℕ) where
         let r = is (refused words rows out k place) told in
         record { number-is = r .number-is; words-are = r .words-are; rows-are = g .rows-are ∙ stays .1 ∙ r .rows-are; out-is = r .out-is }
 
-    pub call-accepted : {t : State} {words′ out′ : List ℕ} → b ≡ Accepted t → 9 ≤ length out → words′ ≡ sets words 0 (wordsOf t)
+    pub call-accepted : {t : State} {words′ out′ : List ℕ} → b ≡ Accepted t → summaryWidth ≤ length out → words′ ≡ sets words 0 (wordsOf t)
         → out′ ≡ sets out 0 (summaryOf t) → Feeds (callOf words rows out ts ss ms) 0 words′ after out′
     call-accepted {t} q room w o =
         let now = accepted words rows out t (feedOf s rows ts ss ms .rows) in
-        let enough : byFed words rows out s (Accepted t) (feedOf s rows ts ss ms .rows) ≡ now = rw (le-leb 9 (length out) room) in
+        let enough : byFed words rows out s (Accepted t) (feedOf s rows ts ss ms .rows) ≡ now = rw (le-leb summaryWidth (length out) room) in
         let told = sym enough ∙ ap (λ (z : Fed). byFed words rows out s z (feedOf s rows ts ss ms .rows)) (sym q) ∙ by-fed in
         let r = is now told in
         record {

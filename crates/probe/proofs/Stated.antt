@@ -20,7 +20,7 @@ use Rattle.timing.specs.declared.State.{State}
 use Rattle.timing.specs.declared.Fed.{Fed}
 use Rattle.timing.specs.declared.Fed.the-variants.{Accepted, Refused}
 use Rattle.timing.specs.Step.{setUpOf, rulesOf, freshOf, stateAfter, rowsAfter, numbers}
-use Rattle.timing.specs.Answers.{fedNumber, fedPlace}
+use Rattle.timing.specs.Answers.{summaryWidth, fedNumber, fedPlace}
 use Rattle.timing.specs.Feed.{Outcome, feedOf, Call, allOf, writes, Deals, none, call, Rooms}
 use Rattle.timing.specs.Laws.Answering.{set-up-then}
 use Rattle.timing.specs.Laws.Feeding.{accepted-from}
@@ -64,7 +64,7 @@ module _ (words : List ℕ) (rows : List ℤ) (out ts ss ms : List ℕ) where
 
       fed : (s : State) (b : Fed) (after : List ℤ) → (byFed words rows out s b after .number ≡ 0 → ⊥)
           → Unchanged (byFed words rows out s b after)
-      fed s (Accepted t) after n = room (s .past .packets) t after (leb 9 (length out)) n
+      fed s (Accepted t) after n = room (s .past .packets) t after (leb summaryWidth (length out)) n
       fed s (Refused number place t) after n = (refl, refl, refl)
 
       go : (h : Held) → (byHeld words rows out ts ss ms h .number ≡ 0 → ⊥) → Unchanged (byHeld words rows out ts ss ms h)
@@ -77,7 +77,7 @@ module _ (words : List ℕ) (rows : List ℤ) (out ts ss ms : List ℕ) where
   unfolding callOf
   no-state-9 e = rw e (refl, refl)
 
-  module _ (s : State) (e : heldBy (take 32 words) ≡ Known s) (nine : 9 ≤ length out) where
+  module _ (s : State) (e : heldBy (take 32 words) ≡ Known s) (nine : summaryWidth ≤ length out) where
     -- with room for the summary, number and place are those of `feed` from the state that the words hold
     pub as-fed : (callOf words rows out ts ss ms .number ≡ fedNumber (feedOf s rows ts ss ms .answer))
         × (callOf words rows out ts ss ms .place ≡ fedPlace (feedOf s rows ts ss ms .answer))
@@ -86,14 +86,14 @@ module _ (words : List ℕ) (rows : List ℤ) (out ts ss ms : List ℕ) where
       where
         go : (b : Fed) (after : List ℤ) → (byFed words rows out s b after .number ≡ fedNumber b)
             × (byFed words rows out s b after .place ≡ fedPlace b)
-        go (Accepted t) after = rw (le-leb 9 (length out) nine) (refl, refl)
+        go (Accepted t) after = rw (le-leb summaryWidth (length out) nine) (refl, refl)
         go (Refused number place t) after = (refl, refl)
 
     -- and where it accepts: its state's words, its rows, and the nine numbers of that state
     pub as-accepted : (t : State) (after : List ℤ) → feedOf s rows ts ss ms ≡ record { answer = Accepted t; rows = after }
         → callOf words rows out ts ss ms ≡ accepted words rows out t after
     unfolding callOf
-    as-accepted t after f = rw (e, f, le-leb 9 (length out) nine)
+    as-accepted t after f = rw (e, f, le-leb summaryWidth (length out) nine)
 
 -- ---- call after call
 
@@ -116,7 +116,7 @@ asCall c = record { packets = lentPackets c; rows = c .rows }
 pub record Whole (c : Lent) : Type 0 where
   pub one-length : OneLength (c .ts) (c .ss) (c .ms)
   pub stamped : Stamped (lentPackets c)
-  pub nine : 9 ≤ length (c .out)
+  pub nine : summaryWidth ≤ length (c .out)
 
 unfoldable pub AllWhole : List Lent → Type 0
 AllWhole [] = Unit

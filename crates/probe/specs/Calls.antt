@@ -12,7 +12,7 @@ use Rattle.timing.specs.declared.State.{State}
 use Rattle.timing.specs.declared.Fed.{Fed}
 use Rattle.timing.specs.declared.Fed.the-variants.{Accepted, Refused}
 use Rattle.timing.specs.Step.{freshOf}
-use Rattle.timing.specs.Answers.{setUpAs, setUpNumber, summaryWith, summaryOf}
+use Rattle.timing.specs.Answers.{summaryWidth, setUpAs, setUpNumber, summaryWith, summaryOf}
 use Rattle.timing.specs.Feed.{feedOf}
 use Rattle.probe.specs.declared.Answer.{Answer}
 use Rattle.probe.specs.declared.Held.{Held}
@@ -54,7 +54,7 @@ module _ (words : List ℕ) (rows : List ℤ) (out : List ℕ) where
 
   -- what `feed` answers from the state s; where it accepts, 15 after all else if fewer than nine numbers are lent for the summary
   abbrev pub byFed : State → Fed → List ℤ → Told
-  byFed s (Accepted t) after = pick (leb 9 (length out)) (accepted t after) (refused 15 (s .past .packets))
+  byFed s (Accepted t) after = pick (leb summaryWidth (length out)) (accepted t after) (refused 15 (s .past .packets))
   byFed s (Refused number place t) after = refused number place
 
   module _ (ts ss ms : List ℕ) where

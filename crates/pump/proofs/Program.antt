@@ -14,6 +14,7 @@ use mir.Facts.{toZ-ofZ}
 use borrow.Rule.Slice.PartMut.{midOf, putMid, same-len-mid, take-put}
 use Rattle.laws.specs.Choose.{pick, false-true}
 use Rattle.libc.specs.Io.{Moved}
+use Rattle.text.specs.Lines.{lineRoom}
 use Rattle.printer.specs.declared.Opened.{Opened}
 use Rattle.printer.specs.declared.Opened.the-variants.{More as Wanting, Refused as Unopened, Ready as Opens}
 use Rattle.printer.specs.Step.{beginOf}
@@ -139,14 +140,14 @@ module _ {room : ℕ} {p : Pump} {w : List ℕ} {r : Stepped} {after : List ℕ}
       go Head = opens (beginOf (shown p w) (p .last))
       go (Walking walk) = omega arith
 
-  pub reached-roomy : 256 ≤ room → 65538 ≤ length w → r .over ≡ false → r .wants ≡ true → Roomy (r .pump) w
+  pub reached-roomy : lineRoom ≤ room → 65538 ≤ length w → r .over ≡ false → r .wants ≡ true → Roomy (r .pump) w
   reached-roomy q big e f b =
       subst (λ (x : Pump). settledOf x .held < length w) (sym (here .pump-is))
       (let room-left = wants-room p w room q (reached-fits h) (shown-bytes p w b) big (sym (here .over-is) ∙ e)
       (sym (here .wants-is) ∙ f) in
       omega (arith, less-held, room-left))
 
-  pub reached-wants : 256 ≤ room → r .over ≡ false → r .wants ≡ true → r .pump .last ≡ false
+  pub reached-wants : lineRoom ≤ room → r .over ≡ false → r .wants ≡ true → r .pump .last ≡ false
   reached-wants q e f =
       ap (λ (x : Pump). x .last) (here .pump-is) ∙ step-last
       ∙ wants-more p w room q (sym (here .over-is) ∙ e) (sym (here .wants-is) ∙ f)

@@ -10,6 +10,7 @@ use lib.Seq.{getD-drop}
 use borrow.Author.Tests.{eqb-true}
 use Rattle.laws.specs.Choose.{false-true}
 use Rattle.record.proofs.InPieces.{head-suffices}
+use Rattle.text.specs.Lines.{lineRoom}
 use Rattle.printer.specs.declared.Opened.{Opened}
 use Rattle.printer.specs.declared.Opened.the-variants.{More as Wanting, Refused as Unopened, Ready as Opens}
 use Rattle.printer.specs.Step.{beginOf, takeOf}
@@ -36,7 +37,7 @@ drop-bytes n l b i = subst (λ (x : ℕ). x < 256) (sym (getD-drop n l i 0)) (b 
 pub shown-bytes : (p : Pump) (w : List ℕ) → Bytes w → Bytes (shown p w)
 shown-bytes p w b = take-bytes (p .held - p .from) (drop (p .from) w) (drop-bytes (p .from) w b)
 
-module _ (p : Pump) (w : List ℕ) (room : ℕ) (r : 256 ≤ room) (f : Fits p (length w)) (b : Bytes (shown p w)) where
+module _ (p : Pump) (w : List ℕ) (room : ℕ) (r : lineRoom ≤ room) (f : Fits p (length w)) (b : Bytes (shown p w)) where
   long-goes-on : 65538 ≤ length (shown p w) → stepOf p w room .over ≡ false → stepOf p w room .wants ≡ true → ⊥
   unfolding stepOf
   long-goes-on h = go (p .stage)

@@ -9,6 +9,8 @@ use lib.ListN.{length, take, drop, length-drop}
 use lib.Seq.{take-add, drop-drop}
 use borrow.Author.Tests.{eqb-true}
 use Rattle.laws.specs.Choose.{false-true}
+use Rattle.record.specs.Paper.{headBytes}
+use Rattle.text.specs.Lines.{lineRoom}
 use Rattle.printer.specs.declared.Walk.{Walk}
 use Rattle.printer.specs.declared.Opened.{Opened}
 use Rattle.printer.specs.declared.Opened.the-variants.{More as Wanting, Refused as Unopened, Ready as Opens}
@@ -84,9 +86,9 @@ module _ (p : Pump) (w file text : List ℕ) (room : ℕ) (h : Holds p w file te
       }
       opens s (Unopened number offset) b t e = absurd (false-true (sym e))
       opens s (Opens walk) b t e = record {
-        fits = onward-fits walk 19 b;
+        fits = onward-fits walk headBytes b;
         good = t [] (λ x. refl) .0;
-        same = onward-same walk 19 [] (λ v l. sym (t v l .1) ∙ ap (λ (x : Stage). still x (shown p w ++ v)) (sym s));
+        same = onward-same walk headBytes [] (λ v l. sym (t v l .1) ∙ ap (λ (x : Stage). still x (shown p w ++ v)) (sym s));
       }
 
       walks : (walk : Walk) → p .stage ≡ Walking walk → Stands walk
@@ -127,7 +129,7 @@ module _ (p : Pump) (w file text : List ℕ) (room : ℕ) (h : Holds p w file te
           ∙ h .same v l
 
 -- a step that wants more was not told that the file had ended
-pub wants-more : (p : Pump) (w : List ℕ) (room : ℕ) → 256 ≤ room → stepOf p w room .over ≡ false → stepOf p w room .wants ≡ true
+pub wants-more : (p : Pump) (w : List ℕ) (room : ℕ) → lineRoom ≤ room → stepOf p w room .over ≡ false → stepOf p w room .wants ≡ true
     → p .last ≡ false
 unfolding stepOf
 wants-more p w room r = go (p .stage) (p .last) refl

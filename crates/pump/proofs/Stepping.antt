@@ -8,6 +8,7 @@ use lib.Dec.{eqb}
 use lib.ListN.{length, take, drop, length-drop}
 use lib.Seq.{sets, length-sets, take-append-seam, length-take-le}
 use Rattle.laws.specs.Lay.{sets-front, put-length}
+use Rattle.record.specs.Paper.{headBytes}
 use Rattle.text.specs.Lines.{lineRoom, Line, refusalLine}
 use Rattle.printer.specs.declared.Walk.{Walk}
 use Rattle.printer.specs.declared.Taken.{Taken}
@@ -71,9 +72,9 @@ opened-refused p number offset written before after e h t =
     })
 
 pub opened-ready : (p : Pump) {o : Opened} (walk : Walk) (after : List ℕ) → Opens walk ≡ o
-    → Steps (openedBy p o) (record { pump = onward p walk 19; written = 0; wants = false; over = false }) after
+    → Steps (openedBy p o) (record { pump = onward p walk headBytes; written = 0; wants = false; over = false }) after
 opened-ready p walk after e =
-    subst (λ (o : Opened). Steps (openedBy p o) (record { pump = onward p walk 19; written = 0; wants = false; over = false }) after) e
+    subst (λ (o : Opened). Steps (openedBy p o) (record { pump = onward p walk headBytes; written = 0; wants = false; over = false }) after) e
     (record { pump-is = refl; wants-is = refl; over-is = refl; text-is = refl; fits = omega arith })
 
 -- what is shown lies within the window

@@ -6,6 +6,7 @@ use Prim.Native.Nat.{ℕ, _+_, _-_, _≤_, _<_}
 use lib.Dec.{eqb}
 use lib.IntN.{ℤ, pos, negsuc}
 use lib.ListN.{length, take, drop, getD}
+use Rattle.record.specs.Paper.{headBytes}
 use Rattle.text.specs.Lines.{refusalLine}
 use Rattle.printer.specs.declared.Walk.{Walk}
 use Rattle.printer.specs.declared.Opened.{Opened}
@@ -44,7 +45,7 @@ onward p walk bytes = record { stage = Walking walk; from = p .from + bytes; hel
 abbrev pub openedBy : Pump → Opened → Did
 openedBy p Wanting = record { pump = p; text = []; wants = true; over = false }
 openedBy p (Unopened number offset) = record { pump = p; text = refusalLine number offset; wants = false; over = true }
-openedBy p (Opens walk) = record { pump = onward p walk 19; text = []; wants = false; over = false }
+openedBy p (Opens walk) = record { pump = onward p walk headBytes; text = []; wants = false; over = false }
 
 abbrev pub tookBy : Pump → Took → Did
 tookBy p k = record { pump = onward p (k .walk) (k .used); text = k .text; wants = eqb (k .used) 0; over = k .ended }

@@ -4,10 +4,12 @@ ghost use mathlib.Core.Path.{_≡_};
 ghost use Prim.Native.Nat.{_+_, _-_, _≤_, _<_};
 ghost use lib.ListN.{length, take, drop};
 ghost use Rattle.libc.specs.Io.{Moved};
+ghost use Rattle.text.specs.Lines.{lineRoom};
 ghost use Rattle.pump.specs.Step.{Fits, Steps, shown, fresh, openedBy, tookBy, stepOf, settledOf, cameOf};
 ghost use Rattle.printer.specs.Step.{beginOf, takeOf};
 use printer::Opened;
 use printer::Walk;
+use record::HEAD_BYTES;
 
 // The version byte and the parameters are still wanted, or the walk behind them.
 pub enum Stage {
@@ -45,8 +47,6 @@ pub enum End {
     Worn,
 }
 
-const HEAD: usize = 19;
-
 // Before the first read.
 pub fn begin() -> Pump
     ensures { λ r. ⌜ r ≡ fresh ⌝ }
@@ -77,7 +77,7 @@ fn move_down(window: &mut [u8], from: usize, left: usize)
 impl Pump {
     // The start of the file.
     fn open(self, window: &[u8], out: &mut [u8]) -> Stepped
-        requires { ⌜ Fits self (length (now window)) × (256 ≤ length (now out)) ⌝ }
+        requires { ⌜ Fits self (length (now window)) × (lineRoom ≤ length (now out)) ⌝ }
         ensures { λ r. ⌜ Steps (openedBy self (beginOf (shown self (now (window .entry))) (self .last))) r (now (out .exit)) ⌝ }
     {
         let from = self.from;
@@ -97,7 +97,7 @@ impl Pump {
                 over: true,
             },
             Opened::Ready(walk) => {
-                let past = from + HEAD;
+                let past = from + HEAD_BYTES;
                 Stepped {
                     pump: Pump {
                         stage: Stage::Walking(walk),
@@ -140,7 +140,7 @@ impl Pump {
 
     // The lines that the window tells from here, as far as `out` has room.
     pub fn step(self, window: &[u8], out: &mut [u8]) -> Stepped
-        requires { ⌜ Fits self (length (now window)) × (256 ≤ length (now out)) ⌝ }
+        requires { ⌜ Fits self (length (now window)) × (lineRoom ≤ length (now out)) ⌝ }
         ensures { λ r. ⌜ Steps (stepOf self (now (window .entry)) (length (now (out .entry)))) r (now (out .exit)) ⌝ }
     {
         let stage = self.stage;

@@ -19,8 +19,9 @@ use Rattle.packet.specs.Step.{nothing, scanOf}
 use Rattle.packet.proofs.Declared.{scan-declared, fine-few, fine-count}
 use Rattle.timing.specs.declared.StreamNumbers.{StreamNumbers}
 use Rattle.timing.specs.declared.State.{State}
+use Rattle.frame.specs.Step.{rowWidth}
 use Rattle.timing.specs.Step.{ofParameters, rulesOf, freshOf, numbers}
-use Rattle.timing.specs.Answers.{summaryOf}
+use Rattle.timing.specs.Answers.{summaryWidth, summaryOf}
 use Rattle.timing.specs.Laws.Scanning.{numbers-length, scan-runs}
 use Rattle.limits.specs.declared.Parameters.{Parameters}
 use Rattle.record.specs.declared.Checked.the-variants as checked
@@ -30,30 +31,30 @@ use Rattle.record.proofs.ReadWrite.{FileHolds, file-holds}
 use Rattle.report.specs.declared.Asked.{Asked}
 use Rattle.report.specs.declared.Asked.the-variants.{Fine, Refused}
 use Rattle.report.specs.Paper.{stateOf, rowsOf, reportOf, inBytes, encoded, bytesFor, answer, answered, answerOf}
-use Rattle.report.specs.Paper.{roomFor, roomOf, filled, filledBy}
+use Rattle.report.specs.Paper.{numberBytes, roomFor, roomOf, filled, filledBy}
 use Rattle.report.specs.Step.{needed, asAsked, askedOf, askedNumber, askedOffset, packetsOf, Measurable, Measured}
 use Rattle.report.proofs.Bytes.{nine, length-stored, length-encoded, encoded-append, naturals, front-last}
 
 -- the room, divided: fewer than nine numbers; then the rows
-pub too-few : (closed room : ℕ) → room / 8 < 9 → false ≡ leb (needed closed) room
+pub too-few : (closed room : ℕ) → room / numberBytes < summaryWidth → false ≡ leb (needed closed) room
 too-few closed room h = sym (lt-leb (needed closed) room (omega arith))
 
-pub enough-or-not : (closed room : ℕ) → 9 ≤ room / 8 → leb closed ((room / 8 - 9) / 10) ≡ leb (needed closed) room
-enough-or-not closed room h = go (leb closed ((room / 8 - 9) / 10)) refl
+pub enough-or-not : (closed room : ℕ) → summaryWidth ≤ room / numberBytes → leb closed ((room / numberBytes - summaryWidth) / rowWidth) ≡ leb (needed closed) room
+enough-or-not closed room h = go (leb closed ((room / numberBytes - summaryWidth) / rowWidth)) refl
   where
-    go : (t : Bool) → leb closed ((room / 8 - 9) / 10) ≡ t → t ≡ leb (needed closed) room
-    go true e = sym (le-leb (needed closed) room (omega (arith, leb-true closed ((room / 8 - 9) / 10) e)))
-    go false e = sym (lt-leb (needed closed) room (omega (arith, leb-false closed ((room / 8 - 9) / 10) e)))
+    go : (t : Bool) → leb closed ((room / numberBytes - summaryWidth) / rowWidth) ≡ t → t ≡ leb (needed closed) room
+    go true e = sym (le-leb (needed closed) room (omega (arith, leb-true closed ((room / numberBytes - summaryWidth) / rowWidth) e)))
+    go false e = sym (lt-leb (needed closed) room (omega (arith, leb-false closed ((room / numberBytes - summaryWidth) / rowWidth) e)))
 
 -- ---- how long a report is
 
 length-naturals : (xs : List ℕ) → length (map pos xs) ≡ length xs
 length-naturals xs = length-map xs pos
 
-length-report : (x : StreamNumbers) (ps : List Packet) → length (encoded (reportOf x ps)) ≡ 8 * (9 + length (numbers (rowsOf x ps)))
+length-report : (x : StreamNumbers) (ps : List Packet) → length (encoded (reportOf x ps)) ≡ numberBytes * (summaryWidth + length (numbers (rowsOf x ps)))
 length-report x ps =
     length-encoded (reportOf x ps)
-    ∙ ap (λ (n : ℕ). 8 * n)
+    ∙ ap (λ (n : ℕ). numberBytes * n)
     (length-append (map pos (summaryOf (stateOf x ps))) (numbers (rowsOf x ps))
     ∙ rw (length-naturals (summaryOf (stateOf x ps)), nine (stateOf x ps)))
 

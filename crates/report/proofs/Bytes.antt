@@ -18,11 +18,11 @@ use Rattle.frame.specs.declared.Row.{Row}
 use Rattle.frame.specs.Step.{rowWidth, numbersOf}
 use Rattle.timing.specs.declared.State.{State}
 use Rattle.timing.specs.Step.{numbers}
-use Rattle.timing.specs.Answers.{summaryWith, summaryOf}
+use Rattle.timing.specs.Answers.{summaryWidth, summaryWith, summaryOf}
 use Rattle.timing.specs.Laws.Sink.{Sink, numbers-more}
 use Rattle.report.specs.Paper.{signed, inBytes, encoded, rowBytes, numberBytes}
 
-pub length-stored : (xs : List ℕ) → length (inBytes xs) ≡ 8 * length xs
+pub length-stored : (xs : List ℕ) → length (inBytes xs) ≡ numberBytes * length xs
 unfolding inBytes
 length-stored [] = refl
 length-stored (x ∷ xs) =
@@ -45,8 +45,8 @@ length-signs (z ∷ zs) = ap suc (length-signs zs)
 pub encoded-append : (a b : List ℤ) → encoded (a ++ b) ≡ encoded a ++ encoded b
 encoded-append a b = ap inBytes (signs-append a b) ∙ stored-append (map signed a) (map signed b)
 
-pub length-encoded : (zs : List ℤ) → length (encoded zs) ≡ 8 * length zs
-length-encoded zs = length-stored (map signed zs) ∙ ap (λ (n : ℕ). 8 * n) (length-signs zs)
+pub length-encoded : (zs : List ℤ) → length (encoded zs) ≡ numberBytes * length zs
+length-encoded zs = length-stored (map signed zs) ∙ ap (λ (n : ℕ). numberBytes * n) (length-signs zs)
 
 -- rows written as bytes
 pub rows-none : rowBytes [] ≡ []
@@ -62,7 +62,7 @@ as-bytes = record { row = λ r. encoded (numbersOf r); write = rowBytes; none = 
 pub row-length : (r : Row) → length (encoded (numbersOf r)) ≡ numberBytes * rowWidth
 row-length r = length-encoded (numbersOf r)
 
-pub nine : (s : State) → length (summaryOf s) ≡ 9
+pub nine : (s : State) → length (summaryOf s) ≡ summaryWidth
 unfolding summaryWith
 nine s = refl
 
@@ -83,7 +83,7 @@ sign-passed zs k f = ap (λ (z : ℤ). ofZ w64 z) (toZ-ofZ f) ∙ sym (sign-at z
 
 -- ---- a loop that stores numbers: one turn, and the end
 
-pub store-turn : (place next k x : ℕ) (xs d : List ℕ) → next ≡ place + 8 → k < length xs → x ≡ getD xs k 0
+pub store-turn : (place next k x : ℕ) (xs d : List ℕ) → next ≡ place + numberBytes → k < length xs → x ≡ getD xs k 0
     → sets (sets d place (bytesOf 8 x)) next (inBytes (drop (k + 1) xs)) ≡ sets d place (inBytes (drop k xs))
 unfolding inBytes
 store-turn place next k x xs d n h e =

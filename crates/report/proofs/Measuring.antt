@@ -20,7 +20,7 @@ use Rattle.timing.specs.Laws.Dealing.{sound-after}
 use Rattle.timing.specs.Laws.Scanning.{scan-runs}
 use Rattle.timing.specs.Laws.Running.{step-past}
 use Rattle.timing.specs.Laws.Running as R
-use Rattle.record.specs.Paper.{packetAt, done, Packets, packetRefusal, packetsIn}
+use Rattle.record.specs.Paper.{packetBytes, headBytes, packetAt, done, Packets, packetRefusal, packetsIn}
 use Rattle.record.proofs.Ways.{rest-all}
 use Rattle.record.proofs.Reading.{neither, packet-here, packets-end, packets-go, packets-accepted}
 use Rattle.record.proofs.ReadWrite.{packets-scan}
@@ -40,9 +40,9 @@ pub record Loop (x : StreamNumbers) (file out₀ : List ℕ) (rules : Rules) (s 
   pub ends : rest file s from .ending ≡ done
 
 pub loop-begins : (x : StreamNumbers) (file out : List ℕ) {rules : Rules} {s : State} → Measurable x file (length out) → rules ≡ rulesOf x
-    → s ≡ freshOf x → Loop x file out rules s 19 summaryBytes out
+    → s ≡ freshOf x → Loop x file out rules s headBytes summaryBytes out
 loop-begins x file out m er es =
-    let scans = packets-scan (length (drop 19 file)) nothing false 0 19 (drop 19 file) (omega arith) (m .whole) in
+    let scans = packets-scan (length (drop headBytes file)) nothing false 0 headBytes (drop headBytes file) (omega arith) (m .whole) in
     let passes = scan-runs (packetsOf file) (rulesOf x) (freshOf x) 0 (scans .0) (scans .1) .0 in
     rw (er, es) (record {
       rules-are = refl;
@@ -66,19 +66,19 @@ module _ {x : StreamNumbers} {file out₀ : List ℕ} {rules : Rules} {s : State
     fine : packetRefusal (s .past) l ≡ 0
     fine = packets-accepted (s .past) from l (omega (arith, length-drop from file, some)) (k .ends)
 
-    pub sixteen : from + 16 ≤ length file
+    pub sixteen : from + packetBytes ≤ length file
     sixteen =
         let here = packet-here l (neither _ _ fine .0) in
         omega (arith, here .sixteen, length-drop from file)
 
     abbrev next : Packets
-    next = packetsIn (nextOf (s .past) (p .time)) (from + 16) (drop 16 l)
+    next = packetsIn (nextOf (s .past) (p .time)) (from + packetBytes) (drop packetBytes l)
 
     goes : rest file s from ≡ record { accepted = p ∷ next .accepted; ending = next .ending }
     goes = packets-go (s .past) from l fine
 
     -- the window that the code reads, and the packet as it reads it
-    pub there : 16 ≤ length (take (length file - from) l)
+    pub there : packetBytes ≤ length (take (length file - from) l)
     there = rw (rest-all file from) (omega (arith, sixteen, length-drop from file))
 
     module _ {q : Packet} (read : q ≡ packetAt (take (length file - from) l)) where
@@ -100,12 +100,12 @@ module _ {x : StreamNumbers} {file out₀ : List ℕ} {rules : Rules} {s : State
 
       -- its turn: what is left is the file behind its record
       pub packet-next : {s′ : State} {at′ : ℕ} {out′ : List ℕ} → R.Turn as-bytes rules s q at out s′ at′ out′
-          → Loop x file out₀ rules s′ (from + 16) at′ out′
+          → Loop x file out₀ rules s′ (from + packetBytes) at′ out′
       packet-next {s′} {at′} {out′} t =
           let e : q .time ≡ p .time = ap (λ (y : Packet). y .time) (read ∙ ap packetAt (rest-all file from)) in
           let past : s′ .past ≡ nextOf (s .past) (p .time) =
           ap (λ (z : State). z .past) (t .state) ∙ step-past rules s q ∙ ap (nextOf (s .past)) e in
-          let behind : rest file s′ (from + 16) ≡ next = rw (past, drop-drop 16 from file) in
+          let behind : rest file s′ (from + packetBytes) ≡ next = rw (past, drop-drop packetBytes from file) in
           record {
             rules-are = k .rules-are;
             loop = subst
@@ -125,7 +125,7 @@ module _ {x : StreamNumbers} {file out₀ : List ℕ} {rules : Rules} {s : State
 pub measured-in-range : {x : StreamNumbers} {file before after : List ℕ} {room : ℕ} {s : State} → Measurable x file room
     → Measured x file before s after → inRange s ≡ true
 measured-in-range {x} {file} {s = s} m d =
-    let scans = packets-scan (length (drop 19 file)) nothing false 0 19 (drop 19 file) (omega arith) (m .whole) in
+    let scans = packets-scan (length (drop headBytes file)) nothing false 0 headBytes (drop headBytes file) (omega arith) (m .whole) in
     let passes = scan-runs (packetsOf file) (rulesOf x) (freshOf x) 0 (scans .0) (scans .1) .0 in
     of-sound s (subst Sound (sym (d .state-is)) (sound-after (packetsOf file) (freshOf x) (sound-fresh x (m .set-up)) passes))
 

@@ -27,9 +27,9 @@ use Rattle.timing.specs.Laws.Dealing.{sound-after}
 use Rattle.timing.specs.Laws.Scanning.{scan-runs}
 use Rattle.timing.specs.Laws.Fitting.{summary-fits, rows-fit}
 use Rattle.limits.specs.declared.Parameters.{Parameters}
-use Rattle.record.specs.Paper.{bodyLength, packetAt, packetRefusal, Packets, packetsBy, file, fileOf}
+use Rattle.record.specs.Paper.{headBytes, bodyLength, packetAt, packetRefusal, Packets, packetsBy, file, fileOf}
 use Rattle.record.proofs.ReadWrite.{file-holds}
-use Rattle.report.specs.Paper.{stateOf, reportOf, signed, inBytes, encoded}
+use Rattle.report.specs.Paper.{numberBytes, stateOf, reportOf, signed, inBytes, encoded}
 
 -- ---- the timestamps of packets that were read
 
@@ -66,28 +66,28 @@ report-fits s w ps b e =
     let sound = sound-fresh x (holds .set-up) in
     let passes = scan-runs ps (rulesOf x) (freshOf x) 0 (holds .closed) (holds .scan-fine) .0 in
     let held = subst (λ (r : Packets). Held (r .accepted)) (holds .all-read)
-    (stamps-by (length (drop 19 s)) nothing 19 (drop 19 s) (bytes-drop 19 s b)) in
+    (stamps-by (length (drop headBytes s)) nothing headBytes (drop headBytes s) (bytes-drop headBytes s b)) in
     fit-append (map pos (summaryOf (stateOf x ps))) _ (summary-fits (stateOf x ps) (sound-after ps (freshOf x) sound passes))
     (rows-fit ps (freshOf x) sound passes (omega arith) held)
 
 -- ---- number k of what is encoded: its 64 bits, and so itself
 
 bits-back : (zs : List ℤ) (k : ℕ) → k < length zs → signed (getD zs k (pos 0)) < 256 ^ 8
-    → numberOf (take 8 (drop (8 * k) (encoded zs))) ≡ signed (getD zs k (pos 0))
+    → numberOf (take numberBytes (drop (numberBytes * k) (encoded zs))) ≡ signed (getD zs k (pos 0))
 unfolding inBytes
 bits-back [] k h f = absurd (omega arith)
 bits-back (z ∷ zs) zero h f =
     ap numberOf (take-at (bytesOf 8 (signed z)) (encoded zs) 8 (length-bytes 8 (signed z))) ∙ number-bytes 8 (signed z) f
 bits-back (z ∷ zs) (suc k) h f =
-    let eight : 8 * suc k ≡ 8 + 8 * k = omega arith in
-    let further : drop (8 * suc k) (bytesOf 8 (signed z) ++ encoded zs) ≡ drop (8 * k) (encoded zs) =
+    let eight : numberBytes * suc k ≡ numberBytes + numberBytes * k = omega arith in
+    let further : drop (numberBytes * suc k) (bytesOf 8 (signed z) ++ encoded zs) ≡ drop (numberBytes * k) (encoded zs) =
     ap (λ (n : ℕ). drop n (bytesOf 8 (signed z) ++ encoded zs)) eight
-    ∙ sym (drop-drop (8 * k) 8 (bytesOf 8 (signed z) ++ encoded zs))
-    ∙ ap (drop (8 * k)) (drop-at (bytesOf 8 (signed z)) (encoded zs) 8 (length-bytes 8 (signed z))) in
-    ap (λ (l : List ℕ). numberOf (take 8 l)) further ∙ bits-back zs k (omega arith) f
+    ∙ sym (drop-drop (numberBytes * k) 8 (bytesOf 8 (signed z) ++ encoded zs))
+    ∙ ap (drop (numberBytes * k)) (drop-at (bytesOf 8 (signed z)) (encoded zs) 8 (length-bytes 8 (signed z))) in
+    ap (λ (l : List ℕ). numberOf (take numberBytes l)) further ∙ bits-back zs k (omega arith) f
 
 pub number-back : (zs : List ℤ) (k : ℕ) → AllFit zs → k < length zs
-    → toZ w64 (numberOf (take 8 (drop (8 * k) (encoded zs)))) ≡ getD zs k (pos 0)
+    → toZ w64 (numberOf (take numberBytes (drop (numberBytes * k) (encoded zs)))) ≡ getD zs k (pos 0)
 number-back zs k fit h =
     let here = fit-at zs k fit in
     ap (toZ w64) (bits-back zs k h (fits-ofZ here .fits)) ∙ toZ-ofZ here

@@ -19,6 +19,7 @@ use Rattle.packet.specs.declared.Packet.{Packet}
 use Rattle.packet.specs.Paper.{packets}
 use Rattle.timing.specs.declared.State.{State}
 use Rattle.timing.specs.declared.Fed.the-variants.{Accepted}
+use Rattle.frame.specs.Step.{rowWidth}
 use Rattle.timing.specs.Step.{ofParameters, rulesOf, freshOf, numbers}
 use Rattle.timing.specs.Answers.{summaryOf}
 use Rattle.timing.specs.Feed.{feedAll}
@@ -32,7 +33,7 @@ use Rattle.record.specs.Write.{fileLength}
 use Rattle.record.proofs.ReadWrite.{file-holds}
 use Rattle.record.proofs.RoundTrip.{written-accepted}
 use Rattle.report.specs.Paper.{stateOf, rowsOf, reportOf, encoded, bytesFor, answer, answered, answerOf, roomFor, roomOf}
-use Rattle.report.specs.Paper.{filled, filledBy}
+use Rattle.report.specs.Paper.{numberBytes, filled, filledBy}
 use Rattle.report.specs.Step.{Writes}
 use Rattle.report.proofs.Calls.{written-whole}
 use Rattle.report.proofs.Signed.{report-fits, number-back}
@@ -124,13 +125,13 @@ as-fed s w ps e rows same =
     let all = numbers (rowsOf x ps) in
     let holds = file-holds s w ps e in
     let counted = scan-runs ps (rulesOf x) (freshOf x) 0 (holds .closed) (holds .scan-fine) .1 in
-    let room : holds .closed * 10 ≤ length rows = omega (arith, counted, numbers-length (rowsOf x ps)) in
+    let room : holds .closed * rowWidth ≤ length rows = omega (arith, counted, numbers-length (rowsOf x ps)) in
     let in-order : sets rows 0 all ≡ all =
     sets-front all rows (omega arith) ∙ ap (λ (l : List ℤ). all ++ l) (ap (λ (n : ℕ). drop n rows) (sym same) ∙ drop-length rows)
     ∙ append-nil all in (
       stateOf x ps,
       all,
-      rw (of-sound (freshOf x) (sound-fresh x (holds .set-up)), holds .scan-fine, le-leb (holds .closed * 10) (length rows) room, in-order),
+      rw (of-sound (freshOf x) (sound-fresh x (holds .set-up)), holds .scan-fine, le-leb (holds .closed * rowWidth) (length rows) room, in-order),
       refl,
     )
 
@@ -138,5 +139,5 @@ as-fed s w ps e rows same =
 -- number. The bytes of a file are below 256, as a u8 is.
 pub reads-back : (s : List ℕ) → ((i : ℕ) → getD s i 0 < 256) → (w : Parameters) (ps : List Packet) → fileOf s ≡ file w ps
     → (k : ℕ) → k < length (reportOf (ofParameters w) ps)
-    → toZ w64 (numberOf (take 8 (drop (8 * k) (bytesFor w ps)))) ≡ getD (reportOf (ofParameters w) ps) k (pos 0)
+    → toZ w64 (numberOf (take numberBytes (drop (numberBytes * k) (bytesFor w ps)))) ≡ getD (reportOf (ofParameters w) ps) k (pos 0)
 reads-back s b w ps e k h = number-back (reportOf (ofParameters w) ps) k (report-fits s w ps (bytes-all s b) e) h

@@ -19,7 +19,7 @@ use Rattle.timing.specs.Step.{ofParameters, setUpOf, rulesOf, freshOf}
 use Rattle.timing.specs.Answers.{summaryWidth, graphOf, drawnNumber}
 use Rattle.timing.specs.Feed.{Ran}
 use Rattle.limits.specs.declared.Parameters.{Parameters}
-use Rattle.record.specs.Paper.{done, packetsIn, File, file, refused, fileOf}
+use Rattle.record.specs.Paper.{headBytes, done, packetsIn, File, file, refused, fileOf}
 use Rattle.record.specs.Layout.{bytesIn}
 use Rattle.record.specs.Write.{writtenOf, writtenNumber, leftBy}
 use Rattle.report.specs.declared.Asked.{Asked}
@@ -47,15 +47,15 @@ abbrev pub askedOffset : Asked → ℕ
 askedOffset (Fine x) = 0
 askedOffset (Refused number offset) = offset
 
--- ---- the packets of a file that is fine: they come after its first 19 bytes
+-- ---- the packets of a file that is fine: they come after its head
 
 abbrev pub packetsOf : List ℕ → List Packet
-packetsOf s = packetsIn nothing 19 (drop 19 s) .accepted
+packetsOf s = packetsIn nothing headBytes (drop headBytes s) .accepted
 
 -- nothing is refused, and the rows fit behind the nine numbers
 pub record Measurable (x : StreamNumbers) (s : List ℕ) (room : ℕ) : Type 0 where
   pub set-up : setUpOf x ≡ 0
-  pub whole : packetsIn nothing 19 (drop 19 s) .ending ≡ done
+  pub whole : packetsIn nothing headBytes (drop headBytes s) .ending ≡ done
   pub fits : summaryBytes + length (rowBytes (rowsOf x (packetsOf s))) ≤ room
 
 -- the state after the packets, and their rows put behind the nine numbers

@@ -139,7 +139,7 @@ fn measure(numbers: StreamNumbers, file: &[u8], out: &mut [u8]) -> State
 {
     let rules = numbers.rules();
     let mut s = numbers.fresh();
-    let mut from = 19;
+    let mut from = record::HEAD_BYTES;
     let mut at = SUMMARY_BYTES;
     while from < file.len() {
         let p = record::packet_at(&file[from..]);
@@ -148,7 +148,7 @@ fn measure(numbers: StreamNumbers, file: &[u8], out: &mut [u8]) -> State
             at = put_closed(s, rules, out, at);
             s = s.mark(rules, p.time);
         }
-        from += 16;
+        from += record::PACKET_BYTES;
     }
     s
 }

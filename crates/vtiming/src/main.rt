@@ -8,6 +8,7 @@ use pump::End;
 use pump::Pump;
 ghost use Prim.Native.Nat.{_≤_};
 ghost use lib.ListN.{length};
+ghost use Rattle.text.specs.Lines.{lineRoom};
 ghost use Rattle.pump.specs.Step.{Fits, Roomy};
 ghost use Rattle.pump.specs.Run.{Fetched, Printed};
 ghost use Rattle.pump.specs.Said.{Said, Heard};
@@ -40,7 +41,7 @@ fn fetch(pump: Pump, window: &mut [u8]) -> Came
 
 // Until the last line is out, or a read or a write fails.
 fn run(window: &mut [u8], out: &mut [u8]) -> End
-    requires { ⌜ (65538 ≤ length (now window)) × (256 ≤ length (now out)) ⌝ }
+    requires { ⌜ (65538 ≤ length (now window)) × (lineRoom ≤ length (now out)) ⌝ }
     ensures { λ r. ⌜ Printed (length (now (out .entry))) r ⌝ }
 {
     let mut pump = pump::begin();

@@ -6,17 +6,18 @@ use lib.ListN.{length, drop}
 use lib.Seq.{sets}
 use Rattle.report.proofs.Bytes.{store-turn, store-done}
 use borrow.Author.Needs.{needs}
-use Rattle.report.specs.Paper.{inBytes}
+use Rattle.timing.specs.Answers.{summaryWidth}
+use Rattle.report.specs.Paper.{numberBytes, inBytes}
 use Rattle.report.proofs.put_nine.Statement.{statement}
 use Rattle.report.proofs.put_nine.Tie as tie
 
 abbrev Inv-loop : tie.InvT-loop
 Inv-loop out₀ numbers k₀ out k =
-    (sets out (8 * k) (inBytes (drop k numbers)) ≡ sets out₀ 0 (inBytes numbers)) × (k ≤ 9)
-    × (length out ≡ length out₀) × (length numbers ≡ 9)
+    (sets out (numberBytes * k) (inBytes (drop k numbers)) ≡ sets out₀ 0 (inBytes numbers)) × (k ≤ summaryWidth)
+    × (length out ≡ length out₀) × (length numbers ≡ summaryWidth)
 
 abbrev μ-loop : tie.MeasureT-loop
-μ-loop out₀ numbers k₀ out k = 9 - k
+μ-loop out₀ numbers k₀ out k = summaryWidth - k
 
 loop-holds : tie.Need-loop-holds Inv-loop μ-loop
 loop-holds c = (refl, omega arith, refl, c .before .pre .1)

@@ -9,14 +9,14 @@ use lib.Seq.{sets}
 use Rattle.frame.specs.Step.{rowWidth}
 use Rattle.report.proofs.Bytes.{length-signs, row-length, sign-passed, store-turn, store-done}
 use borrow.Author.Needs.{needs}
-use Rattle.report.specs.Paper.{signed, inBytes, encoded}
+use Rattle.report.specs.Paper.{numberBytes, signed, inBytes, encoded}
 use Rattle.report.proofs.put_row.Statement.{statement}
 use Rattle.report.proofs.put_row.Tie as tie
 
 abbrev Inv-loop : tie.InvT-loop
 Inv-loop out₀ at numbers k₀ out k =
-    (sets out (at + 8 * k) (inBytes (drop k (map signed numbers))) ≡ sets out₀ at (encoded numbers)) × (k ≤ rowWidth)
-    × (length out ≡ length out₀) × (length numbers ≡ rowWidth) × (at + 8 * rowWidth ≤ length out₀)
+    (sets out (at + numberBytes * k) (inBytes (drop k (map signed numbers))) ≡ sets out₀ at (encoded numbers)) × (k ≤ rowWidth)
+    × (length out ≡ length out₀) × (length numbers ≡ rowWidth) × (at + numberBytes * rowWidth ≤ length out₀)
 
 abbrev μ-loop : tie.MeasureT-loop
 μ-loop out₀ at numbers k₀ out k = rowWidth - k
