@@ -105,7 +105,8 @@ module _ (plan : Plan) (s : Frames) (first last packets t : ℕ) (p : Planned pl
       → o .late ≡ s .current .late → s .marked ≤ o .first → Timed plan o t → Pushed (countedOf o stamp (readsOf plan o t))
   unfolding countedOf
   counted o stamp eh ed et ef el from z =
-      let few = count-le (readBefore (plan .tro + plan .period) (plan .reads .num) (plan .reads .den) (grains (t - o .first) + o .phase)) (plan .packets) in
+      let few = count-le (readBefore (plan .tro + plan .period) (plan .reads .num) (plan .reads .den) (grains (t - o .first) + o .phase))
+      (plan .packets) in
       record {
         held = omega arith;
         first-from = from;

@@ -66,14 +66,14 @@ module _ (rules : Rules) (s : State) where
     rest-stop n some e p = rw (packets-stop (s .past) at l n some e p)
 
     rest-go : (p : packet.Packet) → packetAt l ≡ p → packetRefusal (s .past) l ≡ 0
-        → restOf rules s at l ≡ rowLines (rowsOf rules s p) ++ restOf rules (stepOf rules s p) (at + packetBytes) (drop 16 l)
+        → restOf rules s at l ≡ rowLines (rowsOf rules s p) ++ restOf rules (stepOf rules s p) (at + packetBytes) (drop packetBytes l)
     unfolding restOf
     rest-go p same e =
-        let tail = packetsIn (nextOf (s .past) (p .time)) (at + packetBytes) (drop 16 l) in
+        let tail = packetsIn (nextOf (s .past) (p .time)) (at + packetBytes) (drop packetBytes l) in
         let split : packetsIn (s .past) at l ≡ more p tail = packets-go (s .past) at l e
-        ∙ ap (λ (x : packet.Packet). more x (packetsIn (nextOf (s .past) (x .time)) (at + packetBytes) (drop 16 l))) same in
+        ∙ ap (λ (x : packet.Packet). more x (packetsIn (nextOf (s .past) (x .time)) (at + packetBytes) (drop packetBytes l))) same in
         ap (linesOf rules s) split ∙ lines-more p tail
-        ∙ ap (λ (x : Past). rowLines (rowsOf rules s p) ++ linesOf rules (stepOf rules s p) (packetsIn x (at + packetBytes) (drop 16 l)))
+        ∙ ap (λ (x : Past). rowLines (rowsOf rules s p) ++ linesOf rules (stepOf rules s p) (packetsIn x (at + packetBytes) (drop packetBytes l)))
         (sym (step-past rules s p))
 
 -- ---- what stands at the walk stands there in the whole file
@@ -128,17 +128,17 @@ module _ (rules : Rules) (walk : Walk) (w v : List ℕ) (q : rules ≡ rulesOf (
         }
 
     carried-on : (k : Took) → packetBytes ≤ length w → numberOf (walk .state .past) p ≡ 0
-        → Carries rules (stepped rules walk p c) (drop 16 w) v k
-        → Carries rules walk w v (andThen 16 (linesAt rules walk p) k)
+        → Carries rules (stepped rules walk p c) (drop packetBytes w) v k
+        → Carries rules walk w v (andThen packetBytes (linesAt rules walk p) k)
     carried-on k room e f =
         let next = stepOf rules (walk .state) p in
         let lines = linesAt rules walk p in
         let go : restOf rules (walk .state) (walk .at .at) (w ++ v)
-        ≡ lines ++ restOf rules next (walk .at .at + packetBytes) (drop 16 (w ++ v)) =
+        ≡ lines ++ restOf rules next (walk .at .at + packetBytes) (drop packetBytes (w ++ v)) =
         rest-go rules (walk .state) (walk .at .at) (w ++ v) p the-packet (the-refusal ∙ e) in
-        let same : restOf rules next (walk .at .at + packetBytes) (drop 16 (w ++ v)) ≡ restOf rules next (c .at) (drop 16 w ++ v) =
-        rw (the-next e, drop-append-le 16 w v room) in
-        let left : restOf rules (k .walk .state) (k .walk .at .at) (drop (k .used) (drop 16 w) ++ v)
+        let same : restOf rules next (walk .at .at + packetBytes) (drop packetBytes (w ++ v)) ≡ restOf rules next (c .at) (drop packetBytes w ++ v) =
+        rw (the-next e, drop-append-le packetBytes w v room) in
+        let left : restOf rules (k .walk .state) (k .walk .at .at) (drop (k .used) (drop packetBytes w) ++ v)
         ≡ restOf rules (k .walk .state) (k .walk .at .at) (drop (packetBytes + k .used) w ++ v) =
         ap (λ (x : List ℕ). restOf rules (k .walk .state) (k .walk .at .at) (x ++ v)) (drop-drop (k .used) packetBytes w) in (
           go ∙ ap (λ (x : List ℕ). lines ++ x) (same ∙ f .0 ∙ ap (λ (x : List ℕ). k .text ++ pick (k .ended) [] x) left)
@@ -150,7 +150,7 @@ module _ (rules : Rules) (walk : Walk) (w v : List ℕ) (q : rules ≡ rulesOf (
   -- what stands there, by cases
   carries-item : (r : Next) (room : ℕ) (on : Walk → ℕ → Took) → (wantsMore r ≡ false → Says (walk .at .at) (w ++ v) r)
       → ((p : packet.Packet) (c : Cursor) → r ≡ Packet p c → packetBytes ≤ length w)
-      → ((next : Walk) (left : ℕ) → rules ≡ rulesOf (next .state .numbers) → Stands next → Carries rules next (drop 16 w) v (on next left))
+      → ((next : Walk) (left : ℕ) → rules ≡ rulesOf (next .state .numbers) → Stands next → Carries rules next (drop packetBytes w) v (on next left))
       → Carries rules walk w v (itemBy rules walk room on r)
   unfolding lineOf
   carries-item (Packet p c) room on s six ih =
@@ -178,7 +178,7 @@ carries-walk (suc k) rules walk w v last room l q z =
     (λ m. subst (Says (walk .at .at) (w ++ v)) (follows (walk .at .at) w v last _ l refl m)
     (next-says (walk .at .at) (w ++ v)))
     (λ p c f. piece-sixteen (walk .at .at) w last f)
-    (λ next left q′ z′. carries-walk k rules next (drop 16 w) v last left l q′ z′))
+    (λ next left q′ z′. carries-walk k rules next (drop packetBytes w) v last left l q′ z′))
 
 -- a call from a walk that a file leads to
 pub take-carries : (walk : Walk) (w v : List ℕ) (last : Bool) (room : ℕ) → (last ≡ true → v ≡ []) → Stands walk

@@ -1,4 +1,4 @@
--- What is used of a window lies within it: 16 bytes for each packet that was shown, and 19 before the first. By the turns still allowed.
+-- What is used of a window lies within it: a record for each packet that was shown, and the head before the first. By the turns still allowed.
 use mathlib.Core.Path.{_≡_, refl, sym, ap, subst, _∙_}
 use mathlib.Core.Bool.{Bool}
 use mathlib.Core.List.{List}
@@ -14,7 +14,7 @@ use Rattle.record.specs.declared.Next.{Next}
 use Rattle.record.specs.declared.Next.the-variants.{Packet, End, More, Refused}
 use Rattle.record.specs.declared.Head.{Head}
 use Rattle.record.specs.declared.Head.the-variants as head
-use Rattle.record.specs.Paper.{headBytes}
+use Rattle.record.specs.Paper.{packetBytes, headBytes}
 use Rattle.text.specs.Lines.{lineRoom}
 use Rattle.record.specs.Step.{headPiece, nextPiece}
 use Rattle.record.specs.Pieces.{headWaits}
@@ -39,18 +39,18 @@ unfolding walkBy
 walk-inside zero rules walk w last room = omega arith
 walk-inside (suc k) rules walk w last room =
     pick-either (Inside w) (ltb room lineRoom) (λ e. omega arith)
-    (λ e. go (nextPiece (walk .at .at) w last) refl (λ next left. walk-inside k rules next (drop 16 w) last left))
+    (λ e. go (nextPiece (walk .at .at) w last) refl (λ next left. walk-inside k rules next (drop packetBytes w) last left))
   where
     go : (r : Next) → nextPiece (walk .at .at) w last ≡ r
-        → ((next : Walk) (left : ℕ) → Inside (drop 16 w) (walkBy k rules next (drop 16 w) last left))
-        → Inside w (itemBy rules walk room (λ next left. walkBy k rules next (drop 16 w) last left) r)
+        → ((next : Walk) (left : ℕ) → Inside (drop packetBytes w) (walkBy k rules next (drop packetBytes w) last left))
+        → Inside w (itemBy rules walk room (λ next left. walkBy k rules next (drop packetBytes w) last left) r)
     go (Packet p c) e ih =
         pick-either (Inside w) (eqb (numberOf (walk .state .past) p) 0)
         (λ f. omega (
           arith,
           ih (stepped rules walk p c) (room - length (linesAt rules walk p)),
           piece-sixteen (walk .at .at) w last e,
-          length-drop 16 w,
+          length-drop packetBytes w,
         ))
         (λ f. omega arith)
     go End e ih = omega arith

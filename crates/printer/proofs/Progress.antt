@@ -44,7 +44,8 @@ module _ (walk : Walk) (w : List ℕ) (last : Bool) (room : ℕ) where
       pick-either Stuck (ltb room lineRoom) (λ e f u. inl (ltb-true room lineRoom e))
       (λ e. pick-either Stuck (inRange (walk .state))
       (λ g. pick-either Stuck (ltb room lineRoom) (λ h f u. inl (ltb-true room lineRoom h))
-      (λ h. stuck-item rules (λ next left. walkBy (length w / packetBytes) rules next (drop 16 w) last left) (nextPiece (walk .at .at) w last) refl))
+      (λ h. stuck-item rules (λ next left. walkBy (length w / packetBytes) rules next (drop packetBytes w) last left)
+      (nextPiece (walk .at .at) w last) refl))
       (λ g f u. absurd (false-true (sym f))))
 
   -- so with room for a line, and a window that is not answered More, it goes on

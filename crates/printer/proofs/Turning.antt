@@ -54,7 +54,7 @@ module _ (rules : Rules) (walk : Walk) (w : List ℕ) (last : Bool) (room : ℕ)
 
   module _ (h : lineRoom ≤ room) where
     onward : Walk → ℕ → Took
-    onward next left = walkBy (length w / packetBytes) rules next (drop 16 w) last left
+    onward next left = walkBy (length w / packetBytes) rules next (drop packetBytes w) last left
 
     walk-item : (r : Next) → nextPiece (walk .at .at) w last ≡ r → walkOf rules walk w last room ≡ itemBy rules walk room onward r
     unfolding walkBy onward
@@ -75,13 +75,13 @@ module _ (rules : Rules) (walk : Walk) (w : List ℕ) (last : Bool) (room : ℕ)
           → walkOf rules walk w last room ≡ stopsAt (Refused n (walk .at .at) packetBytes) walk
       walk-refuses n f some = walk-item _ e ∙ rw (← f, ne-eqb n 0 some)
 
-      fuel : length w / packetBytes ≡ suc (length (drop 16 w) / packetBytes)
-      fuel = let s = piece-sixteen (walk .at .at) w last e in omega (arith, length-drop 16 w)
+      fuel : length w / packetBytes ≡ suc (length (drop packetBytes w) / packetBytes)
+      fuel = let s = piece-sixteen (walk .at .at) w last e in omega (arith, length-drop packetBytes w)
 
       pub walk-goes : 0 ≡ numberOf (walk .state .past) p
           → walkOf rules walk w last room
-          ≡ andThen 16 (linesAt rules walk p)
-          (walkOf rules (stepped rules walk p c) (drop 16 w) last
+          ≡ andThen packetBytes (linesAt rules walk p)
+          (walkOf rules (stepped rules walk p c) (drop packetBytes w) last
           (room - length (linesAt rules walk p)))
       unfolding onward
       walk-goes f = walk-item _ e ∙ rw (← f, fuel)
@@ -140,7 +140,7 @@ loop-begins rules walk w last out =
     rw all (same-loop (walkOf rules walk w last (length out)) out)
 
 module _ {k₀ : Took} {out₀ : List ℕ} {used written : ℕ} {out : List ℕ} where
-  loop-on : {lines : List ℕ} {k : Took} {written′ : ℕ} {out′ : List ℕ} → Loop k₀ out₀ (andThen 16 lines k) used written out
+  loop-on : {lines : List ℕ} {k : Took} {written′ : ℕ} {out′ : List ℕ} → Loop k₀ out₀ (andThen packetBytes lines k) used written out
       → Put lines written out written′ out′ → Loop k₀ out₀ k (used + packetBytes) written′ out′
   loop-on l p = record {
     walk-same = l .walk-same;
@@ -180,7 +180,7 @@ module _ {k₀ : Took} {out₀ : List ℕ} {used written : ℕ} {out : List ℕ}
         let lines = linesAt rules walk p in
         let left : length out - written - length lines ≡ length out′ - written′ = omega (arith, put-length (q .put), q .put .next) in
         let m = loop-on (subst (λ x. Loop k₀ out₀ x used written out) (walk-goes rules walk (drop used w) last _ h e f) l) (q .put) in
-        rw (q .state, ← left, ← drop-drop 16 used w) m
+        rw (q .state, ← left, ← drop-drop packetBytes used w) m
 
     -- and all that a turn leaves to the next
     pub next-turn : {s′ : State} {written′ : ℕ} {out′ : List ℕ} → Going rules (walk .state) → used ≤ length w

@@ -105,7 +105,7 @@ linesAt rules walk p = rowLines (rowsOf rules (walk .state) p)
 abbrev pub packetBy : Rules → Walk → ℕ → (Walk → ℕ → Took) → packet.Packet → Cursor → Took
 packetBy rules walk room on p c =
     pick (eqb (numberOf (walk .state .past) p) 0)
-    (andThen 16 (linesAt rules walk p) (on (stepped rules walk p c) (room - length (linesAt rules walk p))))
+    (andThen packetBytes (linesAt rules walk p) (on (stepped rules walk p c) (room - length (linesAt rules walk p))))
     (stopsAt (Refused (numberOf (walk .state .past) p) (walk .at .at) packetBytes) walk)
 
 abbrev pub itemBy : Rules → Walk → ℕ → (Walk → ℕ → Took) → Next → Took
@@ -119,7 +119,7 @@ unfoldable pub walkBy : ℕ → Rules → Walk → List ℕ → Bool → ℕ →
 walkBy zero rules walk w last room = stays walk
 walkBy (suc k) rules walk w last room =
     pick (ltb room lineRoom) (stays walk)
-    (itemBy rules walk room (λ next left. walkBy k rules next (drop 16 w) last left) (nextPiece (walk .at .at) w last))
+    (itemBy rules walk room (λ next left. walkBy k rules next (drop packetBytes w) last left) (nextPiece (walk .at .at) w last))
 
 -- a packet takes bytes, so that this many turns are enough
 abbrev pub walkOf : Rules → Walk → List ℕ → Bool → ℕ → Took

@@ -64,7 +64,8 @@ module _ (ts ss ms : List ℕ) where
       enough : (s : State) (l : List Packet) (a : Bool)
           → fed words rows out s (pick a (acceptedAs s rows l) (refusedBy s rows 15 (s .past .packets)))
           ≡ pick (a && leb summaryWidth (length out)) (answer 0 0) (answer 15 (s .past .packets))
-      enough s l true = room (s .past .packets) (stateAfter (rulesOf (s .numbers)) s l) (acceptedAs s rows l .rows) (leb summaryWidth (length out))
+      enough s l true =
+          room (s .past .packets) (stateAfter (rulesOf (s .numbers)) s l) (acceptedAs s rows l .rows) (leb summaryWidth (length out))
       enough s l false = refl
 
       found : (s : State) (b : Bool) (x : Scanned)
@@ -116,10 +117,12 @@ module _ (ts ss ms : List ℕ) where
           fine : byRoom room space (s .past .packets) closed ≡ askedOf words ts ss ms room space
           fine = sym (rw q) ∙ in-turn
 
-          pub asked-short : (room / rowWidth < closed) ⊎ (space < summaryWidth) → answer 15 (s .past .packets) ≡ askedOf words ts ss ms room space
+          pub asked-short : (room / rowWidth < closed) ⊎ (space < summaryWidth)
+              → answer 15 (s .past .packets) ≡ askedOf words ts ss ms room space
           asked-short h = sym (go h) ∙ fine
             where
-              go : (room / rowWidth < closed) ⊎ (space < summaryWidth) → byRoom room space (s .past .packets) closed ≡ answer 15 (s .past .packets)
+              go : (room / rowWidth < closed) ⊎ (space < summaryWidth)
+                  → byRoom room space (s .past .packets) closed ≡ answer 15 (s .past .packets)
               go (inl l) =
                   let few : room < closed * rowWidth = div-lt-iff-lt-mul {k = rowWidth} {x = room} {y = closed} (omega arith) .0 l in
                   rw (lt-leb (closed * rowWidth) room few)

@@ -39,7 +39,8 @@ use Rattle.report.proofs.Bytes.{nine, length-stored, length-encoded, en
 pub too-few : (closed room : ℕ) → room / numberBytes < summaryWidth → false ≡ leb (needed closed) room
 too-few closed room h = sym (lt-leb (needed closed) room (omega arith))
 
-pub enough-or-not : (closed room : ℕ) → summaryWidth ≤ room / numberBytes → leb closed ((room / numberBytes - summaryWidth) / rowWidth) ≡ leb (needed closed) room
+pub enough-or-not : (closed room : ℕ) → summaryWidth ≤ room / numberBytes
+    → leb closed ((room / numberBytes - summaryWidth) / rowWidth) ≡ leb (needed closed) room
 enough-or-not closed room h = go (leb closed ((room / numberBytes - summaryWidth) / rowWidth)) refl
   where
     go : (t : Bool) → leb closed ((room / numberBytes - summaryWidth) / rowWidth) ≡ t → t ≡ leb (needed closed) room
@@ -51,7 +52,8 @@ enough-or-not closed room h = go (leb closed ((room / numberBytes - summaryWidth
 length-naturals : (xs : List ℕ) → length (map pos xs) ≡ length xs
 length-naturals xs = length-map xs pos
 
-length-report : (x : StreamNumbers) (ps : List Packet) → length (encoded (reportOf x ps)) ≡ numberBytes * (summaryWidth + length (numbers (rowsOf x ps)))
+length-report : (x : StreamNumbers) (ps : List Packet)
+    → length (encoded (reportOf x ps)) ≡ numberBytes * (summaryWidth + length (numbers (rowsOf x ps)))
 length-report x ps =
     length-encoded (reportOf x ps)
     ∙ ap (λ (n : ℕ). numberBytes * n)

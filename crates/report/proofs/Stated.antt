@@ -131,7 +131,12 @@ as-fed s w ps e rows same =
     ∙ append-nil all in (
       stateOf x ps,
       all,
-      rw (of-sound (freshOf x) (sound-fresh x (holds .set-up)), holds .scan-fine, le-leb (holds .closed * rowWidth) (length rows) room, in-order),
+      rw (
+        of-sound (freshOf x) (sound-fresh x (holds .set-up)),
+        holds .scan-fine,
+        le-leb (holds .closed * rowWidth) (length rows) room,
+        in-order,
+      ),
       refl,
     )
 
