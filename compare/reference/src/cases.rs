@@ -432,6 +432,22 @@ fn streams() -> Vec<(Numbers, Vec<Packet>)> {
         (9, 1, 0),
         (10, 0, 1),
     ]);
+    // A short frame, one whose first packet is late, six packets at one instant.
+    let mixed = packets(&[
+        (19_000_000, 0, 1),
+        (40_700_000, 3600, 0),
+        (45_000_000, 3600, 1),
+        (60_800_000, 5400, 0),
+        (65_000_000, 5400, 0),
+        (70_000_000, 5400, 0),
+        (74_000_000, 5400, 1),
+        (80_700_000, 7200, 0),
+        (80_700_000, 7200, 0),
+        (80_700_000, 7200, 0),
+        (80_700_000, 7200, 1),
+        (80_700_000, 9000, 0),
+        (80_700_000, 9000, 0),
+    ]);
     let piled = Numbers {
         packets_per_frame: 20,
         ..NARROW
@@ -440,6 +456,7 @@ fn streams() -> Vec<(Numbers, Vec<Packet>)> {
     pile.extend((0..20).map(|j| Packet::new(19_990_000, 0, u8::from(j == 19))));
     vec![
         (NARROW, example()),
+        (NARROW, mixed),
         (NARROW, vec![]),
         (NARROW, packets(&[(0, 0, 0)])),
         (one, packets(&[(0, 0, 1), (10_000_000, 0, 1)])),

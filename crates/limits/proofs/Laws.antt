@@ -99,6 +99,13 @@ pub data First : ℕ → List Bool → ℕ → Type 0 where
   goes-on : {k r : ℕ} {t : Bool} {more : List Bool} → not t ≡ false → First (suc k) more r → First k (t ∷ more) r
   stops : {k : ℕ} {t : Bool} {more : List Bool} → not t ≡ true → First k (t ∷ more) k
 
+-- a question that the code asks by a function of its own, answered
+pub yes-asked : {r t : Bool} → r ≡ t → not r ≡ false → not t ≡ false
+yes-asked e f = ap not (sym e) ∙ f
+
+pub no-asked : {r t : Bool} → r ≡ t → not r ≡ true → not t ≡ true
+no-asked e f = ap not (sym e) ∙ f
+
 pub first : {k r : ℕ} {l : List Bool} → First k l r → r ≡ firstNo k l
 unfolding firstNo
 first passes = refl
