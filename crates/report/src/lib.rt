@@ -132,12 +132,20 @@ fn put_closed(s: State, rules: Rules, out: &mut [u8], at: usize) -> usize
     at
 }
 
-// The packets of a file that was asked for and is fine, one by one. The heavy step has this one call site.
+// The packets of a file that was asked for and is fine, one by one. The heavy step has this one call site. The rules are taken apart and
+// put together again, so that they are held as single numbers: else the loop reads them from memory for each packet.
 fn measure(numbers: StreamNumbers, file: &[u8], out: &mut [u8]) -> State
     requires { ⌜ Measurable numbers (now file) (length (now out)) ⌝ }
     ensures { λ r. ⌜ Measured numbers (now (file .entry)) (now (out .entry)) r (now (out .exit)) ⌝ }
 {
-    let rules = numbers.rules();
+    let made = numbers.rules();
+    let plan = made.plan;
+    let drains = made.drains;
+    let rules = Rules {
+        plan,
+        drains,
+        limit: made.limit,
+    };
     let mut s = numbers.fresh();
     let mut from = record::HEAD_BYTES;
     let mut at = SUMMARY_BYTES;

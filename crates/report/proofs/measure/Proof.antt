@@ -26,8 +26,9 @@ fresh-requires c κs = search needs
 
 loop-holds : tie.Need-loop-holds Inv-loop μ-loop
 loop-holds c =
-    let start = c .before .before .before .before in
-    rw (c .fresh .ensures) (loop-begins _ _ _ (start .pre) (c .before .rules .ensures) refl)
+    let made = c .before .before .before in
+    let start = made .before .before .before in
+    rw (c .fresh .ensures) (loop-begins _ _ _ (start .pre) (made .rules .ensures) refl)
 
 sub-packet-at : tie.Need-sub-packet-at Inv-loop μ-loop
 sub-packet-at c = search needs
@@ -67,7 +68,7 @@ mark-requires c κs =
 add-from : tie.Need-add-from Inv-loop μ-loop
 add-from c =
     let turn = c .before .before .before .before .before in
-    omega (arith, sixteen (turn .before .loop .inv) (turn .loop-test .taken), turn .before .before .before .before .before .before .good)
+    omega (arith, sixteen (turn .before .loop .inv) (turn .loop-test .taken), turn .before .before .before .before .before .before .before .before .good)
 
 loop-less : tie.Need-loop-less Inv-loop μ-loop
 loop-less c =
@@ -90,7 +91,7 @@ same-length : tie.Need-same-length Inv-loop μ-loop
 same-length c = search needs
 
 returns : tie.Need-returns Inv-loop μ-loop
-returns c = measured-from (c .before .before .before .before .before .before .args .file .now) (c .before .before .fresh .ensures) (loop-ends (c .before .loop .inv) (omega arith))
+returns c = measured-from (c .before .before .before .before .before .before .before .before .args .file .now) (c .before .before .fresh .ensures) (loop-ends (c .before .loop .inv) (omega arith))
 
 pub measure-spec : {M : Type 1} → statement M
 measure-spec =
