@@ -66,7 +66,7 @@ module _ {plan : Plan} {f g : Frame} {t : ℕ} (stamp : ℕ) (e : g ≡ openedOf
   pub guess-fits : g .reads * plan .reads .num < 18446744073709551616
   guess-fits =
       let n : g .reads ≤ 20000 = omega (arith, opened-timed .read, p .few) in
-      let m : plan .reads .num ≤ 51539607552 = omega (arith, p .near, p .short) in
+      let m : plan .reads .num ≤ 103079215104 = omega (arith, p .near, p .short) in
       omega (arith, mul-le-mul n m)
 
   pub reach-fits : (base : ℕ) → (grains (t - g .first) + g .phase - base) * plan .reads .den + plan .reads .num < 18446744073709551616

@@ -19,7 +19,8 @@ pub record Planned (plan : Plan) : Type 0 where
   pub few : plan .packets ≤ 20000
   pub early : plan .tro < plan .period
   pub apart : 0 < plan .reads .num
-  pub near : plan .reads .num ≤ 24 * plan .period
+  -- at most 24F, and a period may be half a frame
+  pub near : plan .reads .num ≤ 48 * plan .period
   pub divided : plan .reads .den ≤ 500000
 
 -- before a packet that arrives at t: an open frame that holds packets began at most 600 s before

@@ -215,10 +215,9 @@ module _ (x : StreamNumbers) (set-up : setUpOf x ≡ 0) (l : List Packet) (close
   -- "A whole frame runs dry exactly when one of its packets comes after its read time."
   pub dry-exactly : (i : ℕ) → i < length l → frame.kindAt (rulesOf x .plan) (frameHistory x l) i ≡ 0
       → (frame.Dry (rulesOf x .plan) (frameHistory x l) (frame.since (frameHistory x l) i)
-      → (j : ℕ) × (j < x .parameters .n) × (frame.late (rulesOf x .plan) (frameHistory x l) (frame.since (frameHistory x l) i) j ≡ true))
-      × ((j : ℕ) → j < x .parameters .n → frame.late (rulesOf x .plan) (frameHistory x l) (frame.since (frameHistory x l) i) j ≡ true
+      → (j : ℕ) × (j < rulesOf x .plan .packets) × (frame.late (rulesOf x .plan) (frameHistory x l) (frame.since (frameHistory x l) i) j ≡ true))
+      × ((j : ℕ) → j < rulesOf x .plan .packets → frame.late (rulesOf x .plan) (frameHistory x l) (frame.since (frameHistory x l) i) j ≡ true
       → frame.Dry (rulesOf x .plan) (frameHistory x l) (frame.since (frameHistory x l) i))
-  unfolding rulesOf
   dry-exactly i h k = (
     proved-frames.dry-late (rulesOf x .plan) (planned x set-up) (frameHistory x l) (in-order x set-up l closed accepted) i h k,
     proved-frames.late-dry (rulesOf x .plan) (planned x set-up) (frameHistory x l) (in-order x set-up l closed accepted) i h k,

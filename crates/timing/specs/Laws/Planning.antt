@@ -8,6 +8,7 @@ use Rattle.limits.specs.Paper.{activeRatio, readNum, readDen}
 use Rattle.limits.specs.Accepted.{Accepted, accepted}
 use Rattle.limits.specs.Facts.{frame-most, frame-least, tro-below}
 use Rattle.grain.specs.Paper.{grains, instants}
+use Rattle.frame.specs.declared.Plan.{Plan}
 use Rattle.frame.specs.Range.{Planned}
 use Rattle.timing.specs.declared.StreamNumbers.{StreamNumbers}
 use Rattle.timing.specs.Step.{setUpOf, frameOf, rulesOf}
@@ -44,8 +45,23 @@ module _ (x : StreamNumbers) (e : setUpOf x ≡ 0) where
     few = fine .n-fits .1;
     early = tro-below fine;
     apart = num-some (x .parameters .schedule) (frameOf x) (omega (arith, frame-long));
-    near = num-most (x .parameters .schedule) (frameOf x);
+    near = omega (arith, num-most (x .parameters .schedule) (frameOf x));
     divided = den-most (x .parameters .schedule) (x .parameters .n) (fine .n-fits .1);
+  }
+
+  -- and so does any plan of half the period, with some of the packets and the frame's own spacing of the reads
+  pub planned-half : (half : Plan) → frameOf x ≡ 2 * half .period → 0 < half .packets → half .packets ≤ x .parameters .n
+      → half .tro < half .period → half .reads ≡ rulesOf x .plan .reads → Planned half
+  unfolding rulesOf
+  planned-half half period some few early reads = record {
+    long = omega (arith, frame-long);
+    short = omega (arith, frame-most (x .parameters .rate));
+    some = some;
+    few = omega (arith, few, fine .n-fits .1);
+    early = early;
+    apart = rw reads (num-some (x .parameters .schedule) (frameOf x) (omega (arith, frame-long)));
+    near = rw reads (omega (arith, num-most (x .parameters .schedule) (frameOf x)));
+    divided = rw reads (den-most (x .parameters .schedule) (x .parameters .n) (fine .n-fits .1));
   }
 
   -- the drain instants of 600 s are fewer than a billion, and their products fit
