@@ -99,12 +99,12 @@ pub data First : ℕ → List Bool → ℕ → Type 0 where
   goes-on : {k r : ℕ} {t : Bool} {more : List Bool} → not t ≡ false → First (suc k) more r → First k (t ∷ more) r
   stops : {k : ℕ} {t : Bool} {more : List Bool} → not t ≡ true → First k (t ∷ more) k
 
--- a question that the code asks by a function of its own, answered
-pub yes-asked : {r t : Bool} → r ≡ t → not r ≡ false → not t ≡ false
-yes-asked e f = ap not (sym e) ∙ f
+-- the same of a question that the code asks by a function of its own
+pub asked : {k r : ℕ} {a t : Bool} {more : List Bool} → a ≡ t → not a ≡ false → First (suc k) more r → First k (t ∷ more) r
+asked e f more = goes-on (ap not (sym e) ∙ f) more
 
-pub no-asked : {r t : Bool} → r ≡ t → not r ≡ true → not t ≡ true
-no-asked e f = ap not (sym e) ∙ f
+pub refused : {k : ℕ} {a t : Bool} {more : List Bool} → a ≡ t → not a ≡ true → First k (t ∷ more) k
+refused e f = stops (ap not (sym e) ∙ f)
 
 pub first : {k r : ℕ} {l : List Bool} → First k l r → r ≡ firstNo k l
 unfolding firstNo

@@ -10,7 +10,10 @@ use Rattle.text.specs.Lines.{lineRoom, Line, Part}
 pub part-then : {m n at k r : ℕ} {a b before between after : List ℕ} → Part m a at before k between → Part n b k between r after
     → Part (m + n) (a ++ b) at before r after
 part-then {m} {n} {at} {k} {r} {a} {b} {before} p q = record {
-  put = record { next = omega (arith, length-append a b, p .put .next, q .put .next); there = cc (sets-join a b before at, p .put .next, p .put .there, q .put .there) };
+  put = record {
+    next = omega (arith, length-append a b, p .put .next, q .put .next);
+    there = cc (sets-join a b before at, p .put .next, p .put .there, q .put .there);
+  };
   short = omega (arith, length-append a b, p .short, q .short);
 }
 

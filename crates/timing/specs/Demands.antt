@@ -152,7 +152,8 @@ module _ (x : StreamNumbers) (set-up : setUpOf x ≡ 0) (l : List Packet) (close
   pub limits-are : CMaxIs (classOf (x .parameters .class)) (x .parameters .schedule) (frameOf x) (x .parameters .n) (rulesOf x .limit)
       × VrxFullIs (classOf (x .parameters .class)) (x .parameters .maxudp) (frameOf x) (x .parameters .n) (rulesOf x .plan .full)
       × TroIs (frameOf x) (x .parameters .height) (x .parameters .tro) (rulesOf x .plan .tro)
-      × Same (record { num = rulesOf x .plan .reads .num; den = rulesOf x .plan .reads .den }) (readSpacing (x .parameters .schedule) (frameOf x) (x .parameters .n))
+      × Same (record { num = rulesOf x .plan .reads .num; den = rulesOf x .plan .reads .den })
+      (readSpacing (x .parameters .schedule) (frameOf x) (x .parameters .n))
   limits-are = (limit-exact x set-up, full-exact x set-up, tro-exact x set-up, spacing-exact x set-up)
 
   -- "Drain instants lie k·10F/(11n) grains after the first packet of the history, k = 1, 2, and so on (β = 1.10).": k of them are up to

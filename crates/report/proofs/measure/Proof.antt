@@ -68,7 +68,8 @@ mark-requires c κs =
 add-from : tie.Need-add-from Inv-loop μ-loop
 add-from c =
     let turn = c .before .before .before .before .before in
-    omega (arith, sixteen (turn .before .loop .inv) (turn .loop-test .taken), turn .before .before .before .before .before .before .before .before .good)
+    let start = turn .before .before .before .before .before .before .before .before in
+    omega (arith, sixteen (turn .before .loop .inv) (turn .loop-test .taken), start .good)
 
 loop-less : tie.Need-loop-less Inv-loop μ-loop
 loop-less c =
@@ -91,7 +92,10 @@ same-length : tie.Need-same-length Inv-loop μ-loop
 same-length c = search needs
 
 returns : tie.Need-returns Inv-loop μ-loop
-returns c = measured-from (c .before .before .before .before .before .before .before .before .args .file .now) (c .before .before .fresh .ensures) (loop-ends (c .before .loop .inv) (omega arith))
+returns c =
+    let fresh = c .before .before in
+    let start = fresh .before .before .before .before .before .before in
+    measured-from (start .args .file .now) (fresh .fresh .ensures) (loop-ends (c .before .loop .inv) (omega arith))
 
 pub measure-spec : {M : Type 1} → statement M
 measure-spec =

@@ -42,11 +42,13 @@ module _ (x : StreamNumbers) (set-up : setUpOf x ≡ 0) where
 
   pub limit-exact : CMaxIs (classOf (x .parameters .class)) (x .parameters .schedule) (frameOf x) (x .parameters .n) (rulesOf x .limit)
   unfolding rulesOf
-  limit-exact = c-max-is (frameOf x) (x .parameters .n) long (classOf (x .parameters .class)) (x .parameters .schedule) (is-accepted .class-fits)
+  limit-exact = let p = x .parameters in c-max-is (frameOf x) (p .n) long (classOf (p .class)) (p .schedule) (is-accepted .class-fits)
 
   pub full-exact : VrxFullIs (classOf (x .parameters .class)) (x .parameters .maxudp) (frameOf x) (x .parameters .n) (rulesOf x .plan .full)
   unfolding rulesOf
-  full-exact = vrx-full-is (frameOf x) (x .parameters .n) long (classOf (x .parameters .class)) (x .parameters .schedule) (x .parameters .maxudp) (is-accepted .class-fits) some
+  full-exact =
+      let p = x .parameters in
+      vrx-full-is (frameOf x) (p .n) long (classOf (p .class)) (p .schedule) (p .maxudp) (is-accepted .class-fits) some
     where
       some : 0 < x .parameters .maxudp
       some = ⊎-elim (λ e. omega arith) (λ e. omega arith) (is-accepted .maxudp-known)
