@@ -129,9 +129,13 @@ module _ (plan : Plan) (h : History) where
       pub bound : (j : ℕ) → j < plan .packets → z ≤ℤ subℕ (arrivedBy j) (suc j)
       pub met : (j : ℕ) × (j < plan .packets) × (z ≡ subℕ (arrivedBy j) (suc j))
 
-    -- "one of its packets comes after its read time"
+    -- "after its read time": packet j comes after read j
     abbrev pub late : ℕ → Bool
     late j = ltb (firstRead * plan .reads .den + j * plan .reads .num) (arrival j * plan .reads .den)
+
+    -- "one of its packets comes after its read time"
+    abbrev pub SomeLate : Type 0
+    SomeLate = (j : ℕ) × (j < plan .packets) × (late j ≡ true)
 
     -- "The buffer runs dry where least is below 0."
     abbrev pub Dry : Type 0

@@ -1,11 +1,13 @@
--- Choosing by a test, and what holds of every number below one.
+-- Choosing by a test, and what holds of every number below a bound.
 use mathlib.Core.Path.{_≡_, refl, subst}
 use mathlib.Core.Logic.{_⊎_, inl, inr}
 use mathlib.Core.Bool.{Bool, true, false}
+use mathlib.Core.List.{List}
 use Prim.Native.Nat.{ℕ, suc, _≤_, _<_}
 use native.Mathlib.Omega.{arith}
 use native.Mathlib.Nat.{le-suc-iff}
 use lib.Dec.{eqb}
+use lib.ListN.{getD}
 
 -- the first of two where the test holds, the second where it does not
 abbrev pub pick {ℓ} : {A : Type ℓ} → Bool → A → A → A
@@ -23,6 +25,10 @@ false-true e = let z : _≡_ {A = ℕ} 0 1 = cc in omega arith
 pub pick-either : {A : Type 0} (P : A → Type 0) (t : Bool) {a b : A} → (t ≡ true → P a) → (t ≡ false → P b) → P (pick t a b)
 pick-either P true f g = f refl
 pick-either P false f g = g refl
+
+-- each number of a list is below a bound, as those of a slice are below what their type holds
+abbrev pub AllBelow : ℕ → List ℕ → Type 0
+AllBelow bound l = (i : ℕ) → getD l i 0 < bound
 
 -- what holds of each number below m, and of m, holds of each below m + 1
 pub up-to : (P : ℕ → Type 0) (m : ℕ) → ((i : ℕ) → i < m → P i) → P m → (i : ℕ) → i < suc m → P i

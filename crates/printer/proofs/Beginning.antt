@@ -26,7 +26,7 @@ use Rattle.timing.specs.declared.SetUp.{SetUp}
 use Rattle.timing.specs.declared.SetUp.the-variants.{Fresh, Refused as Not-Set-Up}
 use Rattle.timing.specs.Step.{ofParameters, rulesOf, freshOf}
 use Rattle.timing.specs.Answers.{setUpAs}
-use Rattle.timing.specs.Laws.InRange.{sound-fresh}
+use Rattle.timing.proofs.InRange.{sound-fresh}
 use Rattle.printer.specs.declared.Opened.{Opened}
 use Rattle.printer.specs.declared.Opened.the-variants.{More as Wanting, Refused as Unopened, Ready as Opens}
 use Rattle.printer.specs.Paper.{linesOf, outputBy, restOf, outputOf}

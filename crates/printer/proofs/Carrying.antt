@@ -30,8 +30,8 @@ use Rattle.record.proofs.InPieces.{piece-answers}
 use Rattle.timing.specs.declared.Rules.{Rules}
 use Rattle.timing.specs.declared.State.{State}
 use Rattle.timing.specs.Step.{rulesOf, stepOf, rowsOf, stateAfter, rowsAfter}
-use Rattle.timing.specs.Laws.InRange.{of-sound}
-use Rattle.timing.specs.Laws.Running.{going-next, step-numbers, step-past}
+use Rattle.timing.proofs.InRange.{of-sound}
+use Rattle.timing.proofs.Running.{going-next, step-numbers, step-past}
 use Rattle.printer.specs.declared.Walk.{Walk}
 use Rattle.printer.specs.Paper.{rowLines, sumLine, lastLine, linesOf, restOf}
 use Rattle.printer.specs.Step.{Took, lineOf, stays, andThen, stepped, linesAt, itemBy}

@@ -17,7 +17,7 @@ use Rattle.timing.specs.declared.State.{State}
 use Rattle.timing.specs.Step.{rulesOf}
 use Rattle.timing.specs.Answers.{answersOf, verdictOf}
 use Rattle.timing.specs.Range.{Sound}
-use Rattle.timing.specs.Laws.InRange.{of-sound}
+use Rattle.timing.proofs.InRange.{of-sound}
 use Rattle.printer.specs.declared.Walk.{Walk}
 use Rattle.printer.specs.declared.Opened.{Opened}
 use Rattle.printer.specs.declared.Opened.the-variants.{More as Wanting, Refused as Unopened, Ready}

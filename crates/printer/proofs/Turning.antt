@@ -29,8 +29,8 @@ use Rattle.timing.specs.declared.State.{State}
 use Rattle.timing.specs.Step.{rulesOf}
 use Rattle.timing.specs.Range.{inRange}
 use Rattle.timing.specs.Feed.{Going}
-use Rattle.timing.specs.Laws.Sink.{Sink}
-use Rattle.timing.specs.Laws.Running.{going-next, Turn}
+use Rattle.timing.proofs.Sink.{Sink}
+use Rattle.timing.proofs.Running.{going-next, Turn}
 use Rattle.printer.specs.declared.Walk.{Walk}
 use Rattle.printer.specs.declared.Taken.{Taken}
 use Rattle.printer.specs.Paper.{rowLines}

@@ -16,8 +16,8 @@ use Rattle.timing.specs.declared.Fed.the-variants.{Accepted, Refused}
 use Rattle.timing.specs.Step.{setUpOf, freshOf}
 use Rattle.timing.specs.Answers.{summaryWidth, summaryOf}
 use Rattle.timing.specs.Feed.{feedOf, Is}
-use Rattle.timing.specs.Laws.Answering.{set-up-then}
-use Rattle.timing.specs.Demands.{refusal-changes-nothing}
+use Rattle.timing.proofs.Answering.{set-up-then}
+use Rattle.timing.proofs.Feeding.{refused-stays}
 use Rattle.probe.specs.declared.Answer.{Answer}
 use Rattle.probe.specs.declared.Held.{Held}
 use Rattle.probe.specs.declared.Held.the-variants.{Known, Nothing}
@@ -109,7 +109,7 @@ module _ (words : List ℕ) (rows : List ℤ) (out ts ss ms : List ℕ) where
 
     pub call-refused : {k place : ℕ} {t : State} → b ≡ Refused k place t → Feeds (callOf words rows out ts ss ms) k words after out
     call-refused {k} {place} {t} q =
-        let stays = refusal-changes-nothing s t rows ts ss ms k place (sym (g .answer-is) ∙ q) in
+        let stays = refused-stays s t rows ts ss ms k place (sym (g .answer-is) ∙ q) in
         let told = ap (λ (z : Fed). byFed words rows out s z (feedOf s rows ts ss ms .rows)) (sym q) ∙ by-fed in
         let r = is (refused words rows out k place) told in
         record { number-is = r .number-is; words-are = r .words-are; rows-are = g .rows-are ∙ stays .1 ∙ r .rows-are; out-is = r .out-is }

@@ -19,17 +19,13 @@ use Rattle.limits.specs.Steps.{ParametersHeld}
 use Rattle.timing.specs.declared.Rules.{Rules}
 use Rattle.timing.specs.declared.State.{State}
 use Rattle.timing.specs.Step.{arriveOf, markOf, stepOf, stateAfter}
-use Rattle.timing.specs.Laws.Running.{step-numbers}
+use Rattle.timing.proofs.Running.{step-numbers}
 use Rattle.probe.specs.declared.Held.the-variants.{Known}
 use Rattle.probe.specs.Words.{wordsOf, heldBy}
+use Rattle.probe.specs.Dealt.{Stamped}
 use Rattle.probe.proofs.RoundTrip.{Narrow, length-words, words-hold}
 
 -- ---- what is narrow stays narrow
-
--- each timestamp has 32 bits
-unfoldable pub Stamped : List Packet → Type 0
-Stamped [] = Unit
-Stamped (p ∷ l) = (p .stamp < 4294967296) × Stamped l
 
 stamp-step : (rules : Rules) (s : State) (p : Packet) → p .stamp < 4294967296 → s .frames .current .stamp < 4294967296
     → stepOf rules s p .frames .current .stamp < 4294967296

@@ -67,6 +67,10 @@ module _ (words : List ℕ) (rows : List ℤ) (out : List ℕ) where
     unfolding heldBy feedOf wordsOf summaryWith
     callOf = byHeld (heldBy (take 32 words))
 
+-- the lent slices are as they were
+abbrev pub Unchanged : List ℕ → List ℤ → List ℕ → Told → Type 0
+Unchanged words rows out told = (told .words ≡ words) × (told .rows ≡ rows) × (told .out ≡ out)
+
 -- a number and the slices' contents are what is told
 pub record Feeds (told : Told) (number : ℕ) (words : List ℕ) (rows : List ℤ) (out : List ℕ) : Type 0 where
   pub number-is : number ≡ told .number

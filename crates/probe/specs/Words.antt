@@ -1,9 +1,10 @@
 -- A state as 32 words, one for each of its numbers in the order of docs/STATE.md, and the state that lent words hold.
+use mathlib.Core.Path.{_≡_}
 use mathlib.Core.Bool.{Bool, true, false, _&&_}
 use mathlib.Core.List.{List, [], _∷_}
 use Prim.Native.Nat.{ℕ, _%_}
 use lib.Dec.{eqb}
-use lib.ListN.{getD}
+use lib.ListN.{getD, take}
 use Rattle.laws.specs.Choose.{pick}
 use Rattle.laws.specs.Every.{values}
 use Rattle.bucket.specs.declared.Bucket.{Bucket}
@@ -107,3 +108,11 @@ same (x ∷ xs) (y ∷ ys) = eqb x y && same xs ys
 unfoldable pub heldBy : List ℕ → Held
 unfolding wordsOf stateIn same
 heldBy w = pick (same (wordsOf (stateIn w)) w) (Known (stateIn w)) Nothing
+
+-- lent words hold a state: the first 32 of them
+abbrev pub Holds : List ℕ → State → Type 0
+Holds words s = heldBy (take 32 words) ≡ Known s
+
+-- or none
+abbrev pub HoldNone : List ℕ → Type 0
+HoldNone words = heldBy (take 32 words) ≡ Nothing

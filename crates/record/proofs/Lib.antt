@@ -13,7 +13,6 @@ pub mod WriteRead
 pub mod ReadWrite
 pub mod Window
 pub mod Answered
-pub mod RoundTrip
 pub mod InPieces
 pub mod Waiting
 pub mod OneAnswer

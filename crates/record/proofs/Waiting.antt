@@ -16,7 +16,7 @@ use Rattle.record.specs.declared.Head.the-variants as head
 use Rattle.record.specs.declared.Next.{Next}
 use Rattle.record.specs.Paper.{bodyLength, kindOf, isParameters, kindLength}
 use Rattle.record.specs.Step.{framedOf, Whole, firstOf, headBy, headPiece, headRead, wholeOf, nextBy, nextPiece, nextRead}
-use Rattle.record.specs.Pieces.{readNumber, wantsMore, headWaits, headNumber}
+use Rattle.record.specs.Pieces.{readNumber, wantsMore, headWaits, headNumber, Depends, HeadDepends}
 use Rattle.record.proofs.Format.{Front, scrap, nought, short, whole, front, framed-nothing, framed-byte, framed-nought, framed-short}
 use Rattle.record.proofs.Format.{framed-whole}
 use Rattle.record.proofs.Ways.{head-none, head-cons}
@@ -61,12 +61,6 @@ apart w e = go w (front w) e
 
 -- ---- after the head
 
--- two continuations that are told apart
-pub record Hangs (at : ℕ) (w : List ℕ) : Type 0 where
-  pub one : List ℕ
-  pub other : List ℕ
-  pub differ : nextRead at (w ++ one) ≡ nextRead at (w ++ other) → ⊥
-
 -- a whole record is not refused by 21
 not-21 : (at body kind : ℕ) (l : List ℕ) → readNumber (wholeOf at body kind l) ≡ 21 → ⊥
 unfolding wholeOf
@@ -79,15 +73,15 @@ number-by : (at : ℕ) (l : List ℕ) {f : Framed} → framedOf l true ≡ f →
 unfolding nextPiece
 number-by at l e = ap (λ g. readNumber (nextBy at l g)) e
 
-hangs : (at : ℕ) (w : List ℕ) → Apart w → Hangs at w
-hangs at w (nothing-there other a b) = record {
+depends : (at : ℕ) (w : List ℕ) → Apart w → Depends at w
+depends at w (nothing-there other a b) = record {
   one = [];
   other = other;
   differ = λ same.
       let n = sym (number-by at w a) ∙ ap (λ l. readNumber (nextRead at l)) (sym (append-nil w)) ∙ ap readNumber same
       ∙ number-by at (w ++ other) b in omega (arith, n);
 }
-hangs at w (cut-short other body kind a b) = record {
+depends at w (cut-short other body kind a b) = record {
   one = [];
   other = other;
   differ = λ same.
@@ -95,13 +89,13 @@ hangs at w (cut-short other body kind a b) = record {
       ∙ number-by at (w ++ other) b in not-21 at body kind (w ++ other) (sym n);
 }
 
--- more is wanted only where the answer hangs on what follows
-pub more-needed : (at : ℕ) (w : List ℕ) → wantsMore (nextPiece at w false) ≡ true → Hangs at w
+-- more is wanted only where the answer depends on what follows
+pub more-needed : (at : ℕ) (w : List ℕ) → wantsMore (nextPiece at w false) ≡ true → Depends at w
 unfolding nextPiece
 more-needed at w m = go (framedOf w false) refl
   where
-    go : (f : Framed) → framedOf w false ≡ f → Hangs at w
-    go framed.More e = hangs at w (apart w e)
+    go : (f : Framed) → framedOf w false ≡ f → Depends at w
+    go framed.More e = depends at w (apart w e)
     go framed.Nothing e = absurd (false-true (sym (ap (λ g. wantsMore (nextBy at w g)) e) ∙ m))
     go framed.Cut e = absurd (false-true (sym (ap (λ g. wantsMore (nextBy at w g)) e) ∙ m))
     go (framed.Whole body kind) e =
@@ -109,11 +103,6 @@ more-needed at w m = go (framedOf w false) refl
         absurd (false-true (sym (ap (λ g. wantsMore (nextBy at w g)) e ∙ known) ∙ m))
 
 -- ---- the head
-
-pub record HeadHangs (w : List ℕ) : Type 0 where
-  pub one : List ℕ
-  pub other : List ℕ
-  pub differ : headRead (w ++ one) ≡ headRead (w ++ other) → ⊥
 
 first-not-21 : (version body kind : ℕ) (l : List ℕ) → headNumber (firstOf version body kind l) ≡ 21 → ⊥
 unfolding firstOf
@@ -127,15 +116,15 @@ module _ (b : ℕ) (v : eqb b 1 ≡ true) where
   head-by : (l : List ℕ) {f : Framed} → framedOf l true ≡ f → headNumber (headRead (b ∷ l)) ≡ headNumber (headBy b l f)
   head-by l e = ap headNumber (head-cons b l true) ∙ rw (v, e)
 
-  head-hangs : (l : List ℕ) → Apart l → HeadHangs (b ∷ l)
-  head-hangs l (nothing-there other x y) = record {
+  head-depends : (l : List ℕ) → Apart l → HeadDepends (b ∷ l)
+  head-depends l (nothing-there other x y) = record {
     one = [];
     other = other;
     differ = λ same.
         let n = sym (head-by l x) ∙ ap (λ m. headNumber (headRead (b ∷ m))) (sym (append-nil l)) ∙ ap headNumber same
         ∙ head-by (l ++ other) y in omega (arith, n);
   }
-  head-hangs l (cut-short other body kind x y) = record {
+  head-depends l (cut-short other body kind x y) = record {
     one = [];
     other = other;
     differ = λ same.
@@ -143,11 +132,11 @@ module _ (b : ℕ) (v : eqb b 1 ≡ true) where
         ∙ head-by (l ++ other) y in first-not-21 b body kind (l ++ other) (sym n);
   }
 
-  first-needed : (l : List ℕ) → headWaits (headBy b l (framedOf l false)) ≡ true → HeadHangs (b ∷ l)
+  first-needed : (l : List ℕ) → headWaits (headBy b l (framedOf l false)) ≡ true → HeadDepends (b ∷ l)
   first-needed l m = go (framedOf l false) refl
     where
-      go : (f : Framed) → framedOf l false ≡ f → HeadHangs (b ∷ l)
-      go framed.More e = head-hangs l (apart l e)
+      go : (f : Framed) → framedOf l false ≡ f → HeadDepends (b ∷ l)
+      go framed.More e = head-depends l (apart l e)
       go framed.Nothing e = absurd (false-true (sym (ap (λ g. headWaits (headBy b l g)) e) ∙ m))
       go framed.Cut e = absurd (false-true (sym (ap (λ g. headWaits (headBy b l g)) e) ∙ m))
       go (framed.Whole body kind) e =
@@ -155,7 +144,7 @@ module _ (b : ℕ) (v : eqb b 1 ≡ true) where
           absurd (false-true (sym (ap (λ g. headWaits (headBy b l g)) e ∙ known) ∙ m))
 
 -- no byte, and the version byte 1
-no-byte : HeadHangs []
+no-byte : HeadDepends []
 no-byte = record {
   one = [];
   other = 1 ∷ [];
@@ -163,11 +152,11 @@ no-byte = record {
       let n = sym (ap headNumber (head-none [] true refl refl)) ∙ ap headNumber same ∙ head-by 1 refl [] (framed-nothing [] refl) in omega (arith, n);
 }
 
-pub head-needed : (w : List ℕ) → headWaits (headPiece w false) ≡ true → HeadHangs w
+pub head-needed : (w : List ℕ) → headWaits (headPiece w false) ≡ true → HeadDepends w
 head-needed [] m = no-byte
 head-needed (b ∷ l) m = go (eqb b 1) refl
   where
-    go : (t : Bool) → eqb b 1 ≡ t → HeadHangs (b ∷ l)
+    go : (t : Bool) → eqb b 1 ≡ t → HeadDepends (b ∷ l)
     go true v =
         let same : headPiece (b ∷ l) false ≡ headBy b l (framedOf l false) = head-cons b l false ∙ rw v in
         first-needed b v l (sym (ap headWaits same) ∙ m)

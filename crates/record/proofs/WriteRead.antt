@@ -5,29 +5,32 @@ use mathlib.Core.Bool.{true, Bool, false, _||_}
 use mathlib.Core.List.{List, [], _∷_, _++_}
 use Prim.Native.Nat.{ℕ, _+_, _<_}
 use native.Mathlib.Omega.{arith}
-use lib.ListN.{length, drop, length-append}
+use lib.ListN.{length, take, drop, length-append}
 use lib.Seq.{drop-at}
+use Rattle.laws.specs.Choose.{AllBelow}
 use Rattle.packet.specs.declared.Past.{Past}
 use Rattle.packet.specs.declared.Scanned.the-variants as scan
 use Rattle.packet.specs.declared.Packet.{Packet}
-use Rattle.packet.specs.Paper.{marked}
+use Rattle.packet.specs.Paper.{marked, packets}
 use Rattle.packet.specs.Step.{nothing, numberOf, nextOf, closes, scanOf}
 use Rattle.packet.proofs.Refusals.{accepted}
-use Rattle.packet.proofs.Turn.{scan-goes, ready-accepted, fine-ready}
+use Rattle.packet.proofs.Turn.{scan-goes, ready-accepted, fine-ready, scanned-fine}
 use Rattle.limits.specs.declared.Parameters.{Parameters}
 use Rattle.limits.specs.Paper.{setUpRefusal}
 use Rattle.record.specs.Paper.{parametersLength, packetLength, parametersBytes, packetBytes, headBytes}
 use Rattle.record.specs.Paper.{packetAt, formatRefusal, packetRefusal}
-use Rattle.record.specs.Paper.{done, Packets, more, packetsIn, read, readingOf}
+use Rattle.record.specs.Paper.{done, Packets, more, packetsIn, read, readingOf, file, asFile, fileOf}
 use Rattle.endian.specs.Fields.{Fit}
 use Rattle.record.specs.Layout.{packetWidths, packetFields, parameterRecord, packetRecord, recordsOf, bytesIn}
 use Rattle.record.specs.Layout.{PacketsHeld}
 use Rattle.limits.specs.Steps.{ParametersHeld}
+use Rattle.record.specs.declared.Written.the-variants.{Done}
+use Rattle.record.specs.Write.{Writes}
 use Rattle.record.specs.Step.{Whole}
 use Rattle.record.proofs.Format.{packet-2, parameters-1, length-14, length-16, there}
 use Rattle.record.proofs.Reading.{second, packets-end, packets-go, reading-go}
 use Rattle.record.proofs.Stores.{length-packet}
-use Rattle.record.proofs.Writing.{length-head}
+use Rattle.record.proofs.Writing.{length-head, was-written, writes-done, packets-held}
 use Rattle.record.proofs.Fields.{packet-back, parameters-back}
 
 -- all of some packets
@@ -91,3 +94,13 @@ file-written s ps n hs hp e f =
     let format : formatRefusal true l ≡ 0 = there true l here ∙ rw (length-16 1 parameters-1, parameters-1) in
     reading-go (1 ∷ l) refl (second _ _ format ∙ ap setUpRefusal (back .same) ∙ e)
     ∙ rw (back .same, drop-at (parameterRecord s) (recordsOf ps) parametersBytes long, packets-written ps nothing false 0 n headBytes hp f)
+
+-- what the writer writes reads as what it was given
+pub written-reads : (s : Parameters) (ts ss ms out after : List ℕ) (n : ℕ) → ParametersHeld s
+    → AllBelow 18446744073709551616 ts → AllBelow 4294967296 ss
+    → Writes s ts ss ms out (Done n) after → fileOf (take n after) ≡ file s (packets ts ss ms)
+written-reads s ts ss ms out after n hs ht hm w =
+    let was = was-written s ts ss ms (length out) n (w .answered) in
+    let scanned = scanned-fine nothing false ts ss ms (was .closed) (was .scan-fine) in
+    ap fileOf (writes-done s ts ss ms out after n w)
+    ∙ ap asFile (file-written s (packets ts ss ms) (was .closed) hs (packets-held ts ss ms ht hm) (was .set-up) (scanned .1))

@@ -120,6 +120,19 @@ allInPieces k held (p ∷ pieces) =
     (allInPieces k (held ++ p) pieces)
     (heard (headPiece held false) (λ at. inPieces k at (drop headBytes held) (p ∷ pieces)))
 
+-- ---- what a window alone does not decide
+
+-- two continuations that are told apart
+pub record Depends (at : ℕ) (w : List ℕ) : Type 0 where
+  pub one : List ℕ
+  pub other : List ℕ
+  pub differ : nextRead at (w ++ one) ≡ nextRead at (w ++ other) → ⊥
+
+pub record HeadDepends (w : List ℕ) : Type 0 where
+  pub one : List ℕ
+  pub other : List ℕ
+  pub differ : headRead (w ++ one) ≡ headRead (w ++ other) → ⊥
+
 -- ---- the records that the reader gives, call after call, and what the file reads as
 
 -- packets from an offset on, one after the other

@@ -22,7 +22,7 @@ use Rattle.timing.specs.declared.State.{State}
 use Rattle.frame.specs.Step.{rowWidth}
 use Rattle.timing.specs.Step.{ofParameters, rulesOf, freshOf, numbers}
 use Rattle.timing.specs.Answers.{summaryWidth, summaryOf}
-use Rattle.timing.specs.Laws.Scanning.{numbers-length, scan-runs}
+use Rattle.timing.proofs.Scanning.{numbers-length, scan-runs}
 use Rattle.limits.specs.declared.Parameters.{Parameters}
 use Rattle.record.specs.declared.Checked.the-variants as checked
 use Rattle.record.specs.Paper.{Packets, File, file, refused, fileOf}

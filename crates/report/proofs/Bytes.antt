@@ -19,7 +19,7 @@ use Rattle.frame.specs.Step.{rowWidth, numbersOf}
 use Rattle.timing.specs.declared.State.{State}
 use Rattle.timing.specs.Step.{numbers}
 use Rattle.timing.specs.Answers.{summaryWidth, summaryWith, summaryOf}
-use Rattle.timing.specs.Laws.Sink.{Sink, numbers-more}
+use Rattle.timing.proofs.Sink.{Sink, numbers-more}
 use Rattle.report.specs.Paper.{signed, inBytes, encoded, rowBytes, numberBytes}
 
 pub length-stored : (xs : List ℕ) → length (inBytes xs) ≡ numberBytes * length xs

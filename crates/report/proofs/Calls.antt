@@ -25,7 +25,7 @@ use Rattle.timing.specs.declared.Drawn.{Drawn}
 use Rattle.timing.specs.declared.Drawn.the-variants.{Figures, Refused as Not-Drawn}
 use Rattle.timing.specs.Step.{setUpOf}
 use Rattle.timing.specs.Answers.{graphOf}
-use Rattle.timing.specs.Laws.Answering.{set-up-then}
+use Rattle.timing.proofs.Answering.{set-up-then}
 use Rattle.limits.specs.declared.Parameters.{Parameters}
 use Rattle.record.specs.declared.Written.{Written}
 use Rattle.record.specs.declared.Written.the-variants.{Done}

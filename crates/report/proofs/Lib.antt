@@ -4,5 +4,5 @@ pub mod Asking
 pub mod Calls
 pub mod Measuring
 pub mod Signed
-pub mod Stated
+pub mod Answering
 pub mod OneAnswer

@@ -15,11 +15,11 @@ use Rattle.timing.specs.declared.State.{State}
 use Rattle.timing.specs.Step.{rulesOf, freshOf, arriveOf}
 use Rattle.timing.specs.Feed.{Arrives, Lays, Ran}
 use Rattle.timing.specs.Range.{inRange, Sound}
-use Rattle.timing.specs.Laws.InRange.{sound-fresh, of-sound}
-use Rattle.timing.specs.Laws.Dealing.{sound-after}
-use Rattle.timing.specs.Laws.Scanning.{scan-runs}
-use Rattle.timing.specs.Laws.Running.{step-past}
-use Rattle.timing.specs.Laws.Running as R
+use Rattle.timing.proofs.InRange.{sound-fresh, of-sound}
+use Rattle.timing.proofs.Dealing.{sound-after}
+use Rattle.timing.proofs.Scanning.{scan-runs}
+use Rattle.timing.proofs.Running.{step-past}
+use Rattle.timing.proofs.Running as R
 use Rattle.record.specs.Paper.{packetBytes, headBytes, packetAt, done, Packets, packetRefusal, packetsIn}
 use Rattle.record.proofs.Ways.{rest-all}
 use Rattle.record.proofs.Reading.{neither, packet-here, packets-end, packets-go, packets-accepted}

@@ -22,10 +22,10 @@ use Rattle.packet.specs.Step.{nothing, nextOf}
 use Rattle.frame.proofs.RowsFit.{AllFit, fit-append, fit-at}
 use Rattle.timing.specs.Step.{ofParameters, rulesOf, freshOf}
 use Rattle.timing.specs.Answers.{summaryOf}
-use Rattle.timing.specs.Laws.InRange.{sound-fresh}
-use Rattle.timing.specs.Laws.Dealing.{sound-after}
-use Rattle.timing.specs.Laws.Scanning.{scan-runs}
-use Rattle.timing.specs.Laws.Fitting.{summary-fits, rows-fit}
+use Rattle.timing.proofs.InRange.{sound-fresh}
+use Rattle.timing.proofs.Dealing.{sound-after}
+use Rattle.timing.proofs.Scanning.{scan-runs}
+use Rattle.timing.proofs.Fitting.{summary-fits, rows-fit}
 use Rattle.limits.specs.declared.Parameters.{Parameters}
 use Rattle.record.specs.Paper.{headBytes, bodyLength, packetAt, packetRefusal, Packets, packetsBy, file, fileOf}
 use Rattle.record.proofs.ReadWrite.{file-holds}

@@ -1,4 +1,5 @@
 -- Set-up, the verdict, the summary and the graph: what each answers, for every input.
+use mathlib.Core.Bool.{_&&_}
 use mathlib.Core.List.{List, [], _∷_}
 use Prim.Native.Nat.{ℕ}
 use lib.Dec.{eqb}
@@ -69,6 +70,10 @@ graphOf fpt margin latency =
     (Not-Drawn 16))
     (Not-Drawn 16))
     (Not-Drawn 16)
+
+-- its number
+abbrev pub graphNumber : ℤ → ℤ → ℤ → ℕ
+graphNumber fpt margin latency = pick (inFloat binary64 fpt && (inFloat binary64 margin && inFloat binary64 latency)) 0 16
 
 -- For each answer that is an enum, the paper's number, 0 where nothing is refused, and its place.
 abbrev pub fedNumber : Fed → ℕ

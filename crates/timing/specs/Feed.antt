@@ -3,7 +3,7 @@ use mathlib.Core.Path.{_≡_}
 use mathlib.Core.Bool.{true}
 use mathlib.Core.List.{List, [], _∷_, _++_}
 use Prim.Native.Nat.{ℕ, _+_, _*_, _≤_, _<_}
-use lib.Dec.{leb}
+use lib.Dec.{eqb, leb}
 use lib.IntN.{ℤ}
 use lib.ListN.{length}
 use lib.Seq.{sets}
@@ -12,9 +12,10 @@ use Rattle.grain.specs.Paper.{grains}
 use Rattle.packet.specs.declared.Past.{Past}
 use Rattle.packet.specs.declared.Scanned.{Scanned}
 use Rattle.packet.specs.declared.Scanned.the-variants.{Fine, Refused as Scan-Refused}
+use Rattle.packet.specs.declared.Refusal.{Refusal}
 use Rattle.packet.specs.declared.Packet.{Packet}
 use Rattle.packet.specs.Paper.{packets}
-use Rattle.packet.specs.Step.{elapsedOf, nextOf, numberOf, scanOf, scannedOf}
+use Rattle.packet.specs.Step.{elapsedOf, nextOf, numberOf, scanOf, scannedOf, scannedNumber, scannedPlace, scannedClosed}
 use Rattle.frame.specs.declared.Row.{Row}
 use Rattle.frame.specs.Step.{rowWidth, rowOf}
 use Rattle.frame.specs.Range.{Planned, Pushable, Rowable}
@@ -111,6 +112,39 @@ module _ (s : State) (rows : List ℤ) where
   unfoldable pub feedOf : List ℕ → List ℕ → List ℕ → Outcome
   feedOf ts ss ms =
       pick (inRange s) (byScan (scannedOf (s .past) (s .frames .begun) ts ss ms) (packets ts ss ms)) (refusedBy 9 0)
+
+-- ---- the refusals of a call, in their order
+
+-- one refusal; number 0 means that there is none
+abbrev refusal : ℕ → ℕ → Refusal
+refusal number place = record { number = number; place = place }
+
+-- the first that is one
+abbrev pub firstOf : List Refusal → Refusal
+firstOf [] = refusal 0 0
+firstOf (r ∷ more) = pick (eqb (r .number) 0) (firstOf more) r
+
+-- "9": the state is out of its ranges
+abbrev pub rangeNumber : State → ℕ
+rangeNumber s = pick (inRange s) 0 9
+
+module _ (s : State) (rows : List ℤ) (ts ss ms : List ℕ) where
+  abbrev scanned : Scanned
+  scanned = scannedOf (s .past) (s .frames .begun) ts ss ms
+
+  -- "15 fewer than ten row numbers per frame closed in this call"
+  abbrev pub roomNumber : ℕ
+  roomNumber = pick (leb (scannedClosed scanned * rowWidth) (length rows)) 0 15
+
+  -- "Order: 9, 10, then packet by packet 11 to 14, then 15."; "the packet's place in the history (0 for 1 to 10 and 24, the call's first
+  -- packet's for 15)"
+  abbrev pub refusals : List Refusal
+  refusals = refusal (rangeNumber s) 0 ∷ refusal (scannedNumber scanned) (scannedPlace scanned) ∷ refusal roomNumber (s .past .packets) ∷ []
+
+-- what an answer says of a refusal
+abbrev pub fedRefusal : Fed → Refusal
+fedRefusal (Accepted s) = refusal 0 0
+fedRefusal (Refused number place s) = refusal number place
 
 -- an answer and a list of rows are an outcome's
 pub record Is (o : Outcome) (answer : Fed) (rows : List ℤ) : Type 0 where

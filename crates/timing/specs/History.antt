@@ -1,18 +1,22 @@
--- The declared state: what the measurement is before packet i of a history, in the words of the crates below, over the whole list by place.
+-- The declared state: what the measurement is before packet i of a history, in the words of the crates below, over the whole list by place;
+-- and an accepted history, with the state that feeding it reaches.
+use mathlib.Core.Path.{_≡_}
 use mathlib.Core.List.{List, [], _++_}
 use Prim.Native.Nat.{ℕ, zero, suc}
 use lib.ListN.{length}
 use Rattle.grain.specs.Paper.{grains}
 use Rattle.packet.specs.declared.Packet.{Packet}
-use Rattle.packet.specs.Paper.{marked, at, pastAt}
+use Rattle.packet.specs.declared.Scanned.the-variants.{Fine}
+use Rattle.packet.specs.Paper.{marked, at, pastAt, declared}
 use Rattle.bucket.specs.Paper as BP
 use Rattle.bucket.specs.Step as B
+use Rattle.frame.specs.declared.Plan.{Plan}
 use Rattle.frame.specs.declared.Row.{Row}
 use Rattle.frame.specs.Paper as FP
 use Rattle.frame.specs.ByPlace as F
 use Rattle.timing.specs.declared.StreamNumbers.{StreamNumbers}
 use Rattle.timing.specs.declared.State.{State}
-use Rattle.timing.specs.Step.{frameOf, rulesOf}
+use Rattle.timing.specs.Step.{setUpOf, frameOf, rulesOf, freshOf, stateAfter, rowsAfter}
 
 module _ (x : StreamNumbers) (l : List Packet) where
   -- the history as the bucket sees it, in grains, and as the frames see it, in nanoseconds
@@ -40,3 +44,37 @@ module _ (x : StreamNumbers) (l : List Packet) where
   unfoldable pub rowsTo : ℕ → List Row
   rowsTo zero = []
   rowsTo (suc i) = rowsTo i ++ F.rowsAt (rulesOf x .plan) frameHistory i
+
+-- An accepted history: set-up accepts the stream numbers, and by the table no packet of the list is refused.
+pub record AcceptedHistory : Type 0 where
+  pub stream : StreamNumbers
+  pub set-up : setUpOf stream ≡ 0
+  pub packets : List Packet
+  pub closed : ℕ
+  pub fine : declared packets ≡ Fine closed
+
+module _ (h : AcceptedHistory) where
+  -- the state that feeding it from set-up gives, and the rows
+  abbrev pub reached : State
+  reached = stateAfter (rulesOf (h .stream)) (freshOf (h .stream)) (h .packets)
+
+  abbrev pub rowsOfAll : List Row
+  rowsOfAll = rowsAfter (rulesOf (h .stream)) (freshOf (h .stream)) (h .packets)
+
+  -- its plan, and its packets as the frames and as the bucket see them
+  abbrev pub plan : Plan
+  plan = rulesOf (h .stream) .plan
+
+  abbrev pub frames : FP.History
+  frames = frameHistory (h .stream) (h .packets)
+
+  abbrev pub arrivals : BP.History
+  arrivals = bucketHistory (h .stream) (h .packets)
+
+  -- how many packets it has
+  abbrev pub size : ℕ
+  size = length (h .packets)
+
+  -- the highest excess that its class allows
+  abbrev pub limit : ℕ
+  limit = rulesOf (h .stream) .limit

@@ -3,5 +3,3 @@ pub mod Range
 pub mod Feed
 pub mod Answers
 pub mod History
-pub mod Demands
-pub mod Laws

@@ -7,7 +7,7 @@ use denote.Ref.{now}
 use borrow.Author.Needs.{needs}
 use Rattle.timing.specs.declared.Verdict.{Verdict}
 use Rattle.timing.specs.Answers.{summaryWith}
-use Rattle.timing.specs.Laws.Answering.{verdict-is, verdict-there}
+use Rattle.timing.proofs.Answering.{verdict-is, verdict-there}
 use Rattle.probe.proofs.summarise.Statement.{statement}
 use Rattle.probe.proofs.summarise.Tie as tie
 

@@ -5,7 +5,7 @@ use mathlib.Core.Logic.{⊎-elim}
 use native.Mathlib.Omega.{arith}
 use lib.ListN.{length}
 use borrow.Author.Needs.{needs}
-use Rattle.timing.specs.Laws.Running.{turn-marked, turn-plain}
+use Rattle.timing.proofs.Running.{turn-marked, turn-plain}
 use Rattle.report.proofs.Bytes.{as-bytes}
 use Rattle.report.proofs.Measuring.{Loop, loop-begins, sixteen, there, packet-arrives, packet-lays, packet-closed, packet-next}
 use Rattle.report.proofs.Measuring.{loop-ends, measured-from}

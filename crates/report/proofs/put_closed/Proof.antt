@@ -2,7 +2,7 @@
 use mathlib.Core.Path.{sym, ap}
 use Prim.Native.Nat.{ℕ, _+_}
 use native.Mathlib.Omega.{arith}
-use Rattle.timing.specs.Laws.Laying.{closedRow, row-fits, puts-one, puts-none}
+use Rattle.timing.proofs.Laying.{closedRow, row-fits, puts-one, puts-none}
 use Rattle.report.proofs.Bytes.{as-bytes, row-length}
 use borrow.Author.Needs.{needs}
 use Rattle.report.proofs.put_closed.Statement.{statement}

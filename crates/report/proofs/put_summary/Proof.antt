@@ -8,7 +8,7 @@ use borrow.Author.Needs.{needs}
 use Rattle.timing.specs.Answers.{summaryWith}
 use Rattle.timing.specs.declared.Verdict.{Verdict}
 use Rattle.report.specs.Paper.{inBytes}
-use Rattle.timing.specs.Laws.Answering.{verdict-is, verdict-there}
+use Rattle.timing.proofs.Answering.{verdict-is, verdict-there}
 use Rattle.report.proofs.put_summary.Statement.{statement}
 use Rattle.report.proofs.put_summary.Tie as tie
 

@@ -8,7 +8,7 @@ use lib.ListN.{length, drop}
 use denote.Ref.{now}
 use borrow.Author.Needs.{needs}
 use Rattle.timing.specs.Feed.{Going}
-use Rattle.timing.specs.Laws.Running.{going-arrives, going-closed, going-makes, turn-marked, turn-plain}
+use Rattle.timing.proofs.Running.{going-arrives, going-closed, going-makes, turn-marked, turn-plain}
 use Rattle.printer.proofs.Turning.{walk-full, walk-stops, walk-refuses, as-lines, Loop, loop-begins, loop-stops}
 use Rattle.printer.proofs.Turning.{next-inside, next-turn}
 use Rattle.printer.proofs.Turning.{stays-takes, takes-length}

@@ -3,7 +3,7 @@ use mathlib.Core.Path.{sym, _∙_}
 use native.Mathlib.Omega.{arith}
 use denote.Ref.{now}
 use borrow.Author.Tests.{not-true, not-false}
-use Rattle.timing.specs.Laws.InRange.{sound-of}
+use Rattle.timing.proofs.InRange.{sound-of}
 use Rattle.printer.proofs.Turning.{stays-takes, take-full, take-9, take-runs}
 use borrow.Author.Needs.{needs}
 use Rattle.printer.proofs.Walk.take.Statement.{statement}

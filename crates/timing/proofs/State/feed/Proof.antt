@@ -2,7 +2,7 @@
 use mathlib.Core.Path.{sym, _∙_}
 use borrow.Author.Tests.{not-true, not-false}
 use denote.Ref.{now}
-use Rattle.timing.specs.Laws.Feeding.{fed-9, fed-refused, fed-15, one-length, runs, fed}
+use Rattle.timing.proofs.Feeding.{fed-9, fed-refused, fed-15, one-length, runs, fed}
 use borrow.Author.Needs.{needs}
 use Rattle.timing.proofs.State.feed.Statement.{statement}
 use Rattle.timing.proofs.State.feed.Tie as tie

@@ -4,8 +4,8 @@ use borrow.Author.Tests.{eq-eqb, ne-eqb}
 use Rattle.laws.specs.Every.{after}
 use Rattle.frame.specs.Range.{Planned}
 use Rattle.timing.specs.declared.Rules.{Rules}
-use Rattle.timing.specs.Laws.InRange.{by-parts}
-use Rattle.timing.specs.Laws.Planning.{planned}
+use Rattle.timing.proofs.InRange.{by-parts}
+use Rattle.timing.proofs.Planning.{planned}
 use borrow.Author.Needs.{needs}
 use Rattle.timing.proofs.State.in_range.Statement.{statement}
 use Rattle.timing.proofs.State.in_range.Tie as tie

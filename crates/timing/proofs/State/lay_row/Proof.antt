@@ -1,8 +1,8 @@
 -- Where the lead-in is over the row is made and laid; else nothing is.
 use mathlib.Core.Path.{refl}
 use native.Mathlib.Omega.{arith}
-use Rattle.timing.specs.Laws.Laying.{row-fits, puts-one, puts-none}
-use Rattle.timing.specs.Laws.Sink.{as-numbers}
+use Rattle.timing.proofs.Laying.{row-fits, puts-one, puts-none}
+use Rattle.timing.proofs.Sink.{as-numbers}
 use borrow.Author.Needs.{needs}
 use Rattle.timing.proofs.State.lay_row.Statement.{statement}
 use Rattle.timing.proofs.State.lay_row.Tie as tie

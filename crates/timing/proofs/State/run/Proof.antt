@@ -3,9 +3,9 @@ use mathlib.Core.Logic.{⊎-elim}
 use denote.Ref.{now}
 use Rattle.packet.specs.Paper.{packets, packetsFrom, lent}
 use Rattle.packet.proofs.Lent.{packets-cons, packets-none}
-use Rattle.timing.specs.Laws.Running.{Loop, Turn, loop-begins, loop-next, loop-ends, loop-arrives, loop-lays, loop-closed}
-use Rattle.timing.specs.Laws.Sink.{as-numbers}
-use Rattle.timing.specs.Laws.Running.{turn-marked, turn-plain}
+use Rattle.timing.proofs.Running.{Loop, Turn, loop-begins, loop-next, loop-ends, loop-arrives, loop-lays, loop-closed}
+use Rattle.timing.proofs.Sink.{as-numbers}
+use Rattle.timing.proofs.Running.{turn-marked, turn-plain}
 use Prim.Native.Nat.{_-_, _≤_}
 use native.Mathlib.Omega.{arith}
 use lib.ListN.{length}

@@ -29,10 +29,10 @@ use Rattle.timing.specs.Answers.{summaryWith, summaryOf}
 use Rattle.timing.specs.Range.{Sound}
 use Rattle.timing.specs.Feed.{Passes}
 use Rattle.laws.specs.Every.{and-right}
-use Rattle.timing.specs.Laws.Planning.{planned}
-use Rattle.timing.specs.Laws.Staying.{sound-step, rows-made}
-use Rattle.timing.specs.Laws.Running.{step-numbers, step-past}
-use Rattle.timing.specs.Laws.Sink.{both, as-numbers}
+use Rattle.timing.proofs.Planning.{planned}
+use Rattle.timing.proofs.Staying.{sound-step, rows-made}
+use Rattle.timing.proofs.Running.{step-numbers, step-past}
+use Rattle.timing.proofs.Sink.{both, as-numbers}
 
 -- ---- the nine numbers of a state
 

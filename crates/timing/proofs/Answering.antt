@@ -27,8 +27,8 @@ use Rattle.timing.specs.declared.Graph.{Graph}
 use Rattle.timing.specs.declared.Drawn.the-variants.{Figures, Refused as Not-Drawn}
 use Rattle.timing.specs.Step.{setUpOf}
 use Rattle.timing.specs.Range.{inRange}
-use Rattle.timing.specs.Answers.{setUpAs, answersOf, verdictOf, graphOf, fedNumber, fedPlace, setUpNumber, judgedNumber, drawnNumber}
-use Rattle.timing.specs.Feed.{refusedBy, byScan, feedOf}
+use Rattle.timing.specs.Answers.{setUpAs, answersOf, verdictOf, graphOf, graphNumber, setUpNumber, judgedNumber, drawnNumber}
+use Rattle.timing.specs.Feed.{refusedBy, byScan, feedOf, rangeNumber, fedRefusal, firstOf, refusals}
 
 pub set-up-numbered : (x : StreamNumbers) → setUpNumber (setUpAs x) ≡ setUpOf x
 unfolding setUpAs
@@ -51,7 +51,7 @@ verdict-there s n e f =
     let z : _≡_ {A = ℕ} 0 1 = cc in
     omega arith
 
-pub verdict-numbered : (s : State) → judgedNumber (verdictOf s) ≡ pick (inRange s) 0 9
+pub verdict-numbered : (s : State) → judgedNumber (verdictOf s) ≡ rangeNumber s
 unfolding verdictOf
 verdict-numbered s = go _ (inRange s)
   where
@@ -60,7 +60,7 @@ verdict-numbered s = go _ (inRange s)
     go v false = refl
 
 pub graph-numbered : (fpt margin latency : ℤ)
-    → drawnNumber (graphOf fpt margin latency) ≡ pick (inFloat binary64 fpt && (inFloat binary64 margin && inFloat binary64 latency)) 0 16
+    → drawnNumber (graphOf fpt margin latency) ≡ graphNumber fpt margin latency
 unfolding graphOf
 graph-numbered fpt margin latency = go _ (inFloat binary64 fpt) (inFloat binary64 margin) (inFloat binary64 latency)
   where
@@ -77,40 +77,35 @@ module _ (s : State) (rows : List ℤ) (ts ss ms : List ℕ) where
   abbrev scanned : Scanned
   scanned = scannedOf (s .past) (s .frames .begun) ts ss ms
 
-  abbrev roomy : Scanned → Bool
-  roomy x = leb (scannedClosed x * rowWidth) (length rows)
+  abbrev room : Scanned → ℕ
+  room x = pick (leb (scannedClosed x * rowWidth) (length rows)) 0 15
+
+  abbrev none : Refusal
+  none = record { number = 0; place = 0 }
 
   by-room : (n : ℕ) (t : Bool) → leb (n * rowWidth) (length rows) ≡ t
-      → (fedNumber (byScan s rows (Fine n) (packets ts ss ms) .answer) ≡ pick t 0 15)
-      × (fedPlace (byScan s rows (Fine n) (packets ts ss ms) .answer) ≡ pick t 0 (s .past .packets))
-  by-room n true e = (rw e, rw e)
-  by-room n false e = (rw e, rw e)
+      → fedRefusal (byScan s rows (Fine n) (packets ts ss ms) .answer)
+      ≡ pick (eqb (pick t 0 15) 0) none (record { number = pick t 0 15; place = s .past .packets })
+  by-room n true e = rw e
+  by-room n false e = rw e
 
-  by-scanned : (x : Scanned) → scanned ≡ x
-      → (fedNumber (byScan s rows x (packets ts ss ms) .answer) ≡ orElse (scannedNumber x) (pick (roomy x) 0 15))
-      × (fedPlace (byScan s rows x (packets ts ss ms) .answer)
-      ≡ pick (eqb (scannedNumber x) 0) (pick (roomy x) 0 (s .past .packets)) (scannedPlace x))
+  by-scanned : (x : Scanned) → scanned ≡ x → fedRefusal (byScan s rows x (packets ts ss ms) .answer)
+      ≡ pick (eqb (scannedNumber x) 0)
+      (pick (eqb (room x) 0) none (record { number = room x; place = s .past .packets }))
+      (record { number = scannedNumber x; place = scannedPlace x })
   by-scanned (Fine n) e = by-room n (leb (n * rowWidth) (length rows)) refl
-  by-scanned (Scan-Refused r) e =
-      let some = ne-eqb (r .number) 0 (scanned-some (s .past) (s .frames .begun) ts ss ms r e) in
-      (sym (rw some), sym (rw some))
+  by-scanned (Scan-Refused r) e = sym (rw (ne-eqb (r .number) 0 (scanned-some (s .past) (s .frames .begun) ts ss ms r e)))
 
-  pub fed-numbered : fedNumber (feedOf s rows ts ss ms .answer)
-      ≡ orElse (pick (inRange s) 0 9) (orElse (scannedNumber scanned) (pick (roomy scanned) 0 15))
+  -- number and place are those of the first refusal that there is
+  pub first-refused : fedRefusal (feedOf s rows ts ss ms .answer) ≡ firstOf (refusals s rows ts ss ms)
   unfolding feedOf
-  fed-numbered = go (inRange s)
+  first-refused = go (inRange s)
     where
-      go : (t : Bool) → fedNumber (pick t (byScan s rows scanned (packets ts ss ms)) (refusedBy s rows 9 0) .answer)
-          ≡ orElse (pick t 0 9) (orElse (scannedNumber scanned) (pick (roomy scanned) 0 15))
-      go true = by-scanned scanned refl .0
-      go false = refl
-
-  pub fed-placed : fedPlace (feedOf s rows ts ss ms .answer)
-      ≡ pick (inRange s) (pick (eqb (scannedNumber scanned) 0) (pick (roomy scanned) 0 (s .past .packets)) (scannedPlace scanned)) 0
-  unfolding feedOf
-  fed-placed = go (inRange s)
-    where
-      go : (t : Bool) → fedPlace (pick t (byScan s rows scanned (packets ts ss ms)) (refusedBy s rows 9 0) .answer)
-          ≡ pick t (pick (eqb (scannedNumber scanned) 0) (pick (roomy scanned) 0 (s .past .packets)) (scannedPlace scanned)) 0
-      go true = by-scanned scanned refl .1
+      go : (t : Bool) → fedRefusal (pick t (byScan s rows scanned (packets ts ss ms)) (refusedBy s rows 9 0) .answer)
+          ≡ pick (eqb (pick t 0 9) 0)
+          (pick (eqb (scannedNumber scanned) 0)
+          (pick (eqb (room scanned) 0) none (record { number = room scanned; place = s .past .packets }))
+          (record { number = scannedNumber scanned; place = scannedPlace scanned }))
+          (record { number = pick t 0 9; place = 0 })
+      go true = by-scanned scanned refl
       go false = refl

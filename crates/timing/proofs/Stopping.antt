@@ -22,11 +22,11 @@ use Rattle.timing.specs.declared.Rules.{Rules}
 use Rattle.timing.specs.Step.{setUpOf, rulesOf, freshOf, stepOf, stateAfter}
 use Rattle.timing.specs.Range.{Sound}
 use Rattle.timing.specs.Feed.{Passes, Call, allOf, Rooms, Accepts, Stops, here, later}
-use Rattle.timing.specs.Laws.InRange.{sound-fresh, of-sound}
-use Rattle.timing.specs.Laws.Scanning.{scan-runs}
-use Rattle.timing.specs.Laws.Feeding.{refused-call}
-use Rattle.timing.specs.Laws.Declared.{scan-of-call}
-use Rattle.timing.specs.Laws.Dealing.{sound-after, accepts, passes-cut, numbers-after}
+use Rattle.timing.proofs.InRange.{sound-fresh, of-sound}
+use Rattle.timing.proofs.Scanning.{scan-runs}
+use Rattle.timing.proofs.Feeding.{refused-call}
+use Rattle.timing.proofs.Declared.{scan-of-call}
+use Rattle.timing.proofs.Dealing.{sound-after, accepts, passes-cut, numbers-after}
 
 -- what a front part is refused by, the whole is
 refused-on : (l m : List Packet) (r : Refusal) → declared l ≡ Refused r → declared (l ++ m) ≡ Refused r

@@ -24,13 +24,13 @@ use Rattle.timing.specs.declared.Fed.the-variants.{Accepted}
 use Rattle.timing.specs.Step.{rulesOf, stepOf, rowsOf, stateAfter, rowsAfter, numbers}
 use Rattle.timing.specs.Range.{inRange, Sound}
 use Rattle.timing.specs.Feed.{Passes, Outcome, refusedBy, acceptedAs, byScan, feedAll, feedOf, Call, allOf, Deals, none, call, Rooms}
-use Rattle.timing.specs.Laws.InRange.{of-sound, sound-of}
-use Rattle.timing.specs.Laws.Feeding.{accepted-from, feed-slices}
-use Rattle.timing.specs.Laws.Staying.{sound-step}
-use Rattle.timing.specs.Laws.Running.{step-numbers, step-past}
-use Rattle.timing.specs.Laws.Sink.{both, as-numbers}
-use Rattle.timing.specs.Laws.Scanning.{begun-step, rows-count}
-use Rattle.timing.specs.Laws.Declared.{rows-cut}
+use Rattle.timing.proofs.InRange.{of-sound, sound-of}
+use Rattle.timing.proofs.Feeding.{accepted-from, feed-slices}
+use Rattle.timing.proofs.Staying.{sound-step}
+use Rattle.timing.proofs.Running.{step-numbers, step-past}
+use Rattle.timing.proofs.Sink.{both, as-numbers}
+use Rattle.timing.proofs.Scanning.{begun-step, rows-count}
+use Rattle.timing.proofs.Declared.{rows-cut}
 
 -- the stream numbers stay
 pub numbers-after : (rules : Rules) (s : State) (l : List Packet) → (stateAfter rules s l) .numbers ≡ s .numbers

@@ -19,7 +19,7 @@ use Rattle.timing.specs.declared.Rules.{Rules}
 use Rattle.timing.specs.declared.State.{State}
 use Rattle.timing.specs.Step.{arriveOf, markOf, stepOf, rowsOf, rowsAfter, numbers}
 use Rattle.timing.specs.Feed.{Passes}
-use Rattle.timing.specs.Laws.Running.{step-past}
+use Rattle.timing.proofs.Running.{step-past}
 
 -- ten numbers a row
 pub numbers-length : (l : List Row) → length (numbers l) ≡ length l * F.rowWidth

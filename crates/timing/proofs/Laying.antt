@@ -12,7 +12,7 @@ use Rattle.frame.specs.Step.{rowOf}
 use Rattle.timing.specs.declared.Rules.{Rules}
 use Rattle.timing.specs.declared.State.{State}
 use Rattle.timing.specs.Feed.{closing, Lays}
-use Rattle.timing.specs.Laws.Sink.{Sink, one}
+use Rattle.timing.proofs.Sink.{Sink, one}
 
 -- the row that is closed
 abbrev pub closedRow : Rules → State → Row

@@ -1,4 +1,4 @@
--- What the C calls do with a file and lent bytes, in document 01's words, one theorem a sentence; most by cases on what the file reads as.
+-- What the C calls do with a file and lent bytes: by cases on what the file reads as.
 use mathlib.Core.Path.{_≡_, refl, sym, ap, _∙_}
 use mathlib.Core.Bool.{Bool, true, false}
 use mathlib.Core.List.{List, [], _++_, map, append-nil}
@@ -23,15 +23,14 @@ use Rattle.frame.specs.Step.{rowWidth}
 use Rattle.timing.specs.Step.{ofParameters, rulesOf, freshOf, numbers}
 use Rattle.timing.specs.Answers.{summaryOf}
 use Rattle.timing.specs.Feed.{feedAll}
-use Rattle.timing.specs.Laws.InRange.{sound-fresh, of-sound}
-use Rattle.timing.specs.Laws.Scanning.{numbers-length, scan-runs}
+use Rattle.timing.proofs.InRange.{sound-fresh, of-sound}
+use Rattle.timing.proofs.Scanning.{numbers-length, scan-runs}
 use Rattle.limits.specs.declared.Parameters.{Parameters}
 use Rattle.record.specs.Paper.{File, file, refused, fileOf}
 use Rattle.record.specs.Walk.{asChecked, checkedOf, checkedNumber, checkedOffset}
 use Rattle.limits.specs.Steps.{ParametersHeld}
 use Rattle.record.specs.Write.{fileLength}
 use Rattle.record.proofs.ReadWrite.{file-holds}
-use Rattle.record.proofs.RoundTrip.{written-accepted}
 use Rattle.report.specs.Paper.{stateOf, rowsOf, reportOf, encoded, bytesFor, answer, answered, answerOf, roomFor, roomOf}
 use Rattle.report.specs.Paper.{numberBytes, filled, filledBy}
 use Rattle.report.specs.Step.{Writes}
@@ -39,12 +38,7 @@ use Rattle.report.proofs.Calls.{written-whole}
 use Rattle.report.proofs.Signed.{report-fits, number-back}
 
 module _ (s : List ℕ) where
-  -- "Too few bytes is 15 at the file's length, after all else": a refused file's number and offset do not hang on the room
-  pub refused-first : (room number offset : ℕ) → fileOf s ≡ refused number offset → answerOf s room ≡ answer number offset
-  unfolding answerOf
-  refused-first room number offset e = ap (answered (length s) room) e
-
-  -- they are the check's own, for each number that it gives
+  -- a refusal is the check's own, for each number that it gives
   pub as-checked : (room : ℕ) → (checkedNumber (checkedOf s) ≡ 0 → ⊥)
       → answerOf s room ≡ answer (checkedNumber (checkedOf s)) (checkedOffset (checkedOf s))
   unfolding answerOf checkedOf
@@ -54,38 +48,6 @@ module _ (s : List ℕ) where
           → answered (length s) room f ≡ answer (checkedNumber (asChecked f)) (checkedOffset (asChecked f))
       go (refused number offset) n = refl
       go (file w ps) n = absurd (n refl)
-
-  -- and no room is needed to be told of them
-  pub refused-room : (number offset : ℕ) → fileOf s ≡ refused number offset → roomOf s ≡ 0
-  unfolding roomOf
-  refused-room number offset e = ap roomFor e
-
-  module _ (w : Parameters) (ps : List Packet) (e : fileOf s ≡ file w ps) where
-    pub too-few-bytes : (room : ℕ) → room < length (bytesFor w ps) → answerOf s room ≡ answer 15 (length s)
-    unfolding answerOf
-    too-few-bytes room h = ap (answered (length s) room) e ∙ rw (lt-leb (length (bytesFor w ps)) room h)
-
-    -- "both are 0 when accepted"
-    pub accepted-nought : (room : ℕ) → length (bytesFor w ps) ≤ room → answerOf s room ≡ answer 0 0
-    unfolding answerOf
-    accepted-nought room h = ap (answered (length s) room) e ∙ rw (le-leb (length (bytesFor w ps)) room h)
-
-    -- the room that is told of an accepted file is its report's length: with as much or more it is accepted, with less it is 15
-    pub room-is : roomOf s ≡ length (bytesFor w ps)
-    unfolding roomOf
-    room-is = ap roomFor e
-
-    pub enough-room : (room : ℕ) → roomOf s ≤ room → answerOf s room ≡ answer 0 0
-    enough-room room h = accepted-nought room (omega (arith, room-is))
-
-    pub too-little-room : (room : ℕ) → room < roomOf s → answerOf s room ≡ answer 15 (length s)
-    too-little-room room h = too-few-bytes room (omega (arith, room-is))
-
-    -- "fills lent bytes with nine numbers [..], then the rows; bytes beyond stay"
-    pub filled-with : (out : List ℕ) → length (bytesFor w ps) ≤ length out
-        → filledBy s out ≡ bytesFor w ps ++ drop (length (bytesFor w ps)) out
-    unfolding filledBy
-    filled-with out h = ap (filled out) e ∙ rw (le-leb (length (bytesFor w ps)) (length out) h)
 
   -- "refused, it writes nothing": whatever number but 0 is returned
   pub refused-writes-nothing : (out : List ℕ) → (answerOf s (length out) .number ≡ 0 → ⊥) → filledBy s out ≡ out
@@ -100,17 +62,6 @@ module _ (s : List ℕ) where
               → pick t (bytesFor w ps ++ drop (length (bytesFor w ps)) out) out ≡ out
           by true n = absurd (n refl)
           by false n = refl
-
--- what the writer writes is accepted: the bytes of its file, with the room that is told of them. The hypotheses are what the numbers'
--- types and slices always hold.
-pub written-measured : (w : Parameters) (ts ss ms out after : List ℕ) → ParametersHeld w
-    → ((i : ℕ) → getD ts i 0 < 18446744073709551616) → ((i : ℕ) → getD ss i 0 < 4294967296)
-    → Writes w ts ss ms out 0 after → (room : ℕ) → roomOf (take (fileLength (length ts)) after) ≤ room
-    → answerOf (take (fileLength (length ts)) after) room ≡ answer 0 0
-written-measured w ts ss ms out after hw ht hs h room enough =
-    let size = fileLength (length ts) in
-    let reads = written-accepted w ts ss ms out after size hw ht hs (written-whole w ts ss ms out h) in
-    enough-room (take size after) w (packets ts ss ms) reads room enough
 
 -- the numbers are those of the measurement: one call of `feed` with the file's packets, from the fresh state and with just enough row
 -- numbers lent, is accepted, and the bytes are the nine numbers of its state and the row numbers that it wrote
@@ -139,10 +90,3 @@ as-fed s w ps e rows same =
       ),
       refl,
     )
-
--- "Each number is 8 bytes, signed, big-endian": of an accepted file, number k of the report is what its 8 bytes are, read as a signed
--- number. The bytes of a file are below 256, as a u8 is.
-pub reads-back : (s : List ℕ) → ((i : ℕ) → getD s i 0 < 256) → (w : Parameters) (ps : List Packet) → fileOf s ≡ file w ps
-    → (k : ℕ) → k < length (reportOf (ofParameters w) ps)
-    → toZ w64 (numberOf (take numberBytes (drop (numberBytes * k) (bytesFor w ps)))) ≡ getD (reportOf (ofParameters w) ps) k (pos 0)
-reads-back s b w ps e k h = number-back (reportOf (ofParameters w) ps) k (report-fits s w ps (bytes-all s b) e) h

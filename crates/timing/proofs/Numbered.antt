@@ -20,8 +20,8 @@ use Rattle.frame.specs.ByPlace.{rowsAt}
 use Rattle.timing.specs.declared.StreamNumbers.{StreamNumbers}
 use Rattle.timing.specs.Step.{rulesOf, numbers}
 use Rattle.timing.specs.History.{frameHistory, rowsTo}
-use Rattle.timing.specs.Laws.Sink.{both, as-numbers}
-use Rattle.timing.specs.Laws.Scanning.{numbers-length}
+use Rattle.timing.proofs.Sink.{both, as-numbers}
+use Rattle.timing.proofs.Scanning.{numbers-length}
 
 module _ (x : StreamNumbers) (l : List Packet) where
   rows-counted : (i : ℕ) → length (rowsTo x l i) ≡ numberAt (frameHistory x l) i

@@ -27,8 +27,8 @@ use Rattle.timing.specs.declared.Fed.the-variants.{Accepted, Refused}
 use Rattle.timing.specs.Step.{rulesOf, stateAfter, rowsAfter, numbers}
 use Rattle.timing.specs.Range.{inRange}
 use Rattle.timing.specs.Feed.{Passes, Runs, Ran, Outcome, refusedBy, acceptedAs, roomFor, byScan, feedAll, feedOf, Is}
-use Rattle.timing.specs.Laws.InRange.{sound-of}
-use Rattle.timing.specs.Laws.Scanning.{scan-runs, numbers-length}
+use Rattle.timing.proofs.InRange.{sound-of}
+use Rattle.timing.proofs.Scanning.{scan-runs, numbers-length}
 
 is : {o q : Outcome} → q ≡ o → Is o (q .answer) (q .rows)
 is e = record { answer-is = ap (λ (x : Outcome). x .answer) e; rows-are = ap (λ (x : Outcome). x .rows) e }

@@ -21,9 +21,9 @@ use Rattle.timing.specs.declared.State.{State}
 use Rattle.timing.specs.Step.{rulesOf, arriveOf, markOf, stepOf, rowsOf, stateAfter, rowsAfter}
 use Rattle.timing.specs.Range.{Sound}
 use Rattle.timing.specs.Feed.{Arrives, Makes, Lays, closing, Passes, Going, Runs, Ran}
-use Rattle.timing.specs.Laws.Planning.{planned}
-use Rattle.timing.specs.Laws.Sink.{Sink, both}
-use Rattle.timing.specs.Laws.Staying.{arrives, few-closed, sound-step, rows-made}
+use Rattle.timing.proofs.Planning.{planned}
+use Rattle.timing.proofs.Sink.{Sink, both}
+use Rattle.timing.proofs.Staying.{arrives, few-closed, sound-step, rows-made}
 
 -- a step leaves the stream numbers and goes on to the next past
 pub step-numbers : (rules : Rules) (s : State) (p : Packet) → (stepOf rules s p) .numbers ≡ s .numbers

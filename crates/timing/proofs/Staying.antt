@@ -19,7 +19,7 @@ use Rattle.timing.specs.declared.State.{State}
 use Rattle.timing.specs.Step.{rulesOf, arriveOf, markOf, stepOf}
 use Rattle.timing.specs.Range.{Sound}
 use Rattle.timing.specs.Feed.{Arrives}
-use Rattle.timing.specs.Laws.Planning.{planned, spacing-some, reach-fits, drains-few, guess-fits}
+use Rattle.timing.proofs.Planning.{planned, spacing-some, reach-fits, drains-few, guess-fits}
 
 module _ (s : State) (p : Packet) (x : Sound s) (e : numberOf (s .past) p ≡ 0) where
   accepted : P.Accepted (s .past) (p .time) (p .marker)

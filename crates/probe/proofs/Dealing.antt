@@ -1,5 +1,4 @@
--- What the C functions over a state in words do, in document 01's words, one theorem a sentence; each from what `feed` does, by the words
--- that carry its state.
+-- What the C functions over a state in words do: each from what `feed` does, by the words that carry its state.
 use mathlib.Core.Path.{_≡_, refl, sym, ap, _∙_, subst}
 use mathlib.Core.Bool.{Bool, true, false}
 use mathlib.Core.List.{List, [], _∷_, _++_, map}
@@ -11,33 +10,34 @@ use lib.ListN.{length, take}
 use lib.Seq.{sets}
 use borrow.Author.Tests.{eq-eqb, le-leb}
 use Rattle.laws.specs.Choose.{pick}
-use Rattle.packet.specs.declared.Scanned.the-variants.{Fine}
 use Rattle.packet.specs.declared.Packet.{Packet}
-use Rattle.packet.specs.Paper.{OneLength, packets, declared}
+use Rattle.packet.specs.Paper.{OneLength, packets}
 use Rattle.limits.specs.Steps.{ParametersHeld}
 use Rattle.timing.specs.declared.StreamNumbers.{StreamNumbers}
 use Rattle.timing.specs.declared.State.{State}
 use Rattle.timing.specs.declared.Fed.{Fed}
 use Rattle.timing.specs.declared.Fed.the-variants.{Accepted, Refused}
-use Rattle.timing.specs.Step.{setUpOf, rulesOf, freshOf, stateAfter, rowsAfter, numbers}
+use Rattle.timing.specs.Step.{setUpOf, rulesOf, freshOf, numbers}
+use Rattle.timing.specs.History.{AcceptedHistory, reached, rowsOfAll}
 use Rattle.timing.specs.Answers.{summaryWidth, fedNumber, fedPlace}
 use Rattle.timing.specs.Feed.{Outcome, feedOf, Call, allOf, writes, Deals, none, call, Rooms}
-use Rattle.timing.specs.Laws.Answering.{set-up-then}
-use Rattle.timing.specs.Laws.Feeding.{accepted-from}
-use Rattle.timing.specs.Demands.{slices-are-packets, dealt-over-calls}
+use Rattle.timing.proofs.Answering.{set-up-then}
+use Rattle.timing.proofs.Feeding.{accepted-from, feed-slices}
+use Rattle.timing.proofs.Accepting.{dealt}
 use Rattle.probe.specs.declared.Held.{Held}
 use Rattle.probe.specs.declared.Held.the-variants.{Known, Nothing}
-use Rattle.probe.specs.Words.{heldBy}
-use Rattle.probe.specs.Calls.{wordsNumber, setUpLeft, Told, refused, accepted, byFed, byHeld, callOf}
+use Rattle.probe.specs.Words.{heldBy, Holds, HoldNone}
+use Rattle.probe.specs.Calls.{wordsNumber, setUpLeft, Told, refused, accepted, byFed, byHeld, callOf, Unchanged}
+use Rattle.probe.specs.Dealt.{Lent, lentPackets, asCall, AllWhole, told, Dealt, no-call, one-call}
 use Rattle.probe.proofs.RoundTrip.{Narrow}
 use Rattle.probe.proofs.Calls.{enough-words}
-use Rattle.probe.proofs.Carrying.{Stamped, narrow-after, laid-hold}
+use Rattle.probe.proofs.Carrying.{narrow-after, laid-hold}
 
 -- ---- set-up
 
 -- the words that set-up leaves hold the fresh state
 pub set-up-holds : (x : StreamNumbers) (words : List ℕ) → ParametersHeld (x .parameters) → setUpOf x ≡ 0 → 32 ≤ length words
-    → (wordsNumber x (length words) ≡ 0) × (heldBy (take 32 (setUpLeft x words)) ≡ Known (freshOf x))
+    → (wordsNumber x (length words) ≡ 0) × Holds (setUpLeft x words) (freshOf x)
 unfolding wordsNumber setUpLeft
 set-up-holds x words f e h =
     let fine : wordsNumber x (length words) ≡ 0 =
@@ -48,36 +48,33 @@ set-up-holds x words f e h =
 -- ---- one call
 
 module _ (words : List ℕ) (rows : List ℤ) (out ts ss ms : List ℕ) where
-  abbrev Unchanged : Told → Type 0
-  Unchanged told = (told .words ≡ words) × (told .rows ≡ rows) × (told .out ≡ out)
-
   -- "A refused call [..] state and rows unchanged": whatever number but 0 is returned
-  pub refused-changes-nothing : (callOf words rows out ts ss ms .number ≡ 0 → ⊥) → Unchanged (callOf words rows out ts ss ms)
+  pub refused-changes-nothing : (callOf words rows out ts ss ms .number ≡ 0 → ⊥) → Unchanged words rows out (callOf words rows out ts ss ms)
   unfolding callOf
   refused-changes-nothing = go (heldBy (take 32 words))
     where
       room : (place : ℕ) (t : State) (after : List ℤ) (b : Bool)
           → (pick b (accepted words rows out t after) (refused words rows out 15 place) .number ≡ 0 → ⊥)
-          → Unchanged (pick b (accepted words rows out t after) (refused words rows out 15 place))
+          → Unchanged words rows out (pick b (accepted words rows out t after) (refused words rows out 15 place))
       room place t after true n = absurd (n refl)
       room place t after false n = (refl, refl, refl)
 
       fed : (s : State) (b : Fed) (after : List ℤ) → (byFed words rows out s b after .number ≡ 0 → ⊥)
-          → Unchanged (byFed words rows out s b after)
+          → Unchanged words rows out (byFed words rows out s b after)
       fed s (Accepted t) after n = room (s .past .packets) t after (leb summaryWidth (length out)) n
       fed s (Refused number place t) after n = (refl, refl, refl)
 
-      go : (h : Held) → (byHeld words rows out ts ss ms h .number ≡ 0 → ⊥) → Unchanged (byHeld words rows out ts ss ms h)
+      go : (h : Held) → (byHeld words rows out ts ss ms h .number ≡ 0 → ⊥) → Unchanged words rows out (byHeld words rows out ts ss ms h)
       go (Known s) n = fed s (feedOf s rows ts ss ms .answer) (feedOf s rows ts ss ms .rows) n
       go Nothing n = (refl, refl, refl)
 
   -- words that hold no state are 9 at place 0
-  pub no-state-9 : heldBy (take 32 words) ≡ Nothing
+  pub no-state-9 : HoldNone words
       → (callOf words rows out ts ss ms .number ≡ 9) × (callOf words rows out ts ss ms .place ≡ 0)
   unfolding callOf
   no-state-9 e = rw e (refl, refl)
 
-  module _ (s : State) (e : heldBy (take 32 words) ≡ Known s) (nine : summaryWidth ≤ length out) where
+  module _ (s : State) (e : Holds words s) (nine : summaryWidth ≤ length out) where
     -- with room for the summary, number and place are those of `feed` from the state that the words hold
     pub as-fed : (callOf words rows out ts ss ms .number ≡ fedNumber (feedOf s rows ts ss ms .answer))
         × (callOf words rows out ts ss ms .place ≡ fedPlace (feedOf s rows ts ss ms .answer))
@@ -97,52 +94,16 @@ module _ (words : List ℕ) (rows : List ℤ) (out ts ss ms : List ℕ) where
 
 -- ---- call after call
 
--- what one call lends: three slices, row numbers, and numbers for the summary
-pub record Lent : Type 0 where
-  pub ts : List ℕ
-  pub ss : List ℕ
-  pub ms : List ℕ
-  pub rows : List ℤ
-  pub out : List ℕ
-
-abbrev lentPackets : Lent → List Packet
-lentPackets c = packets (c .ts) (c .ss) (c .ms)
-
--- the call that `feed` is given
-abbrev pub asCall : Lent → Call
-asCall c = record { packets = lentPackets c; rows = c .rows }
-
--- slices of one length, timestamps of 32 bits, nine numbers or more for the summary
-pub record Whole (c : Lent) : Type 0 where
-  pub one-length : OneLength (c .ts) (c .ss) (c .ms)
-  pub stamped : Stamped (lentPackets c)
-  pub nine : summaryWidth ≤ length (c .out)
-
-unfoldable pub AllWhole : List Lent → Type 0
-AllWhole [] = Unit
-AllWhole (c ∷ cs) = Whole c × AllWhole cs
-
-abbrev pub told : List ℕ → Lent → Told
-told words c = callOf words (c .rows) (c .out) (c .ts) (c .ss) (c .ms)
-
--- each call is accepted, on the words that the one before it left, which hold a state; it lays what it writes (`writes`) from the front of
--- its own rows, and what they write, one after the other, is at the end
-pub data Dealt : List ℕ → List Lent → List ℕ → List ℤ → Type 0 where
-  no-call : {words : List ℕ} → Dealt words [] words []
-  one-call : {words end : List ℕ} {c : Lent} {cs : List Lent} {more : List ℤ} (s : State) → heldBy (take 32 words) ≡ Known s
-      → told words c .number ≡ 0 → told words c .rows ≡ sets (c .rows) 0 (writes s (asCall c))
-      → Dealt (told words c .words) cs end more → Dealt words (c ∷ cs) end (writes s (asCall c) ++ more)
-
 -- words that hold s carry it through the calls
 carried : (cs : List Lent) (s t : State) (words : List ℕ) (written : List ℤ) → Deals s (map asCall cs) t written → AllWhole cs → Narrow s
-    → heldBy (take 32 words) ≡ Known s
-    → (end : List ℕ) × Dealt words cs end written × (heldBy (take 32 end) ≡ Known t)
+    → Holds words s
+    → (end : List ℕ) × Dealt words cs end written × Holds end t
 unfolding AllWhole
 carried [] s t words written none w f e = (words, no-call, e)
 carried (c ∷ cs) s t words written (call {t = mid} {more = more} g rest) w f e =
     let from = accepted-from s mid (c .rows) (lentPackets c) (ap (λ (o : Outcome). o .answer) g) in
     let narrow = subst Narrow (sym (from .state)) (narrow-after (lentPackets c) (rulesOf (s .numbers)) s (w .0 .stamped) f) in
-    let fed = slices-are-packets s (c .rows) (c .ts) (c .ss) (c .ms) (w .0 .one-length) ∙ g in
+    let fed = feed-slices s (c .rows) (c .ts) (c .ss) (c .ms) (w .0 .one-length) ∙ g in
     let after = sets (c .rows) 0 (writes s (asCall c)) in
     let now = as-accepted words (c .rows) (c .out) (c .ts) (c .ss) (c .ms) s e (w .0 .nine) mid after fed in
     let left = ap (λ (x : Told). x .words) now in
@@ -153,12 +114,10 @@ carried (c ∷ cs) s t words written (call {t = mid} {more = more} g rest) w f e
 -- "An accepted list of packets dealt out in order over any calls gives the rows, end state and verdicts of one call with the whole list.":
 -- from the words that set-up leaves, each call is accepted, what they write to the rows is the one call's, and the words at the end hold
 -- its state
-pub dealt-over-c-calls : (x : StreamNumbers) → ParametersHeld (x .parameters) → (set-up : setUpOf x ≡ 0) (l : List Packet) (closed : ℕ)
-    → declared l ≡ Fine closed → (words : List ℕ) → 32 ≤ length words
-    → (cs : List Lent) → AllWhole cs → allOf (map asCall cs) ≡ l → Rooms (freshOf x) (map asCall cs)
-    → (end : List ℕ) × Dealt (setUpLeft x words) cs end (numbers (rowsAfter (rulesOf x) (freshOf x) l))
-    × (heldBy (take 32 end) ≡ Known (stateAfter (rulesOf x) (freshOf x) l))
-dealt-over-c-calls x f set-up l closed fine words h cs w all room =
-    let begun = set-up-holds x words f set-up h in
-    carried cs (freshOf x) _ (setUpLeft x words) _ (dealt-over-calls x set-up l closed fine (map asCall cs) all room) w
+pub dealt-over-c-calls : (h : AcceptedHistory) → ParametersHeld (h .stream .parameters) → (words : List ℕ) → 32 ≤ length words
+    → (cs : List Lent) → AllWhole cs → allOf (map asCall cs) ≡ h .packets → Rooms (freshOf (h .stream)) (map asCall cs)
+    → (end : List ℕ) × Dealt (setUpLeft (h .stream) words) cs end (numbers (rowsOfAll h)) × Holds end (reached h)
+dealt-over-c-calls h f words enough cs w all room =
+    let begun = set-up-holds (h .stream) words f (h .set-up) enough in
+    carried cs (freshOf (h .stream)) _ (setUpLeft (h .stream) words) _ (dealt h (map asCall cs) all room) w
     (record { numbers = f; stamp = omega arith }) (begun .1)

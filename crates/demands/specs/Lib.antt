@@ -1,0 +1,14 @@
+-- What vtiming promises, in the order in which a doubter reads. Each page has theorems and no work: a theorem stands under the sentence that
+-- it says, and its proof cites the crate that did the work. To believe a theorem read the definitions that it names; they stand in the
+-- specs/ of the crates below, each under its rule (docs/RULES.md), and nowhere else.
+--
+-- 1. Cases: the twelve cases, both sides of each limit. The definitions give the paper's numbers, so they mean what the paper means.
+pub mod Cases
+-- 2. Measurement: the owner's three demands on what is measured, call after call.
+pub mod Measurement
+-- 3. RoundTrips: the record file read and written, both ways, whole and in pieces.
+pub mod RoundTrips
+-- 4. Calls: what a host in C gets back, and what is left in the memory that it lent.
+pub mod Calls
+-- 5. Output: what the program prints of a file, however it comes.
+pub mod Output

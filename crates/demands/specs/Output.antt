@@ -1,0 +1,76 @@
+-- The program's output. `outputOf file` is what document 01 says is printed of a file (printer's Paper). First the lines themselves, then a
+-- file in pieces through calls of `Walk::take` (`Prints`, printer's Drive), then any run of the program, whatever its reads bring (`Ran`,
+-- pump's Run): what it hands over to be written is that output, or a front of it where a read or a write failed.
+use mathlib.Core.Path.{_≡_}
+use mathlib.Core.Logic.{_⊎_}
+use mathlib.Core.Bool.{Bool, true, false}
+use mathlib.Core.List.{List, [], _++_}
+use Prim.Native.Nat.{ℕ, _≤_, _<_}
+use lib.ListN.{length}
+use Rattle.laws.specs.Choose.{AllBelow}
+use Rattle.record.specs.declared.Next.the-variants.{More}
+use Rattle.record.specs.Step.{nextPiece}
+use Rattle.text.specs.Lines.{lineRoom, summaryLine, refusalLine}
+use Rattle.timing.specs.declared.State.{State}
+use Rattle.timing.specs.Range.{Sound}
+use Rattle.timing.specs.Answers.{answersOf}
+use Rattle.printer.specs.declared.Walk.{Walk}
+use Rattle.printer.specs.Paper.{sumLine, outputOf}
+use Rattle.printer.specs.Step.{openedNumber, openedOffset, beginOf, takeOf}
+use Rattle.printer.specs.Drive.{Prints}
+use Rattle.printer.proofs.Output as proved
+use Rattle.pump.specs.declared.End.{End}
+use Rattle.pump.specs.declared.End.the-variants.{Whole, Unread}
+use Rattle.pump.specs.Run.{Front, Whole-output, Ran}
+use Rattle.pump.proofs.Running as running
+
+-- ---- the last line
+
+-- "one last line: packets, frames closed, peak, verdicts", the state's own
+pub last-line : (s : State) → Sound s → sumLine s
+    ≡ summaryLine (s .past .packets) (s .frames .closed) (s .bucket .peak) (answersOf s .network) (answersOf s .buffer)
+last-line = proved.last-line
+
+-- "or, after the rows closed before a refusal, `refused`, number, offset": where the start of a file is refused, that is all that is
+-- printed, whatever follows
+pub start-refused : (w v : List ℕ) (last : Bool) → (last ≡ true → v ≡ []) → 0 < openedNumber (beginOf w last)
+    → outputOf (w ++ v) ≡ refusalLine (openedNumber (beginOf w last)) (openedOffset (beginOf w last))
+start-refused = proved.start-refused
+
+-- ---- a file in pieces, through calls
+
+-- however a file is cut into pieces and whatever room each call has, the lines put together are its output
+pub prints-output : {file text : List ℕ} → Prints file text → text ≡ outputOf file
+prints-output = proved.prints-output
+
+-- and every file comes to that
+pub file-printed : (file : List ℕ) → Prints file (outputOf file)
+file-printed = proved.file-printed
+
+-- a call with room for a line goes on, at the end of the file or with a window of 65,537 bytes; one that does not had no room for a line or
+-- wanted more bytes
+pub moves-last : (walk : Walk) (w : List ℕ) (room : ℕ) → lineRoom ≤ room → takeOf walk w true room .ended ≡ false
+    → 0 < takeOf walk w true room .used
+moves-last = proved.moves-last
+
+pub moves-full : (walk : Walk) (w : List ℕ) (last : Bool) (room : ℕ) → lineRoom ≤ room → AllBelow 256 w → 65537 ≤ length w
+    → takeOf walk w last room .ended ≡ false → 0 < takeOf walk w last room .used
+moves-full = proved.moves-full
+
+pub stuck-why : (walk : Walk) (w : List ℕ) (last : Bool) (room : ℕ) → takeOf walk w last room .ended ≡ false
+    → takeOf walk w last room .used ≡ 0 → (room < lineRoom) ⊎ (nextPiece (walk .at .at) w last ≡ More)
+stuck-why = proved.stuck-why
+
+-- ---- any run of the program
+
+-- whatever the reads brought, what was handed over is a front of the output of the file
+pub ran-front : {room : ℕ} {last : Bool} {file text : List ℕ} {end : End} → Ran room last file text end → Front last file text
+ran-front = running.ran-front
+
+-- and all of it where the last line is out
+pub ran-whole : {room : ℕ} {last : Bool} {file text : List ℕ} → Ran room last file text Whole → Whole-output last file text
+ran-whole = running.ran-whole
+
+-- and where the file had ended no read has failed: the last line is out, or a write failed, or the turns were over
+pub ran-ended : {room : ℕ} {last : Bool} {file text : List ℕ} {end : End} → Ran room last file text end → last ≡ true → end ≡ Unread → ⊥
+ran-ended = running.ran-ended

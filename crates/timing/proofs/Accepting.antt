@@ -1,0 +1,168 @@
+-- What an accepted history is known to be, in the owner's words. The state that feeding it reaches is the declared one, and `as-declared`
+-- carries over to it what the crates below show of the declared bucket and the declared frames.
+use mathlib.Core.Path.{_≡_, refl, sym, ap, subst, _∙_}
+use mathlib.Core.Logic.{⊎-elim, _↔_}
+use mathlib.Core.Bool.{true}
+use mathlib.Core.List.{List, [], _∷_}
+use Prim.Native.Nat.{ℕ, suc, _+_, _-_, _*_, _≤_, _<_}
+use native.Mathlib.Omega.{arith}
+use lib.IntN.{ℤ}
+use lib.ListN.{length}
+use Rattle.laws.specs.Climb.{Climbs}
+use Rattle.laws.specs.Count.{count}
+use Rattle.grain.specs.Paper.{InstantBy}
+use Rattle.limits.specs.Fraction.{Same}
+use Rattle.limits.specs.Paper.{classOf, readSpacing}
+use Rattle.limits.specs.Accepted.{Accepted, accepted}
+use Rattle.limits.specs.Facts.{spacing}
+use Rattle.limits.specs.Exact.{CMaxIs, VrxFullIs, TroIs, c-max-is, vrx-full-is, tro-is}
+use Rattle.packet.specs.declared.Packet.{Packet}
+use Rattle.packet.specs.Paper.{at, declared}
+use Rattle.bucket.specs.Paper as bucket
+use Rattle.bucket.proofs.Owner as proved-bucket
+use Rattle.frame.specs.declared.Row.{Row}
+use Rattle.frame.specs.Paper.{closesAt, kindAt, numberAt, since, RowIs, BufferIs, Dry, SomeLate}
+use Rattle.frame.specs.Step.{rowOf}
+use Rattle.frame.specs.ByPlace.{markedTime, closedAt, framesAt, rowsAt}
+use Rattle.frame.proofs.RowOfFrame.{row-is}
+use Rattle.frame.proofs.BufferOfFrames.{buffer-is, dry-late, late-dry}
+use Rattle.timing.specs.declared.State.{State}
+use Rattle.timing.specs.declared.Judged.the-variants.{Given}
+use Rattle.timing.specs.Step.{frameOf, rulesOf, freshOf, stateAfter, rowsAfter, numbers}
+use Rattle.timing.specs.Answers.{answersOf, verdictOf}
+use Rattle.timing.specs.Feed.{Call, allOf, writes, Accepts, Deals, Rooms}
+use Rattle.timing.specs.History.{stateAt, AcceptedHistory, reached, rowsOfAll, plan, frames, arrivals, size, limit}
+use Rattle.timing.proofs.Planning.{planned, frame-long}
+use Rattle.timing.proofs.InRange.{sound-fresh, of-sound}
+use Rattle.timing.proofs.Scanning.{numbers-length}
+use Rattle.timing.proofs.Declared.{arrivals-climb, state-declared}
+use Rattle.timing.proofs.Dealing.{accepts, deals}
+use Rattle.timing.proofs.Stopping.{passes, sound-reached}
+
+module _ (h : AcceptedHistory) where
+  -- what holds of the declared state holds of the state reached
+  pub as-declared : (P : State → Type 0) → P (stateAt (h .stream) (h .packets) (size h)) → P (reached h)
+  as-declared P = subst P (sym (state-declared (h .stream) (h .packets)))
+
+  -- ---- its stream numbers
+
+  is-accepted : Accepted (h .stream .parameters)
+  is-accepted = accepted (h .stream .parameters) (h .set-up)
+
+  long : 0 < frameOf (h .stream)
+  long = omega (arith, frame-long (h .stream) (h .set-up))
+
+  pub limit-exact : CMaxIs (classOf (h .stream .parameters .class)) (h .stream .parameters .schedule) (frameOf (h .stream))
+      (h .stream .parameters .n) (limit h)
+  unfolding rulesOf
+  limit-exact =
+      let p = h .stream .parameters in
+      c-max-is (frameOf (h .stream)) (p .n) long (classOf (p .class)) (p .schedule) (is-accepted .class-fits)
+
+  pub full-exact : VrxFullIs (classOf (h .stream .parameters .class)) (h .stream .parameters .maxudp) (frameOf (h .stream))
+      (h .stream .parameters .n) (plan h .full)
+  unfolding rulesOf
+  full-exact =
+      let p = h .stream .parameters in
+      vrx-full-is (frameOf (h .stream)) (p .n) long (classOf (p .class)) (p .schedule) (p .maxudp) (is-accepted .class-fits) some
+    where
+      some : 0 < h .stream .parameters .maxudp
+      some = ⊎-elim (λ e. omega arith) (λ e. omega arith) (is-accepted .maxudp-known)
+
+  pub tro-exact : TroIs (frameOf (h .stream)) (h .stream .parameters .height) (h .stream .parameters .tro) (plan h .tro)
+  unfolding rulesOf
+  tro-exact = let p = h .stream .parameters in tro-is (p .rate) (p .height) (p .tro)
+
+  pub spacing-exact : Same (record { num = plan h .reads .num; den = plan h .reads .den })
+      (readSpacing (h .stream .parameters .schedule) (frameOf (h .stream)) (h .stream .parameters .n))
+  unfolding rulesOf
+  spacing-exact = let p = h .stream .parameters in spacing (p .schedule) (frameOf (h .stream)) (p .n)
+
+  -- ---- its arrivals never fall
+
+  in-order : Climbs (λ i. at (h .packets) i .time) (size h)
+  in-order = arrivals-climb (h .packets) (h .closed) (h .fine)
+
+  in-grains : proved-bucket.Ordered (arrivals h)
+  in-grains i b = let o = in-order i b in omega arith
+
+  -- ---- its bucket
+
+  pub drains-are : (k i : ℕ) → k ≤ bucket.drains (arrivals h) i
+      ↔ InstantBy (10 * frameOf (h .stream)) (11 * h .stream .parameters .n) k (bucket.elapsed (arrivals h) i)
+  drains-are = proved-bucket.drain-instants (arrivals h) long in-grains
+
+  pub drains-in-run : (a b most : ℕ) → bucket.IsRun (arrivals h) a b → bucket.drains (arrivals h) b ≤ most
+      → count (λ k. bucket.drainsRun (arrivals h) a b (suc k)) most ≡ bucket.drains (arrivals h) b - bucket.drains (arrivals h) a
+  drains-in-run = proved-bucket.drains-of-run (arrivals h) long in-grains
+
+  pub peak-reached : bucket.GreatestExcess (arrivals h) (reached h .bucket .peak)
+  unfolding stateAt
+  peak-reached = as-declared (λ s. bucket.GreatestExcess (arrivals h) (s .bucket .peak))
+      (proved-bucket.peak-greatest (arrivals h) long in-grains (limit h))
+
+  pub network-reached : bucket.NetworkIs (arrivals h) (limit h) (reached h .bucket .network)
+  unfolding stateAt
+  network-reached = as-declared (λ s. bucket.NetworkIs (arrivals h) (limit h) (s .bucket .network))
+      (proved-bucket.network-first (arrivals h) long in-grains (limit h))
+
+  pub conserved : (last : ℕ) → size h ≡ suc last
+      → size h ≡ bucket.found (arrivals h) (bucket.drains (arrivals h) last) + reached h .bucket .level
+  unfolding stateAt
+  conserved last e = as-declared (λ s. size h ≡ bucket.found (arrivals h) (bucket.drains (arrivals h) last) + s .bucket .level)
+      (proved-bucket.conservation (arrivals h) long in-grains (limit h) last e)
+
+  -- ---- its frames
+
+  pub packets-reached : reached h .past .packets ≡ size h
+  unfolding stateAt
+  packets-reached = as-declared (λ s. s .past .packets ≡ size h) refl
+
+  pub frames-reached : reached h .frames .closed ≡ numberAt (frames h) (size h)
+  unfolding stateAt framesAt
+  frames-reached = as-declared (λ s. s .frames .closed ≡ numberAt (frames h) (size h)) refl
+
+  -- the row that a packet writes where it closes a frame
+  pub row-at : (i : ℕ) → i < size h → closesAt (frames h) i ≡ true
+      → (r : Row) × (rowsAt (plan h) (frames h) i ≡ r ∷ []) × RowIs (plan h) (frames h) i r
+  row-at i b e = (
+    rowOf (plan h) (numberAt (frames h) i) (markedTime (plan h) (frames h) i) (closedAt (plan h) (frames h) i),
+    rw e,
+    row-is (plan h) (frames h) in-order i b (planned (h .stream) (h .set-up)) e,
+  )
+
+  pub buffer-reached : BufferIs (plan h) (frames h) (reached h .frames .buffer)
+  unfolding stateAt framesAt
+  buffer-reached = as-declared (λ s. BufferIs (plan h) (frames h) (s .frames .buffer))
+      (buffer-is (plan h) (planned (h .stream) (h .set-up)) (frames h) in-order)
+
+  pub dry-if-late : (i : ℕ) → i < size h → kindAt (plan h) (frames h) i ≡ 0
+      → Dry (plan h) (frames h) (since (frames h) i) ↔ SomeLate (plan h) (frames h) (since (frames h) i)
+  dry-if-late i b k =
+      let sound = planned (h .stream) (h .set-up) in (
+        dry-late (plan h) sound (frames h) in-order i b k,
+        λ w. late-dry (plan h) sound (frames h) in-order i b k (w .0) (w .1) (w .2),
+      )
+
+  -- ---- its calls
+
+  -- one call with the whole list, from the fresh state
+  pub whole-call : (rows : List ℤ) → length (numbers (rowsOfAll h)) ≤ length rows
+      → Accepts (freshOf (h .stream)) (record { packets = h .packets; rows = rows }) (reached h)
+  whole-call rows room =
+      accepts (freshOf (h .stream)) rows (h .packets) (sound-fresh (h .stream) (h .set-up))
+      (passes (h .stream) (h .set-up) (h .packets) (h .closed) (h .fine)) (omega (arith, room, numbers-length (rowsOfAll h)))
+
+  -- any calls with room
+  pub dealt : (calls : List Call) → allOf calls ≡ h .packets → Rooms (freshOf (h .stream)) calls
+      → Deals (freshOf (h .stream)) calls (reached h) (numbers (rowsOfAll h))
+  dealt calls e room =
+      let x = h .stream in
+      let Dealt : List Packet → Type 0 = λ m. Deals (freshOf x) calls (stateAfter (rulesOf x) (freshOf x) m)
+      (numbers (rowsAfter (rulesOf x) (freshOf x) m)) in
+      subst Dealt e (deals calls (freshOf x) (sound-fresh x (h .set-up))
+      (passes x (h .set-up) (allOf calls) (h .closed) (ap declared e ∙ h .fine)) room)
+
+  pub verdict-reached : verdictOf (reached h) ≡ Given (answersOf (reached h))
+  unfolding verdictOf
+  verdict-reached = rw (of-sound (reached h) (sound-reached (h .stream) (h .set-up) (h .packets) (h .closed) (h .fine)))
