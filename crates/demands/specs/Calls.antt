@@ -29,7 +29,7 @@ use Rattle.timing.specs.Answers.{summaryWidth, summaryOf, fedNumber, fedPlace}
 use Rattle.timing.specs.Feed.{feedOf, feedAll, allOf, Rooms}
 use Rattle.timing.specs.History.{AcceptedHistory, reached, rowsOfAll}
 use Rattle.report.specs.Paper.{rowsOf, reportOf, encoded, bytesFor, answer, answered, answerOf, roomFor, roomOf, numberBytes, filled, filledBy}
-use Rattle.report.specs.Step.{Writes}
+use Rattle.report.specs.Step.{WriteGives}
 use Rattle.report.proofs.Calls.{written-whole}
 use Rattle.report.proofs.Signed.{report-fits, number-back}
 use Rattle.report.proofs.Answering as file-proved
@@ -103,7 +103,7 @@ module _ (s : List ℕ) where
 -- what `vtiming_write` writes is accepted: the bytes of its file, with the room that is told of them
 pub written-measured : (w : Parameters) (ts ss ms out after : List ℕ) → ParametersHeld w
     → AllBelow 18446744073709551616 ts → AllBelow 4294967296 ss
-    → Writes w ts ss ms out 0 after → (room : ℕ) → roomOf (take (fileLength (length ts)) after) ≤ room
+    → WriteGives w ts ss ms out 0 after → (room : ℕ) → roomOf (take (fileLength (length ts)) after) ≤ room
     → answerOf (take (fileLength (length ts)) after) room ≡ answer 0 0
 written-measured w ts ss ms out after hw ht hs h =
     enough-room (take (fileLength (length ts)) after) w (packets ts ss ms)

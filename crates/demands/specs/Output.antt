@@ -1,5 +1,5 @@
 -- The program's output. `outputOf file` is what document 01 says is printed of a file (printer's Paper). First the lines themselves, then a
--- file in pieces through calls of `Walk::take` (`Prints`, printer's Drive), then any run of the program, whatever its reads bring (`Ran`,
+-- file in pieces through calls of `Walk::take` (`Prints`, printer's Drive), then any run of the program, whatever its reads bring (`RunEnds`,
 -- pump's Run): what it hands over to be written is that output, or a front of it where a read or a write failed.
 use mathlib.Core.Path.{_≡_}
 use mathlib.Core.Logic.{_⊎_}
@@ -21,7 +21,7 @@ use Rattle.printer.specs.Drive.{Prints}
 use Rattle.printer.proofs.Output as proved
 use Rattle.pump.specs.declared.End.{End}
 use Rattle.pump.specs.declared.End.the-variants.{Whole, Unread}
-use Rattle.pump.specs.Run.{Front, Whole-output, Ran}
+use Rattle.pump.specs.Run.{Front, Whole-output, RunEnds}
 use Rattle.pump.proofs.Running as running
 
 -- ---- the last line
@@ -64,13 +64,13 @@ stuck-why = proved.stuck-why
 -- ---- any run of the program
 
 -- whatever the reads brought, what was handed over is a front of the output of the file
-pub ran-front : {room : ℕ} {last : Bool} {file text : List ℕ} {end : End} → Ran room last file text end → Front last file text
+pub ran-front : {room : ℕ} {last : Bool} {file text : List ℕ} {end : End} → RunEnds room last file text end → Front last file text
 ran-front = running.ran-front
 
 -- and all of it where the last line is out
-pub ran-whole : {room : ℕ} {last : Bool} {file text : List ℕ} → Ran room last file text Whole → Whole-output last file text
+pub ran-whole : {room : ℕ} {last : Bool} {file text : List ℕ} → RunEnds room last file text Whole → Whole-output last file text
 ran-whole = running.ran-whole
 
 -- and where the file had ended no read has failed: the last line is out, or a write failed, or the turns were over
-pub ran-ended : {room : ℕ} {last : Bool} {file text : List ℕ} {end : End} → Ran room last file text end → last ≡ true → end ≡ Unread → ⊥
+pub ran-ended : {room : ℕ} {last : Bool} {file text : List ℕ} {end : End} → RunEnds room last file text end → last ≡ true → end ≡ Unread → ⊥
 ran-ended = running.ran-ended

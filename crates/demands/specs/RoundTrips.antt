@@ -1,4 +1,4 @@
--- The record file both ways, whole and in pieces. `bytesIn s ps` are the bytes of a file, `fileOf` what bytes read as, `Writes` what the
+-- The record file both ways, whole and in pieces. `bytesIn s ps` are the bytes of a file, `fileOf` what bytes read as, `WriteGives` what the
 -- writer ensures, `allCalls` what the reader answers, call after call, and `allInPieces` what it answers to a file in pieces: record's Paper,
 -- Layout, Write and Pieces. The hypotheses bound numbers by what their types and slices always hold.
 use mathlib.Core.Path.{_≡_, ap, sym, _∙_}
@@ -19,7 +19,7 @@ use Rattle.record.specs.declared.Written.{Written}
 use Rattle.record.specs.declared.Written.the-variants.{Done}
 use Rattle.record.specs.Paper.{readingOf, file, asFile, fileOf}
 use Rattle.record.specs.Layout.{bytesIn, PacketsHeld}
-use Rattle.record.specs.Write.{Writes}
+use Rattle.record.specs.Write.{WriteGives}
 use Rattle.record.specs.Step.{headPiece, headRead, nextPiece, nextRead}
 use Rattle.record.specs.Pieces.{allCalls, told, Answered, wantsMore, headWaits, allAnswers, allInPieces, Depends, HeadDepends}
 use Rattle.record.proofs.WriteRead.{file-written, written-reads}
@@ -38,7 +38,7 @@ reading-written s ps closed hs hp e f = ap asFile (file-written s ps closed hs h
 -- what the writer writes is accepted, and reads as what it was given
 pub written-accepted : (s : Parameters) (ts ss ms out after : List ℕ) (n : ℕ) → ParametersHeld s
     → AllBelow 18446744073709551616 ts → AllBelow 4294967296 ss
-    → Writes s ts ss ms out (Done n) after → fileOf (take n after) ≡ file s (packets ts ss ms)
+    → WriteGives s ts ss ms out (Done n) after → fileOf (take n after) ≡ file s (packets ts ss ms)
 written-accepted = written-reads
 
 -- ---- "an accepted file, read and written, gives the same bytes."
@@ -50,7 +50,7 @@ writing-read bytes b = file-again bytes (bytes-all bytes b)
 
 -- and the writer, given what an accepted file reads as and room for it, writes that file
 pub writer-repeats : (bytes : List ℕ) → AllBelow 256 bytes → (s : Parameters) (ts ss ms out after : List ℕ) (r : Written)
-    → OneLength ts ss ms → fileOf bytes ≡ file s (packets ts ss ms) → length bytes ≤ length out → Writes s ts ss ms out r after
+    → OneLength ts ss ms → fileOf bytes ≡ file s (packets ts ss ms) → length bytes ≤ length out → WriteGives s ts ss ms out r after
     → (r ≡ Done (length bytes)) × (take (length bytes) after ≡ bytes)
 writer-repeats bytes b = writer-again bytes (bytes-all bytes b)
 

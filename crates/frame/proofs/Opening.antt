@@ -13,7 +13,7 @@ use Rattle.grain.proofs.Extremes.{reads-fit}
 use Rattle.frame.specs.declared.Plan.{Plan}
 use Rattle.frame.specs.declared.Frame.{Frame}
 use Rattle.frame.specs.Step.{openedOf}
-use Rattle.frame.specs.Range.{Planned, Pushable}
+use Rattle.frame.specs.Range.{Planned, PushAsks}
 
 pub record Timed (plan : Plan) (f : Frame) (t : ℕ) : Type 0 where
   pub few : f .held < 1000000000
@@ -22,7 +22,7 @@ pub record Timed (plan : Plan) (f : Frame) (t : ℕ) : Type 0 where
   pub phased : f .phase ≤ 2 * plan .period
   pub read : f .reads ≤ plan .packets
 
-pub timed : (plan : Plan) (f : Frame) (t stamp : ℕ) → Planned plan → Pushable plan f t → Timed plan (openedOf f (plan .period) t stamp) t
+pub timed : (plan : Plan) (f : Frame) (t stamp : ℕ) → Planned plan → PushAsks plan f t → Timed plan (openedOf f (plan .period) t stamp) t
 unfolding openedOf
 timed plan f t stamp p h = go (eqb (f .held) 0) refl
   where
@@ -55,7 +55,7 @@ timed plan f t stamp p h = go (eqb (f .held) 0) refl
         }
 
 module _ {plan : Plan} {f g : Frame} {t : ℕ} (stamp : ℕ) (e : g ≡ openedOf f (plan .period) t stamp) (p : Planned plan)
-    (h : Pushable plan f t) where
+    (h : PushAsks plan f t) where
   pub opened-timed : Timed plan g t
   opened-timed = subst (λ (x : Frame). Timed plan x t) (sym e) (timed plan f t stamp p h)
 

@@ -18,7 +18,7 @@ use Rattle.frame.specs.declared.Buffer.the-variants.{None, Pass}
 use Rattle.frame.specs.Paper.{hasFailed, isNone}
 use Rattle.frame.specs.Step.{lower, kindOf, openedOf, countedOf, readsOf, pushOf, answerOf, joined, noFrames, arriveOf}
 use Rattle.frame.specs.Step.{closeOf}
-use Rattle.frame.specs.Range.{Planned, Pushable, Rowable, ranges, Answered, Kept}
+use Rattle.frame.specs.Range.{Planned, PushAsks, RowAsks, ranges, Answered, Kept}
 use Rattle.frame.proofs.Opening.{Timed, timed}
 
 module _ (plan : Plan) (s : Frames) (first last packets : ℕ) where
@@ -79,7 +79,7 @@ lower-small known place hit l =
     (λ e. pick-either (λ k. k ≤ place + 1) hit (λ e. omega arith) (λ e. omega arith))
 
 module _ (plan : Plan) (s : Frames) (first last packets t : ℕ) (p : Planned plan) (k : Kept plan s first last packets) where
-  pub pushable : (s .begun ≡ true → Next first last packets t) → s .begun ≡ true → Pushable plan (s .current) t
+  pub pushable : (s .begun ≡ true → Next first last packets t) → s .begun ≡ true → PushAsks plan (s .current) t
   pushable next e = record {
     few = omega (arith, k .held, next e .few);
     order = λ l. omega (arith, k .first-to l, next e .order);
@@ -201,11 +201,11 @@ module _ (plan : Plan) (s : Frames) (first last packets t : ℕ) (p : Planned pl
         go false e = kept-lead e
 
     -- a row can be made of what was pushed
-    pub rowable : s .begun ≡ true → Rowable plan (s .closed) (s .marked) ((arriveOf plan s t stamp) .current)
+    pub rowable : s .begun ≡ true → RowAsks plan (s .closed) (s .marked) ((arriveOf plan s t stamp) .current)
     unfolding arriveOf
     rowable e = rw e (row (pushed stamp e (next e)))
       where
-        row : Pushed (pushOf plan (s .current) t stamp) → Rowable plan (s .closed) (s .marked) (pushOf plan (s .current) t stamp)
+        row : Pushed (pushOf plan (s .current) t stamp) → RowAsks plan (s .closed) (s .marked) (pushOf plan (s .current) t stamp)
         row f = record {
           few = omega (arith, f .held, k .held, next e .few);
           counted = omega (arith, k .closed, next e .few);

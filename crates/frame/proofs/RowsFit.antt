@@ -20,7 +20,7 @@ use Rattle.frame.specs.declared.Frame.{Frame}
 use Rattle.frame.specs.declared.Frames.{Frames}
 use Rattle.frame.specs.declared.Row.{Row}
 use Rattle.frame.specs.Step.{openedOf, countedOf, kindOf, detailOf, wholeRow, brokenRow, rowOf, numbersOf, arriveOf}
-use Rattle.frame.specs.Range.{Planned, Rowable}
+use Rattle.frame.specs.Range.{Planned, RowAsks}
 use Rattle.frame.proofs.FrameKinds.{kind-small, detail-small}
 
 -- ---- a list of numbers that fit
@@ -44,13 +44,13 @@ fit-at (z ∷ zs) (suc k) h = fit-at zs k (h .1)
 pub small-fits : {m : ℕ} → m ≤ 1000000000 → SFits w64 (pos m)
 small-fits h = record { sfits = omega arith }
 
-nought : SFits w64 (pos 0)
-nought = small-fits (omega arith)
+zero-fits : SFits w64 (pos 0)
+zero-fits = small-fits (omega arith)
 
 sub-fits : (a b : ℕ) → a < 9223372036854775808 → b < 9223372036854775808 → SFits w64 (subℕ a b)
 sub-fits a b h k = differ-fits (subℕ a b) a b (differ-sub a b) h k
 
-module _ (plan : Plan) (number marked : ℕ) (f : Frame) (p : Planned plan) (r : Rowable plan number marked f)
+module _ (plan : Plan) (number marked : ℕ) (f : Frame) (p : Planned plan) (r : RowAsks plan number marked f)
     (small : f .stamp < 4294967296) where
   abbrev g : ℕ
   g = grains (f .first)
@@ -84,14 +84,14 @@ module _ (plan : Plan) (number marked : ℕ) (f : Frame) (p : Planned plan) (r :
   whole-fits =
       let own = small-fits (r .counted) in
       let peak = small-fits (r .top) in
-      (own, (nought, (nought, (fpt-fits, (offset-fits, (latency-fits, (margin-fits, (gap-fits, (peak, (least-fits, tt))))))))))
+      (own, (zero-fits, (zero-fits, (fpt-fits, (offset-fits, (latency-fits, (margin-fits, (gap-fits, (peak, (least-fits, tt))))))))))
 
   broken-fits : (kind : ℕ) → kind ≤ 3 → AllFit (numbersOf (brokenRow number kind (detailOf f kind)))
   broken-fits kind h =
       let own = small-fits (r .counted) in
       let detail = small-fits (detail-small f kind (r .few) (r .differs)) in
       let kind-fits = small-fits {m = kind} (omega arith) in
-      (own, (kind-fits, (detail, (nought, (nought, (nought, (nought, (nought, (nought, (nought, tt))))))))))
+      (own, (kind-fits, (detail, (zero-fits, (zero-fits, (zero-fits, (zero-fits, (zero-fits, (zero-fits, (zero-fits, tt))))))))))
 
   pub row-fits : AllFit (numbersOf (rowOf plan number marked f))
   unfolding rowOf

@@ -24,7 +24,7 @@ pub record Planned (plan : Plan) : Type 0 where
   pub divided : plan .reads .den ≤ 500000
 
 -- before a packet that arrives at t: an open frame that holds packets began at most 600 s before
-pub record Pushable (plan : Plan) (f : Frame) (t : ℕ) : Type 0 where
+pub record PushAsks (plan : Plan) (f : Frame) (t : ℕ) : Type 0 where
   pub few : f .held < 1000000000
   pub order : 0 < f .held → f .first ≤ t
   pub near : 0 < f .held → t ≤ f .first + 600000000000
@@ -32,7 +32,7 @@ pub record Pushable (plan : Plan) (f : Frame) (t : ℕ) : Type 0 where
   pub read : f .reads ≤ plan .packets
 
 -- before a row is made: the frame's first packet comes after the marker before it, at most 600 s
-pub record Rowable (plan : Plan) (number marked : ℕ) (f : Frame) : Type 0 where
+pub record RowAsks (plan : Plan) (number marked : ℕ) (f : Frame) : Type 0 where
   pub few : f .held ≤ 1000000000
   pub counted : number ≤ 1000000000
   pub phased : f .phase ≤ 2 * plan .period

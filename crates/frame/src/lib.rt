@@ -12,7 +12,7 @@ ghost use Rattle.grain.specs.Paper.{nanosecond};
 ghost use Rattle.frame.specs.Paper.{bufferNumber, bufferFrame, bufferPlace, hasFailed, isNone};
 ghost use Rattle.frame.specs.Step.{lower, emptyOf, openedOf, countedOf, pushOf, kindOf, detailOf, wholeRow, brokenRow, rowOf};
 ghost use Rattle.frame.specs.Step.{numbersOf, rowWidth, answerOf, joined, noFrames, arriveOf, closeOf};
-ghost use Rattle.frame.specs.Range.{Planned, Pushable, Rowable, ranges};
+ghost use Rattle.frame.specs.Range.{Planned, PushAsks, RowAsks, ranges};
 use grain::Spacing;
 
 // How many numbers a row has: `rowWidth`.
@@ -140,7 +140,7 @@ impl Frame {
 
     // One packet more. Its time is taken from the frame's first packet on, so that nothing is long.
     pub fn push(self, plan: Plan, t: u64, stamp: u32) -> Frame
-        requires { ⌜ Planned plan × Pushable plan self t ⌝ }
+        requires { ⌜ Planned plan × PushAsks plan self t ⌝ }
         ensures { λ r. ⌜ r ≡ pushOf plan self t stamp ⌝ }
     {
         let f = self.opened(plan.period, t, stamp);
@@ -186,7 +186,7 @@ impl Frame {
     // The row of the frame, whose number is `number`, closed now; `marked` is the arrival of the marker
     // packet before its first.
     pub fn row(self, plan: Plan, number: u64, marked: u64) -> Row
-        requires { ⌜ Planned plan × Rowable plan number marked self ⌝ }
+        requires { ⌜ Planned plan × RowAsks plan number marked self ⌝ }
         ensures { λ r. ⌜ r ≡ rowOf plan number marked self ⌝ }
     {
         let kind = self.kind(plan.packets);
@@ -197,7 +197,7 @@ impl Frame {
     }
 
     fn whole_row(self, plan: Plan, number: u64, marked: u64) -> Row
-        requires { ⌜ Planned plan × Rowable plan number marked self ⌝ }
+        requires { ⌜ Planned plan × RowAsks plan number marked self ⌝ }
         ensures { λ r. ⌜ r ≡ wholeRow plan number marked self ⌝ }
     {
         let fpt = grain::difference(self.phase, plan.period);
@@ -402,7 +402,7 @@ impl Frames {
 
     // A packet arrives: it is in the open frame, or in the lead-in and in none.
     pub fn arrive(mut self, plan: Plan, t: u64, stamp: u32) -> Frames
-        requires { ⌜ Planned plan × (self .begun ≡ true → Pushable plan (self .current) t) ⌝ }
+        requires { ⌜ Planned plan × (self .begun ≡ true → PushAsks plan (self .current) t) ⌝ }
         ensures { λ r. ⌜ r ≡ arriveOf plan self t stamp ⌝ }
     {
         if self.begun {
@@ -415,7 +415,7 @@ impl Frames {
 
     // The row of the open frame, which a marker closes now.
     pub fn row(self, plan: Plan) -> Row
-        requires { ⌜ Planned plan × Rowable plan (self .closed) (self .marked) (self .current) ⌝ }
+        requires { ⌜ Planned plan × RowAsks plan (self .closed) (self .marked) (self .current) ⌝ }
         ensures { λ r. ⌜ r ≡ rowOf plan (self .closed) (self .marked) (self .current) ⌝ }
     {
         let frame = self.current;

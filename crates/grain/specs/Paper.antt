@@ -41,7 +41,7 @@ abbrev pub wrap : ℕ
 wrap = 1288490188800000
 
 -- "Encoded time, formulas (1) and (2): the arrival's wrap count times P plus 300,000 times the timestamp, with [..] wrap count INT(27t/P)."
--- An integer, as is what hangs on it: only formulas (1) and (2) say that it is not before the epoch.
+-- An integer, as is what depends on it: only formulas (1) and (2) say that it is not before the epoch.
 unfoldable pub encoded : ℕ → ℕ → ℤ
 encoded g stamp = pos (g / wrap * wrap + tick * stamp)
 

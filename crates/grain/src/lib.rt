@@ -78,7 +78,7 @@ pub fn bits(x: i64) -> u64
     }
 }
 
-// x / num, where `known` may be it already or one less. A division is the dear part, and from one packet
+// x / num, where `known` may be it already or one less. A division is the costly part, and from one packet
 // to the next the quotient mostly stays or grows by one: those are tried first. Any `known` gives the
 // same answer.
 pub fn divide_near(known: u64, x: u64, num: u64) -> u64

@@ -19,7 +19,7 @@ use Rattle.laws.specs.Fold.{fold-states}
 use Rattle.packet.specs.declared.Tally.{Tally}
 use Rattle.packet.specs.declared.Scanned.the-variants.{Fine, Refused}
 use Rattle.packet.specs.declared.Packet.{Packet}
-use Rattle.packet.specs.Paper.{nought, marked, at, refusalAt, refusedAt, markedAt, begunAt, closesAt}
+use Rattle.packet.specs.Paper.{noPacket, marked, at, refusalAt, refusedAt, markedAt, begunAt, closesAt}
 use Rattle.packet.specs.Paper.{firstRefused, declared, pastAt}
 use Rattle.packet.specs.Step.{nothing, refusalOf, nextOf, noPackets, tallied, tallyOf, scanOf}
 use Rattle.packet.specs.Calls.{pastAfter, begunAfter}
@@ -48,11 +48,11 @@ module _ (l : List Packet) where
 
   -- what comes after the whole history is what came before the place at its end
   pub past-after : pastAfter nothing l ≡ pastAt l (length l)
-  past-after = fold-states (λ past p. nextOf past (p .time)) l nought (pastAt l) (λ i h. next-at i)
+  past-after = fold-states (λ past p. nextOf past (p .time)) l noPacket (pastAt l) (λ i h. next-at i)
 
   pub begun-after : begunAfter false l ≡ begunAt l (length l)
   unfolding count
-  begun-after = fold-states (λ begun p. begun || marked p) l nought (begunAt l) (λ i h. begun-at i)
+  begun-after = fold-states (λ begun p. begun || marked p) l noPacket (begunAt l) (λ i h. begun-at i)
 
   -- the tally before packet i, and that it is the tally of the packets up to there
   abbrev pub tallyAt : ℕ → Tally
@@ -60,7 +60,7 @@ module _ (l : List Packet) where
 
   pub tally-declared : tallyOf noPackets l ≡ tallyAt (length l)
   unfolding count tallied
-  tally-declared = fold-states tallied l nought tallyAt (λ i h. rw (next-at i, begun-at i))
+  tally-declared = fold-states tallied l noPacket tallyAt (λ i h. rw (next-at i, begun-at i))
 
   -- where no packet before i is refused, the scan comes to i
   scan-reaches : (i : ℕ) → i ≤ length l → ((k : ℕ) → k < i → refusalAt l k ≡ 0)
@@ -69,7 +69,7 @@ module _ (l : List Packet) where
   scan-reaches zero h ok = refl
   scan-reaches (suc i) h ok =
       scan-reaches i (omega arith) (λ k b. ok k (omega arith))
-      ∙ scan-goes (pastAt l i) (begunAt l i) (count (closesAt l) i) (drop-cons l i nought h) (refusal-at i ∙ ok i (omega arith))
+      ∙ scan-goes (pastAt l i) (begunAt l i) (count (closesAt l) i) (drop-cons l i noPacket h) (refusal-at i ∙ ok i (omega arith))
       ∙ rw (next-at i, begun-at i)
 
   -- the scan from the start names the first refused packet of the whole history, or counts the frames that close
@@ -96,7 +96,7 @@ module _ (l : List Packet) where
           let h = ltb-true k (length l) e in
           let bad = eqb-false (refusalAt l k) 0 (not-true _ (low .here h)) in
           comes
-          ∙ scan-stops (pastAt l k) (begunAt l k) (count (closesAt l) k) (drop-cons l k nought h) (λ z. bad (sym (refusal-at k) ∙ z))
+          ∙ scan-stops (pastAt l k) (begunAt l k) (count (closesAt l) k) (drop-cons l k noPacket h) (λ z. bad (sym (refusal-at k) ∙ z))
           ∙ rw (refusal-at k)
       go false e =
           let end : k ≡ length l = omega (arith, ltb-false k (length l) e, low .within) in

@@ -14,8 +14,8 @@ use Rattle.packet.specs.declared.Scanned.{Scanned}
 use Rattle.packet.specs.declared.Scanned.the-variants.{Fine, Refused}
 
 -- what stands past the end of a history
-abbrev pub nought : Packet
-nought = record { time = 0; stamp = 0; marker = 0 }
+abbrev pub noPacket : Packet
+noPacket = record { time = 0; stamp = 0; marker = 0 }
 
 abbrev pub marked : Packet → Bool
 marked p = eqb (p .marker) 1
@@ -42,7 +42,7 @@ packetsFrom i ts ss ms = packets (drop i ts) (drop i ss) (drop i ms)
 module _ (l : List Packet) where
   -- packet i of the history, counted from 0
   abbrev pub at : ℕ → Packet
-  at i = getD l i nought
+  at i = getD l i noPacket
 
   -- "arrival earlier than the one before it": the first packet has none before it
   abbrev pub earlierAt : ℕ → Bool

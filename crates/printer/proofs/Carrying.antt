@@ -34,7 +34,7 @@ use Rattle.timing.proofs.InRange.{of-sound}
 use Rattle.timing.proofs.Running.{going-next, step-numbers, step-past}
 use Rattle.printer.specs.declared.Walk.{Walk}
 use Rattle.printer.specs.Paper.{rowLines, sumLine, lastLine, linesOf, restOf}
-use Rattle.printer.specs.Step.{Took, lineOf, stays, andThen, stepped, linesAt, itemBy}
+use Rattle.printer.specs.Step.{TakeOutcome, lineOf, stays, andThen, stepped, linesAt, itemBy}
 use Rattle.printer.specs.Step.{walkBy, takeOf}
 use Rattle.printer.specs.Drive.{Stands}
 use Rattle.printer.proofs.Turning.{piece-sixteen}
@@ -89,7 +89,7 @@ some-refusal n h = omega arith
 -- ---- one call
 
 -- what was to be printed from a walk on is what the call wrote, and, where it has not ended, what is to be printed from there on
-abbrev Carries : Rules → Walk → List ℕ → List ℕ → Took → Type 0
+abbrev Carries : Rules → Walk → List ℕ → List ℕ → TakeOutcome → Type 0
 Carries rules walk w v k =
     (restOf rules (walk .state) (walk .at .at) (w ++ v)
     ≡ k .text ++ pick (k .ended) [] (restOf rules (k .walk .state) (k .walk .at .at) (drop (k .used) w ++ v)))
@@ -127,7 +127,7 @@ module _ (rules : Rules) (walk : Walk) (w v : List ℕ) (q : rules ≡ rulesOf (
           offset = omega (arith, the-next e, z .offset, ap (λ (x : Past). x .packets) (step-past rules (walk .state) p));
         }
 
-    carried-on : (k : Took) → packetBytes ≤ length w → numberOf (walk .state .past) p ≡ 0
+    carried-on : (k : TakeOutcome) → packetBytes ≤ length w → numberOf (walk .state .past) p ≡ 0
         → Carries rules (stepped rules walk p c) (drop packetBytes w) v k
         → Carries rules walk w v (andThen packetBytes (linesAt rules walk p) k)
     carried-on k room e f =
@@ -148,7 +148,7 @@ module _ (rules : Rules) (walk : Walk) (w v : List ℕ) (q : rules ≡ rulesOf (
         )
 
   -- what stands there, by cases
-  carries-item : (r : Next) (room : ℕ) (on : Walk → ℕ → Took) → (wantsMore r ≡ false → Says (walk .at .at) (w ++ v) r)
+  carries-item : (r : Next) (room : ℕ) (on : Walk → ℕ → TakeOutcome) → (wantsMore r ≡ false → Says (walk .at .at) (w ++ v) r)
       → ((p : packet.Packet) (c : Cursor) → r ≡ Packet p c → packetBytes ≤ length w)
       → ((next : Walk) (left : ℕ) → rules ≡ rulesOf (next .state .numbers) → Stands next → Carries rules next (drop packetBytes w) v (on next left))
       → Carries rules walk w v (itemBy rules walk room on r)

@@ -27,11 +27,11 @@ use Rattle.timing.specs.Step.{ofParameters, rulesOf}
 use Rattle.timing.specs.Range.{inRange}
 use Rattle.timing.specs.Answers.{setUpAs}
 use Rattle.printer.specs.declared.Walk.{Walk}
-use Rattle.printer.specs.Step.{Took, readyBy, readyOf, headBy, beginOf, Headed}
+use Rattle.printer.specs.Step.{TakeOutcome, readyBy, readyOf, headBy, beginOf, Headed}
 use Rattle.printer.specs.Step.{stepped, linesAt, itemBy, walkBy, takeOf}
 use Rattle.printer.proofs.Turning.{piece-sixteen}
 
-abbrev Inside : List ℕ → Took → Type 0
+abbrev Inside : List ℕ → TakeOutcome → Type 0
 Inside w k = k .used ≤ length w
 
 walk-inside : (k : ℕ) (rules : Rules) (walk : Walk) (w : List ℕ) (last : Bool) (room : ℕ) → Inside w (walkBy k rules walk w last room)

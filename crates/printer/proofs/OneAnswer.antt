@@ -3,11 +3,11 @@ use mathlib.Core.Path.{_≡_}
 use mathlib.Core.List.{List}
 use Prim.Native.Nat.{ℕ}
 use Rattle.laws.specs.Unique.{one-answer}
-use Rattle.printer.specs.declared.Taken.{Taken}
-use Rattle.printer.specs.Step.{Took, Takes}
+use Rattle.printer.specs.declared.TakeAnswer.{TakeAnswer}
+use Rattle.printer.specs.Step.{TakeOutcome, TakeGives}
 
-pub takes-unique : (k : Took) (used written : ℕ) (before : List ℕ) (a b : Taken) (p q : List ℕ) → Takes k used written before a p
-    → Takes k used written before b q → (a ≡ b) × (p ≡ q)
+pub takes-unique : (k : TakeOutcome) (used written : ℕ) (before : List ℕ) (a b : TakeAnswer) (p q : List ℕ) → TakeGives k used written before a p
+    → TakeGives k used written before b q → (a ≡ b) × (p ≡ q)
 takes-unique k used written before a b p q x y = (
   λ j. record {
     walk = one-answer (x .walk-is) (y .walk-is) j;

@@ -21,13 +21,13 @@ use Rattle.timing.specs.declared.Rules.{Rules}
 use Rattle.timing.specs.Step.{rulesOf}
 use Rattle.timing.specs.Range.{inRange}
 use Rattle.printer.specs.declared.Walk.{Walk}
-use Rattle.printer.specs.Step.{Took, itemBy, walkBy, takeOf}
+use Rattle.printer.specs.Step.{TakeOutcome, itemBy, walkBy, takeOf}
 
 module _ (walk : Walk) (w : List ℕ) (last : Bool) (room : ℕ) where
-  Stuck : Took → Type 0
+  Stuck : TakeOutcome → Type 0
   Stuck k = k .ended ≡ false → k .used ≡ 0 → (room < lineRoom) ⊎ (nextPiece (walk .at .at) w last ≡ More)
 
-  stuck-item : (rules : Rules) (on : Walk → ℕ → Took) (r : Next) → nextPiece (walk .at .at) w last ≡ r → Stuck (itemBy rules walk room on r)
+  stuck-item : (rules : Rules) (on : Walk → ℕ → TakeOutcome) (r : Next) → nextPiece (walk .at .at) w last ≡ r → Stuck (itemBy rules walk room on r)
   unfolding Stuck
   stuck-item rules on (Packet p c) e f u =
       pick-either Stuck (eqb (numberOf (walk .state .past) p) 0) (λ g h y. absurd (omega arith))

@@ -32,9 +32,9 @@ use Rattle.timing.specs.Feed.{Going}
 use Rattle.timing.proofs.Sink.{Sink}
 use Rattle.timing.proofs.Running.{going-next, Turn}
 use Rattle.printer.specs.declared.Walk.{Walk}
-use Rattle.printer.specs.declared.Taken.{Taken}
+use Rattle.printer.specs.declared.TakeAnswer.{TakeAnswer}
 use Rattle.printer.specs.Paper.{rowLines}
-use Rattle.printer.specs.Step.{Took, stays, stopsAt, andThen, stepped, linesAt, itemBy, walkBy, walkOf, takeOf, Takes}
+use Rattle.printer.specs.Step.{TakeOutcome, stays, stopsAt, andThen, stepped, linesAt, itemBy, walkBy, walkOf, takeOf, TakeGives}
 
 -- ---- what a window's answer says of the window
 
@@ -53,7 +53,7 @@ module _ (rules : Rules) (walk : Walk) (w : List ℕ) (last : Bool) (room : ℕ)
   walk-full h = rw (lt-ltb room lineRoom h)
 
   module _ (h : lineRoom ≤ room) where
-    onward : Walk → ℕ → Took
+    onward : Walk → ℕ → TakeOutcome
     onward next left = walkBy (length w / packetBytes) rules next (drop packetBytes w) last left
 
     walk-item : (r : Next) → nextPiece (walk .at .at) w last ≡ r → walkOf rules walk w last room ≡ itemBy rules walk room onward r
@@ -103,7 +103,7 @@ as-lines = record { row = rowLine; write = rowLines; none = lines-none; more = l
 
 -- nothing more is done
 pub stays-takes : {used written : ℕ} {out : List ℕ} (walk : Walk) → written ≤ length out
-    → Takes (stays walk) used written out (record { walk = walk; used = used; written = written; ended = false }) out
+    → TakeGives (stays walk) used written out (record { walk = walk; used = used; written = written; ended = false }) out
 stays-takes walk h = record {
   walk-is = refl;
   used-is = omega arith;
@@ -113,19 +113,19 @@ stays-takes walk h = record {
   fits = h;
 }
 
-pub takes-length : {k : Took} {used written : ℕ} {out after : List ℕ} {r : Taken} → Takes k used written out r after
+pub takes-length : {k : TakeOutcome} {used written : ℕ} {out after : List ℕ} {r : TakeAnswer} → TakeGives k used written out r after
     → length after ≡ length out
 takes-length {k} {written = written} {out} t = ap length (t .bytes) ∙ length-sets out written (k .text)
 
 -- ---- the loop: what is left of the window, from the walk and the lines so far, does what the whole call does
 
-pub record Loop (k₀ : Took) (out₀ : List ℕ) (k : Took) (used written : ℕ) (out : List ℕ) : Type 0 where
+pub record Loop (k₀ : TakeOutcome) (out₀ : List ℕ) (k : TakeOutcome) (used written : ℕ) (out : List ℕ) : Type 0 where
   pub walk-same : k .walk ≡ k₀ .walk
   pub used-same : used + k .used ≡ k₀ .used
   pub ended-same : k .ended ≡ k₀ .ended
   pub putting : Putting (k₀ .text) 0 out₀ (k .text) written out
 
-same-loop : (k₀ : Took) (out₀ : List ℕ) → Loop k₀ out₀ k₀ 0 0 out₀
+same-loop : (k₀ : TakeOutcome) (out₀ : List ℕ) → Loop k₀ out₀ k₀ 0 0 out₀
 same-loop k₀ out₀ = record {
   walk-same = refl;
   used-same = omega arith;
@@ -139,8 +139,8 @@ loop-begins rules walk w last out =
     let all : length out - 0 ≡ length out = omega arith in
     rw all (same-loop (walkOf rules walk w last (length out)) out)
 
-module _ {k₀ : Took} {out₀ : List ℕ} {used written : ℕ} {out : List ℕ} where
-  loop-on : {lines : List ℕ} {k : Took} {written′ : ℕ} {out′ : List ℕ} → Loop k₀ out₀ (andThen packetBytes lines k) used written out
+module _ {k₀ : TakeOutcome} {out₀ : List ℕ} {used written : ℕ} {out : List ℕ} where
+  loop-on : {lines : List ℕ} {k : TakeOutcome} {written′ : ℕ} {out′ : List ℕ} → Loop k₀ out₀ (andThen packetBytes lines k) used written out
       → Put lines written out written′ out′ → Loop k₀ out₀ k (used + packetBytes) written′ out′
   loop-on l p = record {
     walk-same = l .walk-same;
@@ -149,8 +149,8 @@ module _ {k₀ : Took} {out₀ : List ℕ} {used written : ℕ} {out : List ℕ}
     putting = putting-on (l .putting) p;
   }
 
-  pub loop-ends : {k : Took} {r : Taken} {after : List ℕ} → Loop k₀ out₀ k used written out → Takes k used written out r after
-      → Takes k₀ 0 0 out₀ r after
+  pub loop-ends : {k : TakeOutcome} {r : TakeAnswer} {after : List ℕ} → Loop k₀ out₀ k used written out → TakeGives k used written out r after
+      → TakeGives k₀ 0 0 out₀ r after
   loop-ends l t = record {
     walk-is = t .walk-is ∙ l .walk-same;
     used-is = omega (arith, t .used-is, l .used-same);
@@ -161,9 +161,9 @@ module _ {k₀ : Took} {out₀ : List ℕ} {used written : ℕ} {out : List ℕ}
   }
 
   -- the call stops: at what is no packet, at a packet that is refused, or for want of room
-  pub loop-stops : {k k′ : Took} {r : Taken} {after : List ℕ} → Loop k₀ out₀ k used written out → k ≡ k′ → Takes k′ used written out r after
-      → Takes k₀ 0 0 out₀ r after
-  loop-stops {r = r} {after} l e t = loop-ends l (subst (λ x. Takes x used written out r after) (sym e) t)
+  pub loop-stops : {k k′ : TakeOutcome} {r : TakeAnswer} {after : List ℕ} → Loop k₀ out₀ k used written out → k ≡ k′ → TakeGives k′ used written out r after
+      → TakeGives k₀ 0 0 out₀ r after
+  loop-stops {r = r} {after} l e t = loop-ends l (subst (λ x. TakeGives x used written out r after) (sym e) t)
 
   -- a packet goes on
   module _ (rules : Rules) (walk : Walk) (w : List ℕ) (last : Bool) {p : packet.Packet} {c : Cursor}
@@ -198,18 +198,18 @@ module _ {k₀ : Took} {out₀ : List ℕ} {used written : ℕ} {out : List ℕ}
 -- ---- the whole call: no room for a line, 9, or record by record
 
 module _ (walk : Walk) (w : List ℕ) (last : Bool) (out : List ℕ) where
-  pub take-full : {r : Taken} {after : List ℕ} → length out < lineRoom → Takes (stays walk) 0 0 out r after
-      → Takes (takeOf walk w last (length out)) 0 0 out r after
+  pub take-full : {r : TakeAnswer} {after : List ℕ} → length out < lineRoom → TakeGives (stays walk) 0 0 out r after
+      → TakeGives (takeOf walk w last (length out)) 0 0 out r after
   unfolding takeOf
   take-full h t = rw (lt-ltb (length out) lineRoom h) t
 
   module _ (h : lineRoom ≤ length out) where
-    pub take-9 : {r : Taken} {after : List ℕ} → inRange (walk .state) ≡ false → Takes (stopsAt (Refused 9 0 0) walk) 0 0 out r after
-        → Takes (takeOf walk w last (length out)) 0 0 out r after
+    pub take-9 : {r : TakeAnswer} {after : List ℕ} → inRange (walk .state) ≡ false → TakeGives (stopsAt (Refused 9 0 0) walk) 0 0 out r after
+        → TakeGives (takeOf walk w last (length out)) 0 0 out r after
     unfolding takeOf
     take-9 e t = rw (le-ltb (length out) lineRoom h, e) t
 
-    pub take-runs : {r : Taken} {after : List ℕ} {rules : Rules} → inRange (walk .state) ≡ true → rules ≡ rulesOf (walk .state .numbers)
-        → Takes (walkOf rules walk w last (length out)) 0 0 out r after → Takes (takeOf walk w last (length out)) 0 0 out r after
+    pub take-runs : {r : TakeAnswer} {after : List ℕ} {rules : Rules} → inRange (walk .state) ≡ true → rules ≡ rulesOf (walk .state .numbers)
+        → TakeGives (walkOf rules walk w last (length out)) 0 0 out r after → TakeGives (takeOf walk w last (length out)) 0 0 out r after
     unfolding takeOf
     take-runs e f t = rw (le-ltb (length out) lineRoom h, e, ← f) t

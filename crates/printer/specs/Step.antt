@@ -25,10 +25,10 @@ use Rattle.timing.specs.declared.SetUp.{SetUp}
 use Rattle.timing.specs.declared.SetUp.the-variants.{Fresh, Refused as Not-Set-Up}
 use Rattle.timing.specs.Step.{ofParameters, rulesOf, stepOf, rowsOf}
 use Rattle.timing.specs.Range.{inRange}
-use Rattle.timing.specs.Feed.{Makes}
+use Rattle.timing.specs.Feed.{MakeAsks}
 use Rattle.timing.specs.Answers.{setUpAs}
 use Rattle.printer.specs.declared.Walk.{Walk}
-use Rattle.printer.specs.declared.Taken.{Taken}
+use Rattle.printer.specs.declared.TakeAnswer.{TakeAnswer}
 use Rattle.printer.specs.declared.Opened.{Opened}
 use Rattle.printer.specs.declared.Opened.the-variants.{More as Wanting, Refused as Unopened, Ready as Opens}
 use Rattle.printer.specs.Paper.{rowLines, sumLine}
@@ -70,7 +70,7 @@ Headed (Opens walk) bytes = headBytes ≤ bytes
 -- ---- a piece
 
 -- what a call does: the walk after it, the bytes that it used, the text that it wrote, and whether the last line is in it
-pub record Took : Type 0 where
+pub record TakeOutcome : Type 0 where
   pub walk : Walk
   pub used : ℕ
   pub text : List ℕ
@@ -83,14 +83,14 @@ lineOf End s = sumLine s
 lineOf More s = []
 lineOf (Refused number offset size) s = refusalLine number offset
 
-abbrev pub stays : Walk → Took
+abbrev pub stays : Walk → TakeOutcome
 stays walk = record { walk = walk; used = 0; text = []; ended = false }
 
-abbrev pub stopsAt : Next → Walk → Took
+abbrev pub stopsAt : Next → Walk → TakeOutcome
 stopsAt item walk = record { walk = walk; used = 0; text = lineOf item (walk .state); ended = not (wantsMore item) }
 
 -- some bytes used and lines written, and then the rest
-abbrev pub andThen : ℕ → List ℕ → Took → Took
+abbrev pub andThen : ℕ → List ℕ → TakeOutcome → TakeOutcome
 andThen bytes lines k = record { walk = k .walk; used = bytes + k .used; text = lines ++ k .text; ended = k .ended }
 
 -- the walk after a packet
@@ -102,31 +102,31 @@ abbrev pub linesAt : Rules → Walk → packet.Packet → List ℕ
 linesAt rules walk p = rowLines (rowsOf rules (walk .state) p)
 
 -- a packet that is refused ends the walk before it is counted; `on` is what follows one that is not
-abbrev pub packetBy : Rules → Walk → ℕ → (Walk → ℕ → Took) → packet.Packet → Cursor → Took
+abbrev pub packetBy : Rules → Walk → ℕ → (Walk → ℕ → TakeOutcome) → packet.Packet → Cursor → TakeOutcome
 packetBy rules walk room on p c =
     pick (eqb (numberOf (walk .state .past) p) 0)
     (andThen packetBytes (linesAt rules walk p) (on (stepped rules walk p c) (room - length (linesAt rules walk p))))
     (stopsAt (Refused (numberOf (walk .state .past) p) (walk .at .at) packetBytes) walk)
 
-abbrev pub itemBy : Rules → Walk → ℕ → (Walk → ℕ → Took) → Next → Took
+abbrev pub itemBy : Rules → Walk → ℕ → (Walk → ℕ → TakeOutcome) → Next → TakeOutcome
 itemBy rules walk room on (Packet p c) = packetBy rules walk room on p c
 itemBy rules walk room on End = stopsAt End walk
 itemBy rules walk room on More = stopsAt More walk
 itemBy rules walk room on (Refused number offset size) = stopsAt (Refused number offset size) walk
 
 -- record by record, by at most so many: while there is room for a line, until more is wanted or the last line is written
-unfoldable pub walkBy : ℕ → Rules → Walk → List ℕ → Bool → ℕ → Took
+unfoldable pub walkBy : ℕ → Rules → Walk → List ℕ → Bool → ℕ → TakeOutcome
 walkBy zero rules walk w last room = stays walk
 walkBy (suc k) rules walk w last room =
     pick (ltb room lineRoom) (stays walk)
     (itemBy rules walk room (λ next left. walkBy k rules next (drop packetBytes w) last left) (nextPiece (walk .at .at) w last))
 
 -- a packet takes bytes, so that this many turns are enough
-abbrev pub walkOf : Rules → Walk → List ℕ → Bool → ℕ → Took
+abbrev pub walkOf : Rules → Walk → List ℕ → Bool → ℕ → TakeOutcome
 walkOf rules walk w last room = walkBy (suc (length w / packetBytes)) rules walk w last room
 
 -- a call: no room for a line; 9 for a state that is not in range; else record by record
-unfoldable pub takeOf : Walk → List ℕ → Bool → ℕ → Took
+unfoldable pub takeOf : Walk → List ℕ → Bool → ℕ → TakeOutcome
 takeOf walk w last room =
     pick (ltb room lineRoom) (stays walk)
     (pick (inRange (walk .state)) (walkOf (rulesOf (walk .state .numbers)) walk w last room) (stopsAt (Refused 9 0 0) walk))
@@ -134,12 +134,12 @@ takeOf walk w last room =
 -- ---- what the parts of the code ask and give
 
 -- before the line of a row is put, where a marker closes one
-pub record Closes (rules : Rules) (s : State) (at room : ℕ) : Type 0 where
-  pub makes : Makes rules s
+pub record CloseAsks (rules : Rules) (s : State) (at room : ℕ) : Type 0 where
+  pub makes : MakeAsks rules s
   pub fits : at + lineRoom ≤ room
 
 -- an answer does this, with so many bytes used and written before
-pub record Takes (k : Took) (used written : ℕ) (before : List ℕ) (r : Taken) (after : List ℕ) : Type 0 where
+pub record TakeGives (k : TakeOutcome) (used written : ℕ) (before : List ℕ) (r : TakeAnswer) (after : List ℕ) : Type 0 where
   pub walk-is : r .walk ≡ k .walk
   pub used-is : r .used ≡ used + k .used
   pub written-is : r .written ≡ written + length (k .text)

@@ -11,7 +11,7 @@ ghost use Rattle.record.specs.Paper.{packetBytes};
 ghost use Rattle.record.specs.Pieces.{wantsMore};
 ghost use Rattle.timing.specs.Feed.{closing, Going};
 ghost use Rattle.printer.specs.Paper.{rowLines, sumLine};
-ghost use Rattle.printer.specs.Step.{readyOf, beginOf, lineOf, stopsAt, walkOf, takeOf, Closes, Takes};
+ghost use Rattle.printer.specs.Step.{readyOf, beginOf, lineOf, stopsAt, walkOf, takeOf, CloseAsks, TakeGives};
 use limits::Parameters;
 use record::Cursor;
 use record::Head;
@@ -39,7 +39,7 @@ pub enum Opened {
 
 // The walk after a piece: so many of its bytes were used, and so many bytes of whole lines were written. `ended`: the last line
 // is among them.
-pub struct Taken {
+pub struct TakeAnswer {
     pub walk: Walk,
     pub used: usize,
     pub written: usize,
@@ -151,7 +151,7 @@ fn put_last(s: State, item: Next, out: &mut [u8], at: usize) -> usize
 
 // The line of the row that a marker closes now, if the lead-in is over.
 fn put_closed(s: State, rules: Rules, out: &mut [u8], at: usize) -> usize
-    requires { ⌜ Closes rules s at (length (now out)) ⌝ }
+    requires { ⌜ CloseAsks rules s at (length (now out)) ⌝ }
     ensures { λ r. ⌜ Line (rowLines (closing rules s)) at (now (out .entry)) r (now (out .exit)) ⌝ }
 {
     let frames = s.frames;
@@ -165,12 +165,12 @@ fn put_closed(s: State, rules: Rules, out: &mut [u8], at: usize) -> usize
 
 impl Walk {
     // Where no packet stands: the walk stays, and the last line is written if there is one.
-    fn stop(self, item: Next, used: usize, out: &mut [u8], written: usize) -> Taken
+    fn stop(self, item: Next, used: usize, out: &mut [u8], written: usize) -> TakeAnswer
         requires { ⌜ written + lineRoom ≤ length (now out) ⌝ }
-        ensures { λ r. ⌜ Takes (stopsAt item self) used written (now (out .entry)) r (now (out .exit)) ⌝ }
+        ensures { λ r. ⌜ TakeGives (stopsAt item self) used written (now (out .entry)) r (now (out .exit)) ⌝ }
     {
         let next = put_last(self.state, item, out, written);
-        Taken {
+        TakeAnswer {
             walk: self,
             used: used,
             written: next,
@@ -180,9 +180,9 @@ impl Walk {
 
     // The records of a piece, while there is room for a line. The heavy step has this one call site, and the walk is put together
     // only where the loop ends: else the whole state would be copied for each packet.
-    fn run(self, rules: Rules, window: &[u8], last: bool, out: &mut [u8]) -> Taken
+    fn run(self, rules: Rules, window: &[u8], last: bool, out: &mut [u8]) -> TakeAnswer
         requires { ⌜ Going rules (self .state) ⌝ }
-        ensures { λ r. ⌜ Takes (walkOf rules self (now (window .entry)) last (length (now (out .entry)))) 0 0
+        ensures { λ r. ⌜ TakeGives (walkOf rules self (now (window .entry)) last (length (now (out .entry)))) 0 0
             (now (out .entry)) r (now (out .exit)) ⌝ }
     {
         let mut at = self.at;
@@ -209,7 +209,7 @@ impl Walk {
             at = next;
             used += PACKET_BYTES;
         }
-        Taken {
+        TakeAnswer {
             walk: Walk { at: at, state: s },
             used: used,
             written: written,
@@ -219,13 +219,13 @@ impl Walk {
 
     // The records at the front of `window`, which shows the bytes from where the walk stands; `last`: no more will come. It goes on
     // while `out` has room for a line, until more bytes are wanted or the last line is written.
-    pub fn take(self, window: &[u8], last: bool, out: &mut [u8]) -> Taken
-        ensures { λ r. ⌜ Takes (takeOf self (now (window .entry)) last (length (now (out .entry)))) 0 0
+    pub fn take(self, window: &[u8], last: bool, out: &mut [u8]) -> TakeAnswer
+        ensures { λ r. ⌜ TakeGives (takeOf self (now (window .entry)) last (length (now (out .entry)))) 0 0
             (now (out .entry)) r (now (out .exit)) ⌝ }
     {
         let s = self.state;
         if out.len() < LINE {
-            return Taken {
+            return TakeAnswer {
                 walk: self,
                 used: 0,
                 written: 0,

@@ -1,4 +1,4 @@
--- A call's number and place by what is found in turn: the words, the range, the scan, the room. So they hang on how many numbers are
+-- A call's number and place by what is found in turn: the words, the range, the scan, the room. So they depend on how many numbers are
 -- lent, and not on what they are.
 use mathlib.Core.Path.{_≡_, refl, sym, ap, _∙_}
 use mathlib.Core.Logic.{_⊎_, inl, inr}
@@ -85,7 +85,7 @@ module _ (ts ss ms : List ℕ) where
       told-by words (replicate room (pos 0)) (replicate space 0)
       ∙ rw (length-replicate room (pos 0), length-replicate {A = ℕ} space 0)
 
-  -- so the answer to noughts is the answer to any numbers, if they are as many
+  -- so the answer to zeros is the answer to any numbers, if they are as many
   pub by-lengths : (words : List ℕ) (rows : List ℤ) (out : List ℕ) → askedOf words ts ss ms (length rows) (length out)
       ≡ asked (callOf words rows out ts ss ms)
   by-lengths words rows out = asked-by words (length rows) (length out) ∙ sym (told-by words rows out)

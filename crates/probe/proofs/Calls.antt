@@ -15,14 +15,14 @@ use Rattle.timing.specs.declared.Fed.{Fed}
 use Rattle.timing.specs.declared.Fed.the-variants.{Accepted, Refused}
 use Rattle.timing.specs.Step.{setUpOf, freshOf}
 use Rattle.timing.specs.Answers.{summaryWidth, summaryOf}
-use Rattle.timing.specs.Feed.{feedOf, Is}
+use Rattle.timing.specs.Feed.{feedOf, FeedGives}
 use Rattle.timing.proofs.Answering.{set-up-then}
 use Rattle.timing.proofs.Feeding.{refused-stays}
 use Rattle.probe.specs.declared.Answer.{Answer}
 use Rattle.probe.specs.declared.Held.{Held}
 use Rattle.probe.specs.declared.Held.the-variants.{Known, Nothing}
 use Rattle.probe.specs.Words.{wordsOf, heldBy}
-use Rattle.probe.specs.Calls.{wordsNumber, setUpLeft, SetsUp, Told, refused, accepted, byFed, byHeld, callOf, Feeds, askedOf}
+use Rattle.probe.specs.Calls.{wordsNumber, setUpLeft, SetUpGives, Told, refused, accepted, byFed, byHeld, callOf, CallGives, askedOf}
 use Rattle.probe.proofs.RoundTrip.{length-words, only-words-hold}
 use Rattle.probe.proofs.Asking.{by-lengths}
 
@@ -34,18 +34,18 @@ module _ (x : StreamNumbers) (words : List ℕ) where
   unfolding wordsNumber
   in-order = set-up-then x (pick (leb 32 (length words)) 0 15)
 
-  by-number : (n : ℕ) → wordsNumber x (length words) ≡ n → 0 < n → SetsUp x words n words
+  by-number : (n : ℕ) → wordsNumber x (length words) ≡ n → 0 < n → SetUpGives x words n words
   unfolding setUpLeft
   by-number n e p = record { number-is = sym e; words-are = sym (rw (e, ne-eqb n 0 (λ z. omega arith))) }
 
-  pub not-set-up : (n : ℕ) → setUpOf x ≡ n → 0 < n → SetsUp x words n words
+  pub not-set-up : (n : ℕ) → setUpOf x ≡ n → 0 < n → SetUpGives x words n words
   not-set-up n e p = by-number n (in-order ∙ rw (e, ne-eqb n 0 (λ z. omega arith))) p
 
-  pub no-room : setUpOf x ≡ 0 → length words < 32 → SetsUp x words 15 words
+  pub no-room : setUpOf x ≡ 0 → length words < 32 → SetUpGives x words 15 words
   no-room e h = by-number 15 (in-order ∙ rw (eq-eqb (setUpOf x) 0 e, lt-leb 32 (length words) h)) (omega arith)
 
   pub set-up : {s : State} {after : List ℕ} → setUpOf x ≡ 0 → 32 ≤ length words → s ≡ freshOf x → after ≡ sets words 0 (wordsOf s)
-      → SetsUp x words 0 after
+      → SetUpGives x words 0 after
   unfolding setUpLeft
   set-up e h f g =
       let fine : wordsNumber x (length words) ≡ 0 = in-order ∙ rw (eq-eqb (setUpOf x) 0 e, le-leb 32 (length words) h) in
@@ -53,7 +53,7 @@ module _ (x : StreamNumbers) (words : List ℕ) where
 
 -- ---- a call
 
-is : {told : Told} (t : Told) → t ≡ told → Feeds told (t .number) (t .words) (t .rows) (t .out)
+is : {told : Told} (t : Told) → t ≡ told → CallGives told (t .number) (t .words) (t .rows) (t .out)
 is t e = record {
   number-is = ap (λ (x : Told). x .number) e;
   words-are = ap (λ (x : Told). x .words) e;
@@ -71,7 +71,7 @@ module _ (words : List ℕ) (rows : List ℤ) (out ts ss ms : List ℕ) where
   unfolding callOf
   by-held e = ap (byHeld words rows out ts ss ms) e
 
-  pub no-state : {h : Held} → h ≡ heldBy (take 32 words) → h ≡ Nothing → Feeds (callOf words rows out ts ss ms) 9 words rows out
+  pub no-state : {h : Held} → h ≡ heldBy (take 32 words) → h ≡ Nothing → CallGives (callOf words rows out ts ss ms) 9 words rows out
   no-state e f = is (refused words rows out 9 0) (by-held (sym f ∙ e))
 
   -- where there is no room for the summary the call is refused, whatever the words hold
@@ -91,7 +91,7 @@ module _ (words : List ℕ) (rows : List ℤ) (out ts ss ms : List ℕ) where
       go Nothing = refl
 
   pub no-summary : {a : Answer} → length out < summaryWidth → a ≡ askedOf words ts ss ms (length rows) (length out)
-      → Feeds (callOf words rows out ts ss ms) (a .number) words rows out
+      → CallGives (callOf words rows out ts ss ms) (a .number) words rows out
   no-summary h e =
       let told = callOf words rows out ts ss ms in
       let r = is (refused words rows out (told .number) (told .place)) (sym (short h)) in
@@ -103,11 +103,11 @@ module _ (words : List ℕ) (rows : List ℤ) (out ts ss ms : List ℕ) where
       }
 
   module _ {h : Held} {s : State} {b : Fed} {after : List ℤ} (e : h ≡ heldBy (take 32 words)) (f : h ≡ Known s)
-      (g : Is (feedOf s rows ts ss ms) b after) where
+      (g : FeedGives (feedOf s rows ts ss ms) b after) where
     by-fed : byFed words rows out s b (feedOf s rows ts ss ms .rows) ≡ callOf words rows out ts ss ms
     by-fed = ap (λ (z : Fed). byFed words rows out s z (feedOf s rows ts ss ms .rows)) (g .answer-is) ∙ by-held (sym f ∙ e)
 
-    pub call-refused : {k place : ℕ} {t : State} → b ≡ Refused k place t → Feeds (callOf words rows out ts ss ms) k words after out
+    pub call-refused : {k place : ℕ} {t : State} → b ≡ Refused k place t → CallGives (callOf words rows out ts ss ms) k words after out
     call-refused {k} {place} {t} q =
         let stays = refused-stays s t rows ts ss ms k place (sym (g .answer-is) ∙ q) in
         let told = ap (λ (z : Fed). byFed words rows out s z (feedOf s rows ts ss ms .rows)) (sym q) ∙ by-fed in
@@ -115,7 +115,7 @@ module _ (words : List ℕ) (rows : List ℤ) (out ts ss ms : List ℕ) where
         record { number-is = r .number-is; words-are = r .words-are; rows-are = g .rows-are ∙ stays .1 ∙ r .rows-are; out-is = r .out-is }
 
     pub call-accepted : {t : State} {words′ out′ : List ℕ} → b ≡ Accepted t → summaryWidth ≤ length out → words′ ≡ sets words 0 (wordsOf t)
-        → out′ ≡ sets out 0 (summaryOf t) → Feeds (callOf words rows out ts ss ms) 0 words′ after out′
+        → out′ ≡ sets out 0 (summaryOf t) → CallGives (callOf words rows out ts ss ms) 0 words′ after out′
     call-accepted {t} q room w o =
         let now = accepted words rows out t (feedOf s rows ts ss ms .rows) in
         let enough : byFed words rows out s (Accepted t) (feedOf s rows ts ss ms .rows) ≡ now = rw (le-leb summaryWidth (length out) room) in

@@ -30,7 +30,7 @@ unfoldable pub setUpLeft : StreamNumbers → List ℕ → List ℕ
 unfolding wordsNumber wordsOf
 setUpLeft x words = pick (eqb (wordsNumber x (length words)) 0) (sets words 0 (wordsOf (freshOf x))) words
 
-pub record SetsUp (x : StreamNumbers) (words : List ℕ) (number : ℕ) (after : List ℕ) : Type 0 where
+pub record SetUpGives (x : StreamNumbers) (words : List ℕ) (number : ℕ) (after : List ℕ) : Type 0 where
   pub number-is : number ≡ wordsNumber x (length words)
   pub words-are : after ≡ setUpLeft x words
 
@@ -72,7 +72,7 @@ abbrev pub Unchanged : List ℕ → List ℤ → List ℕ → Told → Type 0
 Unchanged words rows out told = (told .words ≡ words) × (told .rows ≡ rows) × (told .out ≡ out)
 
 -- a number and the slices' contents are what is told
-pub record Feeds (told : Told) (number : ℕ) (words : List ℕ) (rows : List ℤ) (out : List ℕ) : Type 0 where
+pub record CallGives (told : Told) (number : ℕ) (words : List ℕ) (rows : List ℤ) (out : List ℕ) : Type 0 where
   pub number-is : number ≡ told .number
   pub words-are : words ≡ told .words
   pub rows-are : rows ≡ told .rows

@@ -13,7 +13,7 @@ ghost use Rattle.timing.specs.Answers.{summaryOf};
 ghost use Rattle.timing.specs.Range.{inRange};
 ghost use Rattle.probe.specs.Words.{verdictWords, wordsOf, same as sameOf, heldBy};
 ghost use Rattle.probe.specs.Words.{numbersIn, networkIn, bucketIn, openIn, bufferIn, framesIn, stateIn};
-ghost use Rattle.probe.specs.Calls.{SetsUp, callOf, Feeds, answer, askedOf};
+ghost use Rattle.probe.specs.Calls.{SetUpGives, callOf, CallGives, answer, askedOf};
 use bucket::Bucket;
 use bucket::Network;
 use bucket::Run;
@@ -336,7 +336,7 @@ pub extern "C" fn vtiming_set_up(
     tro: u32,
     state: &mut [u64],
 ) -> u32
-    ensures { λ r. ⌜ SetsUp (ofParameters (given rate schedule class height n maxudp tro)) (now (state .entry)) r (now (state .exit)) ⌝ }
+    ensures { λ r. ⌜ SetUpGives (ofParameters (given rate schedule class height n maxudp tro)) (now (state .entry)) r (now (state .exit)) ⌝ }
 {
     let told = Parameters {
         rate,
@@ -370,7 +370,7 @@ pub extern "C" fn vtiming_feed(
     rows: &mut [i64],
     out: &mut [u64],
 ) -> u32
-    ensures { λ r. ⌜ Feeds (callOf (now (state .entry)) (now (rows .entry)) (now (out .entry)) (now (arrivals .entry)) (now (stamps .entry))
+    ensures { λ r. ⌜ CallGives (callOf (now (state .entry)) (now (rows .entry)) (now (out .entry)) (now (arrivals .entry)) (now (stamps .entry))
         (now (markers .entry))) r (now (state .exit)) (now (rows .exit)) (now (out .exit)) ⌝ }
 {
     if out.len() < SUMMARY {

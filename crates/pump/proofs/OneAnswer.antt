@@ -7,13 +7,13 @@ use lib.ListN.{length, take}
 use lib.Seq.{length-take-le}
 use Rattle.laws.specs.Unique.{one-answer}
 use Rattle.pump.specs.declared.Stepped.{Stepped}
-use Rattle.pump.specs.Step.{Did, Steps}
+use Rattle.pump.specs.Step.{Did, StepGives}
 
 -- as many bytes are to be written as the text has
-size : (k : Did) (r : Stepped) (after : List ℕ) → Steps k r after → r .written ≡ length (k .text)
+size : (k : Did) (r : Stepped) (after : List ℕ) → StepGives k r after → r .written ≡ length (k .text)
 size k r after x = sym (length-take-le (r .written) after (x .fits)) ∙ ap length (x .text-is)
 
-pub steps-unique : (k : Did) (a b : Stepped) (p q : List ℕ) → Steps k a p → Steps k b q
+pub steps-unique : (k : Did) (a b : Stepped) (p q : List ℕ) → StepGives k a p → StepGives k b q
     → (a ≡ b) × (take (a .written) p ≡ take (b .written) q)
 steps-unique k a b p q x y = (
   λ j. record {

@@ -27,19 +27,19 @@ use Rattle.pump.specs.declared.Came.the-variants.{Failed, On}
 use Rattle.pump.specs.declared.End.{End}
 use Rattle.pump.specs.declared.End.the-variants.{Whole, Unwritten, Unread, Worn}
 use Rattle.pump.specs.Said.{Said, Heard}
-use Rattle.pump.specs.Step.{fresh, Fits, Steps, shown, openedBy, stageBy, stepOf, settledOf, grown, cameOf, Roomy}
-use Rattle.pump.specs.Run.{Read-in, came-in, Reaches, begins, steps, reads, Ran, whole, unwritten, unread, worn}
-use Rattle.pump.specs.Run.{Fetched, Printed, Reached}
+use Rattle.pump.specs.Step.{fresh, Fits, StepGives, shown, openedBy, stageBy, stepOf, settledOf, grown, cameOf, Roomy}
+use Rattle.pump.specs.Run.{Read-in, came-in, Reaches, begins, steps, reads, RunEnds, whole, unwritten, unread, worn}
+use Rattle.pump.specs.Run.{FetchGives, ProgramGives, InLoop}
 use Rattle.pump.proofs.Reading.{back}
 use Rattle.pump.proofs.Stepping.{shown-size}
 use Rattle.pump.proofs.Room.{shown-bytes, wants-room}
 use Rattle.pump.proofs.Running.{reaches-holds, wants-more, ran-front, ran-whole, ran-ended}
 
-pub reached-begins : (room : ℕ) (p : Pump) (w : List ℕ) → p ≡ fresh → Reached room p w
+pub reached-begins : (room : ℕ) (p : Pump) (w : List ℕ) → p ≡ fresh → InLoop room p w
 reached-begins room p w e =
-    subst (λ (q : Pump). Reached room q w) (sym e) (record { file = []; text = []; reaches = begins w })
+    subst (λ (q : Pump). InLoop room q w) (sym e) (record { file = []; text = []; reaches = begins w })
 
-pub reached-fits : {room : ℕ} {p : Pump} {w : List ℕ} → Reached room p w → Fits p (length w)
+pub reached-fits : {room : ℕ} {p : Pump} {w : List ℕ} → InLoop room p w → Fits p (length w)
 reached-fits h = reaches-holds (h .reaches) .fits
 
 abbrev isWhole : End → Bool
@@ -49,7 +49,7 @@ isWhole Unread = false
 isWhole Worn = false
 
 -- a run that ended otherwise
-short : {room : ℕ} {last : Bool} {file text : List ℕ} {end : End} → Ran room last file text end → isWhole end ≡ false → Printed room end
+short : {room : ℕ} {last : Bool} {file text : List ℕ} {end : End} → RunEnds room last file text end → isWhole end ≡ false → ProgramGives room end
 short {last = last} {file = file} {text = text} x e =
     record {
       last = last;
@@ -61,37 +61,37 @@ short {last = last} {file = file} {text = text} x e =
       ended = ran-ended x;
     }
 
-pub reached-worn : {room : ℕ} {p : Pump} {w : List ℕ} → Reached room p w → Printed room Worn
+pub reached-worn : {room : ℕ} {p : Pump} {w : List ℕ} → InLoop room p w → ProgramGives room Worn
 reached-worn h = short (worn (h .reaches)) refl
 
-pub reached-unread : {room : ℕ} {p : Pump} {w after : List ℕ} {r : Came} → Reached room p w → p .last ≡ false → r ≡ Failed
-    → Fetched p w r after → Printed room Unread
+pub reached-unread : {room : ℕ} {p : Pump} {w after : List ℕ} {r : Came} → InLoop room p w → p .last ≡ false → r ≡ Failed
+    → FetchGives p w r after → ProgramGives room Unread
 reached-unread {p = p} {w = w} {after = after} h l e f =
-    short (unread (h .reaches) l (subst (λ (x : Came). Fetched p w x after) e f)) refl
+    short (unread (h .reaches) l (subst (λ (x : Came). FetchGives p w x after) e f)) refl
 
 -- where two branches of the loop meet
-pub joined : {room n : ℕ} {p q : Pump} {w v : List ℕ} → v ≡ w → q ≡ p → length w ≡ n → Reached room p w → (length v ≡ n) × Reached room q v
+pub joined : {room n : ℕ} {p q : Pump} {w v : List ℕ} → v ≡ w → q ≡ p → length w ≡ n → InLoop room p w → (length v ≡ n) × InLoop room q v
 joined {room} {n} {p} {q} {w} {v} e f size h =
-    (ap length e ∙ size, subst (λ (x : List ℕ). Reached room q x) (sym e) (subst (λ (x : Pump). Reached room x w) (sym f) h))
+    (ap length e ∙ size, subst (λ (x : List ℕ). InLoop room q x) (sym e) (subst (λ (x : Pump). InLoop room x w) (sym f) h))
 
 -- ---- a step
 
 -- a step from where the loop is, and what it put out handed over
 pub record Spoken (room : ℕ) (p : Pump) (w : List ℕ) (r : Stepped) (after : List ℕ) (fine : Bool) : Type 0 where
-  pub reached : Reached room p w
-  pub stepped : Steps (stepOf p w room) r after
+  pub reached : InLoop room p w
+  pub stepped : StepGives (stepOf p w room) r after
   pub told : Said (take (r .written - 0) after) fine
 
-pub spoken : (room n : ℕ) (p : Pump) (w : List ℕ) (r : Stepped) (after : List ℕ) (fine : Bool) → n ≡ room → Reached room p w
-    → Steps (stepOf p w n) r after → Said (take (r .written - 0) after) fine → Spoken room p w r after fine
+pub spoken : (room n : ℕ) (p : Pump) (w : List ℕ) (r : Stepped) (after : List ℕ) (fine : Bool) → n ≡ room → InLoop room p w
+    → StepGives (stepOf p w n) r after → Said (take (r .written - 0) after) fine → Spoken room p w r after fine
 spoken room n p w r after fine same h s d =
-    record { reached = h; stepped = subst (λ (m : ℕ). Steps (stepOf p w m) r after) same s; told = d }
+    record { reached = h; stepped = subst (λ (m : ℕ). StepGives (stepOf p w m) r after) same s; told = d }
 
 module _ {room : ℕ} {p : Pump} {w : List ℕ} {r : Stepped} {after : List ℕ} {fine : Bool} (k : Spoken room p w r after fine) where
-  h : Reached room p w
+  h : InLoop room p w
   h = k .reached
 
-  here : Steps (stepOf p w room) r after
+  here : StepGives (stepOf p w room) r after
   here = k .stepped
 
   -- what was handed over is the step's text
@@ -101,17 +101,17 @@ module _ {room : ℕ} {p : Pump} {w : List ℕ} {r : Stepped} {after : List ℕ}
       subst (Said (stepOf p w room .text)) g
       (subst (λ (x : List ℕ). Said x fine) (ap (λ (m : ℕ). take m after) all ∙ here .text-is) (k .told))
 
-  pub reached-steps : fine ≡ true → r .over ≡ false → Reached room (r .pump) w
+  pub reached-steps : fine ≡ true → r .over ≡ false → InLoop room (r .pump) w
   reached-steps g e =
-      subst (λ (q : Pump). Reached room q w) (sym (here .pump-is))
+      subst (λ (q : Pump). InLoop room q w) (sym (here .pump-is))
       (record { file = h .file; text = _; reaches = steps (h .reaches) (said true g) (sym (here .over-is) ∙ e) })
 
-  pub reached-ends : fine ≡ true → r .over ≡ true → Printed room Whole
+  pub reached-ends : fine ≡ true → r .over ≡ true → ProgramGives room Whole
   reached-ends g e =
       let x = whole (h .reaches) (said true g) (sym (here .over-is) ∙ e) in
       record { last = p .last; file = h .file; text = _; ran = x; front = ran-front x; all = λ f. ran-whole x; ended = ran-ended x }
 
-  pub reached-unwritten : fine ≡ false → Printed room Unwritten
+  pub reached-unwritten : fine ≡ false → ProgramGives room Unwritten
   reached-unwritten g = short (unwritten (h .reaches) (said false g)) refl
 
   step-last : stepOf p w room .pump .last ≡ p .last
@@ -162,9 +162,9 @@ abbrev pumpIn : Came → Pump
 pumpIn Failed = fresh
 pumpIn (On q) = q
 
-module _ {room : ℕ} {p : Pump} {w : List ℕ} (h : Reached room p w) (l : p .last ≡ false) where
+module _ {room : ℕ} {p : Pump} {w : List ℕ} (h : InLoop room p w) (l : p .last ≡ false) where
   reads-some : (k : ℕ) (after : List ℕ) → Moved (length after - settledOf p .held) (pos k) → take (settledOf p .held) after ≡ shown p w
-      → settledOf p .held < length after → Reached room (grown (settledOf p) k) after
+      → settledOf p .held < length after → InLoop room (grown (settledOf p) k) after
   reads-some k after m kept free =
       let size : length (take (settledOf p .held) after) ≡ settledOf p .held = ap length kept ∙ shown-size p w (reached-fits h) in
       record {
@@ -175,12 +175,12 @@ module _ {room : ℕ} {p : Pump} {w : List ℕ} (h : Reached room p w) (l : p .l
       }
 
   reads-by : (z : ℤ) (after : List ℕ) (q : Pump) → Moved (length after - settledOf p .held) z → take (settledOf p .held) after ≡ shown p w
-      → settledOf p .held < length after → On q ≡ cameOf (settledOf p) z → Reached room q after
+      → settledOf p .held < length after → On q ≡ cameOf (settledOf p) z → InLoop room q after
   reads-by (pos k) after q m kept free e =
-      subst (λ (x : Pump). Reached room x after) (sym (ap pumpIn e)) (reads-some k after m kept free)
+      subst (λ (x : Pump). InLoop room x after) (sym (ap pumpIn e)) (reads-some k after m kept free)
   reads-by (negsuc k) after q m kept free e = absurd (false-true (sym (ap isOn e)))
 
-  pub reached-reads : (after : List ℕ) (r : Came) (q : Pump) → r ≡ On q → Fetched p w r after → Reached room q after
+  pub reached-reads : (after : List ℕ) (r : Came) (q : Pump) → r ≡ On q → FetchGives p w r after → InLoop room q after
   reached-reads after r q e f = reads-by (f .got) after q (f .moved) (f .kept) (f .room) (sym e ∙ f .answer)
 
 -- ---- one read in the program: what is held moves to the front, and the read gets the part of the window behind it
@@ -213,7 +213,7 @@ module _ (p settled : Pump) (w w₁ : List ℕ) (fits : Fits p (length w))
                 (subst (Moved (length (midOf (settled .held) (length w₁ - settled .held) w₁))) (sym (toZ-ofZ f)) (q .0)),
           )
 
-      pub fetched : (r : Came) → r ≡ cameOf settled (back z) → Fetched p w r after
+      pub fetched : (r : Came) → r ≡ cameOf settled (back z) → FetchGives p w r after
       fetched r c = record {
         got = back z;
         heard = subst Heard (sym (toZ-ofZ f)) (q .1);

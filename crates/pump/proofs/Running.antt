@@ -26,7 +26,7 @@ use Rattle.pump.specs.declared.Pump.{Pump}
 use Rattle.pump.specs.declared.End.{End}
 use Rattle.pump.specs.declared.End.the-variants.{Whole, Unwritten, Unread, Worn}
 use Rattle.pump.specs.Step.{fresh, Fits, shown, onward, openedBy, tookBy, stageBy, stepOf, settledOf, grown}
-use Rattle.pump.specs.Run.{Read-in, came-in, Reaches, begins, steps, reads, Front, Whole-output, Ran, whole, unwritten, unread, worn}
+use Rattle.pump.specs.Run.{Read-in, came-in, Reaches, begins, steps, reads, Front, Whole-output, RunEnds, whole, unwritten, unread, worn}
 use Rattle.pump.proofs.Moving.{drop-take}
 use Rattle.pump.proofs.Stepping.{shown-size}
 
@@ -182,14 +182,14 @@ reaches-holds (reads {p} {w} {file} {text} k after r q) = read-holds p w file te
 so-far : {room : ℕ} {p : Pump} {w file text : List ℕ} → Reaches room p w file text → Front (p .last) file text
 so-far {p = p} {w = w} r = λ v l. (still (p .stage) (shown p w ++ v), reaches-holds r .same v l)
 
-pub ran-front : {room : ℕ} {last : Bool} {file text : List ℕ} {end : End} → Ran room last file text end → Front last file text
+pub ran-front : {room : ℕ} {last : Bool} {file text : List ℕ} {end : End} → RunEnds room last file text end → Front last file text
 ran-front {room} (whole {p} {w} {file} {text} r d e) = λ v l. ([], append-nil _ ∙ step-ends p w file text room (reaches-holds r) e v l)
 ran-front (unwritten r d) = so-far r
 ran-front (unread r l f) = so-far r
 ran-front (worn r) = so-far r
 
 -- and all of it where the last line is out
-pub ran-whole : {room : ℕ} {last : Bool} {file text : List ℕ} → Ran room last file text Whole → Whole-output last file text
+pub ran-whole : {room : ℕ} {last : Bool} {file text : List ℕ} → RunEnds room last file text Whole → Whole-output last file text
 ran-whole {room} (whole {p} {w} {file} {text} r d e) = step-ends p w file text room (reaches-holds r) e
 
 -- and where the file had ended no read has failed: the last line is out, or a write failed, or the turns were over
@@ -199,7 +199,7 @@ isUnread Unwritten = false
 isUnread Unread = true
 isUnread Worn = false
 
-pub ran-ended : {room : ℕ} {last : Bool} {file text : List ℕ} {end : End} → Ran room last file text end → last ≡ true → end ≡ Unread → ⊥
+pub ran-ended : {room : ℕ} {last : Bool} {file text : List ℕ} {end : End} → RunEnds room last file text end → last ≡ true → end ≡ Unread → ⊥
 ran-ended (whole r d e) l f = false-true (ap isUnread f)
 ran-ended (unwritten r d) l f = false-true (ap isUnread f)
 ran-ended (unread r g h) l f = false-true (sym g ∙ l)

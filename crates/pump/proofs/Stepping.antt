@@ -11,23 +11,23 @@ use Rattle.laws.specs.Lay.{sets-front, put-length}
 use Rattle.record.specs.Paper.{headBytes}
 use Rattle.text.specs.Lines.{lineRoom, Line, refusalLine}
 use Rattle.printer.specs.declared.Walk.{Walk}
-use Rattle.printer.specs.declared.Taken.{Taken}
-use Rattle.printer.specs.Step.{Took, Takes}
+use Rattle.printer.specs.declared.TakeAnswer.{TakeAnswer}
+use Rattle.printer.specs.Step.{TakeOutcome, TakeGives}
 use Rattle.pump.specs.declared.Stage.{Stage}
 use Rattle.pump.specs.declared.Stage.the-variants.{Head, Walking}
 use Rattle.pump.specs.declared.Pump.{Pump}
 use Rattle.pump.specs.declared.Stepped.{Stepped}
 use Rattle.printer.specs.declared.Opened.{Opened}
 use Rattle.printer.specs.declared.Opened.the-variants.{More as Wanting, Refused as Unopened, Ready as Opens}
-use Rattle.pump.specs.Step.{Did, Steps, stageBy, stepOf, onward, openedBy, tookBy, settledOf, shown, Fits}
+use Rattle.pump.specs.Step.{Did, StepGives, stageBy, stepOf, onward, openedBy, tookBy, settledOf, shown, Fits}
 
 -- the front of what a text was laid into is the text
 pub laid-front : (text before : List ℕ) → length text ≤ length before → take (length text) (sets before 0 text) ≡ text
 laid-front text before h =
     ap (take (length text)) (sets-front text before h) ∙ take-append-seam text (drop (length text) before)
 
-pub walked-on : (p : Pump) (k : Took) (before : List ℕ) (r : Taken) (after : List ℕ) → Takes k 0 0 before r after
-    → Steps (tookBy p k) (record {
+pub walked-on : (p : Pump) (k : TakeOutcome) (before : List ℕ) (r : TakeAnswer) (after : List ℕ) → TakeGives k 0 0 before r after
+    → StepGives (tookBy p k) (record {
       pump = record { stage = Walking (r .walk); from = p .from + r .used; held = p .held; last = p .last };
       written = r .written;
       wants = eqb (r .used) 0;
@@ -49,19 +49,19 @@ walked-on p k before r after t =
 -- the start of a file, by its answer
 
 pub opened-more : (p : Pump) {o : Opened} (after : List ℕ) → Wanting ≡ o
-    → Steps (openedBy p o) (record { pump = p; written = 0; wants = true; over = false }) after
+    → StepGives (openedBy p o) (record { pump = p; written = 0; wants = true; over = false }) after
 opened-more p after e =
-    subst (λ (o : Opened). Steps (openedBy p o) (record { pump = p; written = 0; wants = true; over = false }) after) e
+    subst (λ (o : Opened). StepGives (openedBy p o) (record { pump = p; written = 0; wants = true; over = false }) after) e
     (record { pump-is = refl; wants-is = refl; over-is = refl; text-is = refl; fits = omega arith })
 
 pub opened-refused : (p : Pump) {o : Opened} (number offset written : ℕ) (before after : List ℕ) → Unopened number offset ≡ o
     → lineRoom ≤ length before → Line (refusalLine number offset) 0 before written after
-    → Steps (openedBy p o) (record { pump = p; written = written; wants = false; over = true }) after
+    → StepGives (openedBy p o) (record { pump = p; written = written; wants = false; over = true }) after
 opened-refused p number offset written before after e h t =
     let line = refusalLine number offset in
     let size : written ≡ length line = omega (arith, t .put .next) in
     let long : length after ≡ length before = put-length (t .put) in
-    subst (λ (o : Opened). Steps (openedBy p o) (record { pump = p; written = written; wants = false; over = true }) after) e
+    subst (λ (o : Opened). StepGives (openedBy p o) (record { pump = p; written = written; wants = false; over = true }) after) e
     (record {
       pump-is = refl;
       wants-is = refl;
@@ -72,9 +72,9 @@ opened-refused p number offset written before after e h t =
     })
 
 pub opened-ready : (p : Pump) {o : Opened} (walk : Walk) (after : List ℕ) → Opens walk ≡ o
-    → Steps (openedBy p o) (record { pump = onward p walk headBytes; written = 0; wants = false; over = false }) after
+    → StepGives (openedBy p o) (record { pump = onward p walk headBytes; written = 0; wants = false; over = false }) after
 opened-ready p walk after e =
-    subst (λ (o : Opened). Steps (openedBy p o) (record { pump = onward p walk headBytes; written = 0; wants = false; over = false }) after) e
+    subst (λ (o : Opened). StepGives (openedBy p o) (record { pump = onward p walk headBytes; written = 0; wants = false; over = false }) after) e
     (record { pump-is = refl; wants-is = refl; over-is = refl; text-is = refl; fits = omega arith })
 
 -- what is shown lies within the window
@@ -91,6 +91,6 @@ settled-shown p w after e =
 -- a step by its stage
 
 pub step-by : (p : Pump) (w : List ℕ) (room : ℕ) (s : Stage) {r : Stepped} {after : List ℕ} → p .stage ≡ s
-    → Steps (stageBy s p (shown p w) room) r after → Steps (stepOf p w room) r after
+    → StepGives (stageBy s p (shown p w) room) r after → StepGives (stepOf p w room) r after
 unfolding stepOf
-step-by p w room s {r} {after} e t = subst (λ (x : Stage). Steps (stageBy x p (shown p w) room) r after) (sym e) t
+step-by p w room s {r} {after} e t = subst (λ (x : Stage). StepGives (stageBy x p (shown p w) room) r after) (sym e) t

@@ -45,7 +45,7 @@ Whole-output last file text = (v : List ℕ) → (last ≡ true → v ≡ []) �
 -- ---- what the program's parts give
 
 -- one read: what was held stays, at the front; the answer is that of a read of so many bytes behind it
-pub record Fetched (p : Pump) (w : List ℕ) (r : Came) (after : List ℕ) : Type 0 where
+pub record FetchGives (p : Pump) (w : List ℕ) (r : Came) (after : List ℕ) : Type 0 where
   pub got : ℤ
   pub heard : Heard got
   pub moved : Moved (length after - settledOf p .held) got
@@ -54,28 +54,28 @@ pub record Fetched (p : Pump) (w : List ℕ) (r : Came) (after : List ℕ) : Typ
   pub kept : take (settledOf p .held) after ≡ shown p w
 
 -- where a run ends: `last`, the file had ended
-pub data Ran (room : ℕ) : Bool → List ℕ → List ℕ → End → Type 0 where
+pub data RunEnds (room : ℕ) : Bool → List ℕ → List ℕ → End → Type 0 where
   whole : {p : Pump} {w file text : List ℕ} → Reaches room p w file text → Said (stepOf p w room .text) true
-      → stepOf p w room .over ≡ true → Ran room (p .last) file (text ++ stepOf p w room .text) Whole
+      → stepOf p w room .over ≡ true → RunEnds room (p .last) file (text ++ stepOf p w room .text) Whole
   unwritten : {p : Pump} {w file text : List ℕ} → Reaches room p w file text → Said (stepOf p w room .text) false
-      → Ran room (p .last) file text Unwritten
-  unread : {p : Pump} {w file text after : List ℕ} → Reaches room p w file text → p .last ≡ false → Fetched p w Failed after
-      → Ran room (p .last) file text Unread
-  worn : {p : Pump} {w file text : List ℕ} → Reaches room p w file text → Ran room (p .last) file text Worn
+      → RunEnds room (p .last) file text Unwritten
+  unread : {p : Pump} {w file text after : List ℕ} → Reaches room p w file text → p .last ≡ false → FetchGives p w Failed after
+      → RunEnds room (p .last) file text Unread
+  worn : {p : Pump} {w file text : List ℕ} → Reaches room p w file text → RunEnds room (p .last) file text Worn
 
 -- the program: what its reads brought, and what it handed over to be written
-pub record Printed (room : ℕ) (end : End) : Type 0 where
+pub record ProgramGives (room : ℕ) (end : End) : Type 0 where
   pub last : Bool
   pub file : List ℕ
   pub text : List ℕ
-  pub ran : Ran room last file text end
+  pub ran : RunEnds room last file text end
   pub front : Front last file text
   pub all : end ≡ Whole → Whole-output last file text
   -- where the file had ended nothing but a write that fails, or the last turn, keeps the last line back
   pub ended : last ≡ true → end ≡ Unread → ⊥
 
 -- where the program's loop is
-pub record Reached (room : ℕ) (p : Pump) (w : List ℕ) : Type 0 where
+pub record InLoop (room : ℕ) (p : Pump) (w : List ℕ) : Type 0 where
   pub file : List ℕ
   pub text : List ℕ
   pub reaches : Reaches room p w file text

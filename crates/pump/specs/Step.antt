@@ -11,7 +11,7 @@ use Rattle.text.specs.Lines.{refusalLine}
 use Rattle.printer.specs.declared.Walk.{Walk}
 use Rattle.printer.specs.declared.Opened.{Opened}
 use Rattle.printer.specs.declared.Opened.the-variants.{More as Wanting, Refused as Unopened, Ready as Opens}
-use Rattle.printer.specs.Step.{Took, beginOf, takeOf}
+use Rattle.printer.specs.Step.{TakeOutcome, beginOf, takeOf}
 use Rattle.pump.specs.declared.Stage.{Stage}
 use Rattle.pump.specs.declared.Stage.the-variants.{Head, Walking}
 use Rattle.pump.specs.declared.Pump.{Pump}
@@ -47,7 +47,7 @@ openedBy p Wanting = record { pump = p; text = []; wants = true; over = false }
 openedBy p (Unopened number offset) = record { pump = p; text = refusalLine number offset; wants = false; over = true }
 openedBy p (Opens walk) = record { pump = onward p walk headBytes; text = []; wants = false; over = false }
 
-abbrev pub tookBy : Pump → Took → Did
+abbrev pub tookBy : Pump → TakeOutcome → Did
 tookBy p k = record { pump = onward p (k .walk) (k .used); text = k .text; wants = eqb (k .used) 0; over = k .ended }
 
 abbrev pub stageBy : Stage → Pump → List ℕ → ℕ → Did
@@ -58,7 +58,7 @@ unfoldable pub stepOf : Pump → List ℕ → ℕ → Did
 stepOf p w room = stageBy (p .stage) p (shown p w) room
 
 -- an answer does this; the bytes that are to be written are its text
-pub record Steps (k : Did) (r : Stepped) (after : List ℕ) : Type 0 where
+pub record StepGives (k : Did) (r : Stepped) (after : List ℕ) : Type 0 where
   pub pump-is : r .pump ≡ k .pump
   pub wants-is : r .wants ≡ k .wants
   pub over-is : r .over ≡ k .over

@@ -5,7 +5,7 @@ ghost use Prim.Native.Nat.{_+_, _-_, _≤_, _<_};
 ghost use lib.ListN.{length, take, drop};
 ghost use Rattle.libc.specs.Io.{Moved};
 ghost use Rattle.text.specs.Lines.{lineRoom};
-ghost use Rattle.pump.specs.Step.{Fits, Steps, shown, fresh, openedBy, tookBy, stepOf, settledOf, cameOf};
+ghost use Rattle.pump.specs.Step.{Fits, StepGives, shown, fresh, openedBy, tookBy, stepOf, settledOf, cameOf};
 ghost use Rattle.printer.specs.Step.{beginOf, takeOf};
 use printer::Opened;
 use printer::Walk;
@@ -78,7 +78,7 @@ impl Pump {
     // The start of the file.
     fn open(self, window: &[u8], out: &mut [u8]) -> Stepped
         requires { ⌜ Fits self (length (now window)) × (lineRoom ≤ length (now out)) ⌝ }
-        ensures { λ r. ⌜ Steps (openedBy self (beginOf (shown self (now (window .entry))) (self .last))) r (now (out .exit)) ⌝ }
+        ensures { λ r. ⌜ StepGives (openedBy self (beginOf (shown self (now (window .entry))) (self .last))) r (now (out .exit)) ⌝ }
     {
         let from = self.from;
         let held = self.held;
@@ -116,7 +116,7 @@ impl Pump {
     // The packets behind it.
     fn walk_on(self, walk: Walk, window: &[u8], out: &mut [u8]) -> Stepped
         requires { ⌜ Fits self (length (now window)) ⌝ }
-        ensures { λ r. ⌜ Steps (tookBy self (takeOf walk (shown self (now (window .entry))) (self .last) (length (now (out .entry))))) r
+        ensures { λ r. ⌜ StepGives (tookBy self (takeOf walk (shown self (now (window .entry))) (self .last) (length (now (out .entry))))) r
             (now (out .exit)) ⌝ }
     {
         let from = self.from;
@@ -141,7 +141,7 @@ impl Pump {
     // The lines that the window tells from here, as far as `out` has room.
     pub fn step(self, window: &[u8], out: &mut [u8]) -> Stepped
         requires { ⌜ Fits self (length (now window)) × (lineRoom ≤ length (now out)) ⌝ }
-        ensures { λ r. ⌜ Steps (stepOf self (now (window .entry)) (length (now (out .entry)))) r (now (out .exit)) ⌝ }
+        ensures { λ r. ⌜ StepGives (stepOf self (now (window .entry)) (length (now (out .entry)))) r (now (out .exit)) ⌝ }
     {
         let stage = self.stage;
         match stage {

@@ -48,7 +48,7 @@ packet-kind kind e =
 
 pub data Front (l : List ℕ) : Type 0 where
   scrap : length l < 2 → Front l
-  nought : 2 ≤ length l → bodyLength l ≡ 0 → Front l
+  zero-length : 2 ≤ length l → bodyLength l ≡ 0 → Front l
   short : 2 ≤ length l → 0 < bodyLength l → length l < 2 + bodyLength l → Front l
   whole : Whole (bodyLength l) (kindOf l) l → Front l
 
@@ -57,7 +57,7 @@ front l = go (decLe 2 (length l)) (ℕ-discrete (bodyLength l) 0) (decLe (2 + bo
   where
     go : Dec (2 ≤ length l) → Dec (bodyLength l ≡ 0) → Dec (2 + bodyLength l ≤ length l) → Front l
     go (no t) b d = scrap (omega arith)
-    go (yes t) (yes b) d = nought t b
+    go (yes t) (yes b) d = zero-length t b
     go (yes t) (no b) (no d) = short t (omega arith) (omega arith)
     go (yes t) (no b) (yes d) =
         whole (record { length-read = refl; kind-read = refl; some-body = omega arith; all-there = d })
@@ -67,9 +67,9 @@ module _ (w : List ℕ) (last : Bool) where
   unfolding framedOf
   framed-scrap h = rw (lt-ltb (length w) 2 h)
 
-  pub framed-nought : 2 ≤ length w → bodyLength w ≡ 0 → framedOf w last ≡ framed.Cut
+  pub framed-zero : 2 ≤ length w → bodyLength w ≡ 0 → framedOf w last ≡ framed.Cut
   unfolding framedOf
-  framed-nought t e = rw (le-ltb (length w) 2 t, eq-eqb (bodyLength w) 0 e)
+  framed-zero t e = rw (le-ltb (length w) 2 t, eq-eqb (bodyLength w) 0 e)
 
   pub framed-short : 2 ≤ length w → 0 < bodyLength w → length w < 2 + bodyLength w → framedOf w last ≡ pick last framed.Cut framed.More
   unfolding framedOf
@@ -115,9 +115,9 @@ module _ (first : Bool) (l : List ℕ) where
   unfolding formatRefusal
   scrap-21 h k = rw (not-lone first l h, lt-ltb (length l) 2 k)
 
-  pub nought-21 : 2 ≤ length l → bodyLength l ≡ 0 → formatRefusal first l ≡ 21
+  pub zero-21 : 2 ≤ length l → bodyLength l ≡ 0 → formatRefusal first l ≡ 21
   unfolding formatRefusal
-  nought-21 h e = rw (not-lone first l (omega arith), le-ltb (length l) 2 h, eq-eqb (bodyLength l) 0 e)
+  zero-21 h e = rw (not-lone first l (omega arith), le-ltb (length l) 2 h, eq-eqb (bodyLength l) 0 e)
 
   pub short-21 : 2 ≤ length l → 0 < bodyLength l → length l < 2 + bodyLength l → formatRefusal first l ≡ 21
   unfolding formatRefusal

@@ -7,10 +7,10 @@ use Rattle.packet.specs.Paper.{packets}
 use Rattle.limits.specs.declared.Parameters.{Parameters}
 use Rattle.record.specs.declared.Written.{Written}
 use Rattle.record.specs.Layout.{bytesIn}
-use Rattle.record.specs.Write.{leftBy, Writes}
+use Rattle.record.specs.Write.{leftBy, WriteGives}
 
-pub writes-unique : (s : Parameters) (ts ss ms out : List ℕ) (a b : Written) (p q : List ℕ) → Writes s ts ss ms out a p
-    → Writes s ts ss ms out b q → (a ≡ b) × (p ≡ q)
+pub writes-unique : (s : Parameters) (ts ss ms out : List ℕ) (a b : Written) (p q : List ℕ) → WriteGives s ts ss ms out a p
+    → WriteGives s ts ss ms out b q → (a ≡ b) × (p ≡ q)
 writes-unique s ts ss ms out a b p q x y =
     let same = one-answer (x .answered) (y .answered) in
     (same, x .left ∙ ap (λ (w : Written). leftBy w (bytesIn s (packets ts ss ms)) out) same ∙ sym (y .left))

@@ -20,7 +20,7 @@ use Rattle.packet.proofs.Turn.{scan-ends, scan-goes, lengths-same}
 use Rattle.limits.specs.declared.Parameters.{Parameters}
 use Rattle.record.specs.declared.Written.{Written}
 use Rattle.record.specs.declared.Written.the-variants.{Done}
-use Rattle.record.specs.Write.{fileLength, Writes}
+use Rattle.record.specs.Write.{fileLength, WriteGives}
 use Rattle.limits.specs.Paper.{setUpRefusal}
 use Rattle.record.specs.Paper.{parametersBytes, packetBytes, headBytes}
 use Rattle.record.specs.Paper.{versionFits, parametersAt, packetAt, formatRefusal, parametersRefusal, packetRefusal}
@@ -167,7 +167,7 @@ module _ (s : List ℕ) (b : Bytes s) where
 
   -- the writer, given room for the file, writes it again
   pub writer-again : (numbers : Parameters) (ts ss ms out after : List ℕ) (w : Written) → OneLength ts ss ms
-      → fileOf s ≡ file numbers (packets ts ss ms) → length s ≤ length out → Writes numbers ts ss ms out w after
+      → fileOf s ≡ file numbers (packets ts ss ms) → length s ≤ length out → WriteGives numbers ts ss ms out w after
       → (w ≡ Done (length s)) × (take (length s) after ≡ s)
   writer-again numbers ts ss ms out after w same e room h =
       let ps = packets ts ss ms in
@@ -178,5 +178,5 @@ module _ (s : List ℕ) (b : Bytes s) where
       let scanned = lengths-same nothing false ts ss ms same ∙ holds .scan-fine in
       let done-so : w ≡ Done (length s) =
       h .answered ∙ sym (answers-done numbers ts ss ms (length out) (holds .set-up) scanned (omega arith)) ∙ ap Done size in
-      let wrote = subst (λ v. Writes numbers ts ss ms out v after) done-so h in
+      let wrote = subst (λ v. WriteGives numbers ts ss ms out v after) done-so h in
       (done-so, writes-done numbers ts ss ms out after (length s) wrote ∙ again)

@@ -23,8 +23,8 @@ use Rattle.record.specs.Paper.{versionFits, bodyLength, kindOf, isParame
 use Rattle.record.specs.Paper.{parametersRefusal, packetsIn, unread, read, readingOf}
 use Rattle.record.specs.Step.{cursor, after, packetOf, stepOver, framedOf, Whole, firstOf, headBy, headPiece, headRead}
 use Rattle.record.specs.Step.{wholeOf, nextBy, nextPiece, nextRead}
-use Rattle.record.proofs.Format.{Front, scrap, nought, short, whole, front, framed-nothing, framed-byte, framed-nought}
-use Rattle.record.proofs.Format.{framed-short, framed-whole, lone-23, scrap-21, nought-21, short-21, there}
+use Rattle.record.proofs.Format.{Front, scrap, zero-length, short, whole, front, framed-nothing, framed-byte, framed-zero}
+use Rattle.record.proofs.Format.{framed-short, framed-whole, lone-23, scrap-21, zero-21, short-21, there}
 use Rattle.record.proofs.Ways.{head-cons}
 use Rattle.record.proofs.Reading.{second, before, parameters-here, reading-20, reading-stop, reading-go}
 
@@ -56,7 +56,7 @@ next-says at l = go (front l) (ℕ-discrete (length l) 0)
     go : Front l → Dec (length l ≡ 0) → by (framedOf l true)
     go (scrap h) (yes e) = subst by (sym (framed-nothing l e)) e
     go (scrap h) (no n) = subst by (sym (framed-byte l n h)) (omega arith, scrap-21 false l (omega arith) h, omega arith, refl, refl, omega arith)
-    go (nought t e) d = subst by (sym (framed-nought l true t e)) (omega arith, nought-21 false l t e, omega arith, refl, refl, omega arith)
+    go (zero-length t e) d = subst by (sym (framed-zero l true t e)) (omega arith, zero-21 false l t e, omega arith, refl, refl, omega arith)
     go (short t b k) d = subst by (sym (framed-short l true t b k)) (omega arith, short-21 false l t b k, omega arith, refl, refl, omega arith)
     go (whole w) d = subst by (sym (framed-whole l true w)) (of-whole w)
 
@@ -114,7 +114,7 @@ module _ (b : ℕ) (l : List ℕ) (v : eqb b 1 ≡ true) where
       go : Front l → Dec (length l ≡ 0) → by (framedOf l true)
       go (scrap h) (yes e) = subst by (sym (framed-nothing l e)) (stops 23 (lone-23 l e) (omega arith))
       go (scrap h) (no n) = subst by (sym (framed-byte l n h)) (stops 21 (scrap-21 true l (omega arith) h) (omega arith))
-      go (nought t e) d = subst by (sym (framed-nought l true t e)) (stops 21 (nought-21 true l t e) (omega arith))
+      go (zero-length t e) d = subst by (sym (framed-zero l true t e)) (stops 21 (zero-21 true l t e) (omega arith))
       go (short t c k) d = subst by (sym (framed-short l true t c k)) (stops 21 (short-21 true l t c k) (omega arith))
       go (whole w) d = subst by (sym (framed-whole l true w)) (of-whole w)
 

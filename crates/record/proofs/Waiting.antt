@@ -17,7 +17,7 @@ use Rattle.record.specs.declared.Next.{Next}
 use Rattle.record.specs.Paper.{bodyLength, kindOf, isParameters, kindLength}
 use Rattle.record.specs.Step.{framedOf, Whole, firstOf, headBy, headPiece, headRead, wholeOf, nextBy, nextPiece, nextRead}
 use Rattle.record.specs.Pieces.{readNumber, wantsMore, headWaits, headNumber, Depends, HeadDepends}
-use Rattle.record.proofs.Format.{Front, scrap, nought, short, whole, front, framed-nothing, framed-byte, framed-nought, framed-short}
+use Rattle.record.proofs.Format.{Front, scrap, zero-length, short, whole, front, framed-nothing, framed-byte, framed-zero, framed-short}
 use Rattle.record.proofs.Format.{framed-whole}
 use Rattle.record.proofs.Ways.{head-none, head-cons}
 use Rattle.record.proofs.Window.{number-front, next-known, head-known}
@@ -38,7 +38,7 @@ apart w e = go w (front w) e
     known w q e = sym q ∙ e
 
     go : (w : List ℕ) → Front w → framedOf w false ≡ framed.More → Apart w
-    go [] (scrap h) e = nothing-there (0 ∷ 0 ∷ []) (framed-nothing [] refl) (framed-nought (0 ∷ 0 ∷ []) true (omega arith) refl)
+    go [] (scrap h) e = nothing-there (0 ∷ 0 ∷ []) (framed-nothing [] refl) (framed-zero (0 ∷ 0 ∷ []) true (omega arith) refl)
     go (b ∷ []) (scrap h) e =
         cut-short (1 ∷ zeros (b * 256 + 1)) (b * 256 + 1) (kindOf (b ∷ 1 ∷ zeros (b * 256 + 1))) (framed-byte (b ∷ []) (λ z. omega arith) h)
         (framed-whole (b ∷ 1 ∷ zeros (b * 256 + 1)) true (record {
@@ -48,7 +48,7 @@ apart w e = go w (front w) e
           all-there = omega (arith, length-replicate {A = ℕ} (b * 256 + 1) 0);
         }))
     go (b ∷ c ∷ w) (scrap h) e = absurd (omega arith)
-    go w (nought t z) e = let q = known w (framed-nought w false t z) e in let n : _≡_ {A = ℕ} 0 1 = cc in absurd (omega arith)
+    go w (zero-length t z) e = let q = known w (framed-zero w false t z) e in let n : _≡_ {A = ℕ} 0 1 = cc in absurd (omega arith)
     go w (whole a) e = let q = known w (framed-whole w false a) e in let n : _≡_ {A = ℕ} 0 1 = cc in absurd (omega arith)
     go w (short t b k) e =
         cut-short (zeros (bodyLength w)) (bodyLength w) (kindOf (w ++ zeros (bodyLength w))) (framed-short w true t b k)

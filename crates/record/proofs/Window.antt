@@ -22,7 +22,7 @@ use Rattle.record.specs.Paper.{parametersBytes, packetBytes, headBytes, 
 use Rattle.record.specs.Step.{cursor, scrapOf, framedOf, Whole, firstOf, headBy, headPiece, headRead}
 use Rattle.record.specs.Step.{after, packetOf, wholeOf, nextBy, nextPiece, nextRead}
 use Rattle.record.specs.Pieces.{goesOn, taken, wantsMore, headWaits}
-use Rattle.record.proofs.Format.{Front, scrap, nought, short, whole, front, framed-scrap, framed-nought, framed-short, framed-whole}
+use Rattle.record.proofs.Format.{Front, scrap, zero-length, short, whole, front, framed-scrap, framed-zero, framed-short, framed-whole}
 use Rattle.record.proofs.Format.{parameter-room, packet-room}
 use Rattle.record.proofs.Ways.{head-waits, head-cons}
 use Rattle.record.proofs.Reading.{packet-here}
@@ -55,8 +55,8 @@ module _ (w v : List ℕ) where
   packet-front h = rw (number-front 8 3 (omega arith), number-front 4 11 (omega arith), byte-front 15 (omega arith))
 
   -- a length of 0, and a whole record
-  nought-longer : (last : Bool) → 2 ≤ length w → bodyLength w ≡ 0 → framedOf (w ++ v) last ≡ framed.Cut
-  nought-longer last t e = framed-nought (w ++ v) last (omega (arith, longer)) (number-front 2 0 (omega arith) ∙ e)
+  zero-longer : (last : Bool) → 2 ≤ length w → bodyLength w ≡ 0 → framedOf (w ++ v) last ≡ framed.Cut
+  zero-longer last t e = framed-zero (w ++ v) last (omega (arith, longer)) (number-front 2 0 (omega arith) ∙ e)
 
   module _ {body kind : ℕ} (a : Whole body kind w) where
     pub whole-longer : Whole body kind (w ++ v)
@@ -137,7 +137,7 @@ next-same at w v last m = go (front w)
 
     go : Front w → nextBy at (w ++ v) (framedOf (w ++ v) last) ≡ nextBy at w (framedOf w false)
     go (scrap h) = absurd (waits (scrap-waits w h))
-    go (nought t e) = rw (nought-longer w v last t e, framed-nought w false t e)
+    go (zero-length t e) = rw (zero-longer w v last t e, framed-zero w false t e)
     go (short t b k) = absurd (waits (framed-short w false t b k))
     go (whole a) = rw (framed-whole (w ++ v) last (whole-longer w v a), framed-whole w false a) (next-front w v a at)
 
@@ -150,7 +150,7 @@ first-same version l v last m = go (front l)
 
     go : Front l → headBy version (l ++ v) (framedOf (l ++ v) last) ≡ headBy version l (framedOf l false)
     go (scrap h) = absurd (waits (scrap-waits l h))
-    go (nought t e) = rw (nought-longer l v last t e, framed-nought l false t e)
+    go (zero-length t e) = rw (zero-longer l v last t e, framed-zero l false t e)
     go (short t b k) = absurd (waits (framed-short l false t b k))
     go (whole a) = rw (framed-whole (l ++ v) last (whole-longer l v a), framed-whole l false a) (first-front l v a version)
 
@@ -179,7 +179,7 @@ full w last b h e = go (front w)
 
     go : Front w → ⊥
     go (scrap k) = omega arith
-    go (nought t z) = let q = sym e ∙ framed-nought w last t z in let n : _≡_ {A = ℕ} 0 1 = cc in omega arith
+    go (zero-length t z) = let q = sym e ∙ framed-zero w last t z in let n : _≡_ {A = ℕ} 0 1 = cc in omega arith
     go (short t z k) = omega (arith, small)
     go (whole a) = let q = sym e ∙ framed-whole w last a in let n : _≡_ {A = ℕ} 0 1 = cc in omega arith
 

@@ -25,7 +25,7 @@ use Rattle.record.specs.Layout.{packetWidths, packetFields, parameterRec
 use Rattle.record.specs.Layout.{PacketsHeld}
 use Rattle.limits.specs.Steps.{ParametersHeld}
 use Rattle.record.specs.declared.Written.the-variants.{Done}
-use Rattle.record.specs.Write.{Writes}
+use Rattle.record.specs.Write.{WriteGives}
 use Rattle.record.specs.Step.{Whole}
 use Rattle.record.proofs.Format.{packet-2, parameters-1, length-14, length-16, there}
 use Rattle.record.proofs.Reading.{second, packets-end, packets-go, reading-go}
@@ -98,7 +98,7 @@ file-written s ps n hs hp e f =
 -- what the writer writes reads as what it was given
 pub written-reads : (s : Parameters) (ts ss ms out after : List ℕ) (n : ℕ) → ParametersHeld s
     → AllBelow 18446744073709551616 ts → AllBelow 4294967296 ss
-    → Writes s ts ss ms out (Done n) after → fileOf (take n after) ≡ file s (packets ts ss ms)
+    → WriteGives s ts ss ms out (Done n) after → fileOf (take n after) ≡ file s (packets ts ss ms)
 written-reads s ts ss ms out after n hs ht hm w =
     let was = was-written s ts ss ms (length out) n (w .answered) in
     let scanned = scanned-fine nothing false ts ss ms (was .closed) (was .scan-fine) in

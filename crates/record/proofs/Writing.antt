@@ -28,7 +28,7 @@ use Rattle.record.specs.declared.Written.{Written}
 use Rattle.record.specs.declared.Written.the-variants.{Done, Refused}
 use Rattle.limits.specs.Paper.{setUpRefusal}
 use Rattle.record.specs.Layout.{packetRecord, headOf, recordsOf, bytesIn, PacketsHeld}
-use Rattle.record.specs.Write.{fileLength, scanning, writtenOf, Writes}
+use Rattle.record.specs.Write.{fileLength, scanning, writtenOf, WriteGives}
 use Rattle.record.proofs.Stores.{length-packet}
 use Rattle.record.specs.Paper.{packetBytes, headBytes}
 
@@ -130,12 +130,12 @@ was-written s ts ss ms room n =
 
 -- refused, the lent bytes stay; else they are the file and what was beyond it
 pub leaves-all : (s : Parameters) (ts ss ms out : List ℕ) {w : Written} {n o : ℕ} → w ≡ writtenOf s ts ss ms (length out) → w ≡ Refused n o
-    → Writes s ts ss ms out w out
+    → WriteGives s ts ss ms out w out
 leaves-all s ts ss ms out e f = record { answered = e; left = rw f refl }
 
 pub writes-file : (s : Parameters) (ts ss ms out : List ℕ) {after : List ℕ} {n : ℕ} → WasWritten s ts ss ms (length out) n
     → Done n ≡ writtenOf s ts ss ms (length out)
-    → after ≡ sets (sets out 0 (headOf s)) headBytes (recordsOf (packets ts ss ms)) → Writes s ts ss ms out (Done n) after
+    → after ≡ sets (sets out 0 (headOf s)) headBytes (recordsOf (packets ts ss ms)) → WriteGives s ts ss ms out (Done n) after
 writes-file s ts ss ms out w e g =
     let many = as-many ts ss ms (w .scan-fine) in
     record {
@@ -144,7 +144,7 @@ writes-file s ts ss ms out w e g =
     }
 
 -- then the file stands in front
-pub writes-done : (s : Parameters) (ts ss ms out after : List ℕ) (n : ℕ) → Writes s ts ss ms out (Done n) after
+pub writes-done : (s : Parameters) (ts ss ms out after : List ℕ) (n : ℕ) → WriteGives s ts ss ms out (Done n) after
     → take n after ≡ bytesIn s (packets ts ss ms)
 writes-done s ts ss ms out after n w =
     let was = was-written s ts ss ms (length out) n (w .answered) in

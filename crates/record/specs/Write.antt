@@ -52,7 +52,7 @@ leftBy (Done needed) file out = file ++ drop needed out
 leftBy (Refused number place) file out = out
 
 -- the answer, and the lent bytes after it
-pub record Writes (s : Parameters) (ts ss ms out : List ℕ) (r : Written) (after : List ℕ) : Type 0 where
+pub record WriteGives (s : Parameters) (ts ss ms out : List ℕ) (r : Written) (after : List ℕ) : Type 0 where
   pub answered : r ≡ writtenOf s ts ss ms (length out)
   pub left : after ≡ leftBy r (bytesIn s (packets ts ss ms)) out
 

@@ -25,7 +25,7 @@ ghost use Rattle.record.specs.Paper.{parametersBytes, packetBytes, headB
 ghost use Rattle.record.specs.Paper.{parametersAt, packetAt, isParameters, kindLength, packetsIn};
 ghost use Rattle.record.specs.Step.{scrapOf, framedOf, Whole, firstOf, headBy, headPiece, after, packetOf, wholeOf, nextPiece, standsIn};
 ghost use Rattle.record.specs.Layout.{packetWith, packetRecord, headOf, recordsOf};
-ghost use Rattle.record.specs.Write.{writtenOf, Writes, Fitting};
+ghost use Rattle.record.specs.Write.{writtenOf, WriteGives, Fitting};
 ghost use Rattle.record.specs.Walk.{closing, refusedBy, finish, checkedOf};
 
 // Where the reader stands after the head of a file: at a packet, or at the end.
@@ -480,7 +480,7 @@ pub fn write(
     markers: &[u8],
     out: &mut [u8],
 ) -> Written
-    ensures { λ r. ⌜ Writes numbers (now (arrivals .entry)) (now (stamps .entry)) (now (markers .entry))
+    ensures { λ r. ⌜ WriteGives numbers (now (arrivals .entry)) (now (stamps .entry)) (now (markers .entry))
         (now (out .entry)) r (now (out .exit)) ⌝ }
 {
     let answer = would_write(numbers, arrivals, stamps, markers, out.len());

@@ -33,7 +33,7 @@ use Rattle.record.specs.Write.{fileLength}
 use Rattle.record.proofs.ReadWrite.{file-holds}
 use Rattle.report.specs.Paper.{stateOf, rowsOf, reportOf, encoded, bytesFor, answer, answered, answerOf, roomFor, roomOf}
 use Rattle.report.specs.Paper.{numberBytes, filled, filledBy}
-use Rattle.report.specs.Step.{Writes}
+use Rattle.report.specs.Step.{WriteGives}
 use Rattle.report.proofs.Calls.{written-whole}
 use Rattle.report.proofs.Signed.{report-fits, number-back}
 

@@ -32,7 +32,7 @@ use Rattle.report.specs.declared.Asked.{Asked}
 use Rattle.report.specs.declared.Asked.the-variants.{Fine, Refused}
 use Rattle.report.specs.Paper.{stateOf, rowsOf, reportOf, inBytes, encoded, bytesFor, answer, answered, answerOf}
 use Rattle.report.specs.Paper.{numberBytes, roomFor, roomOf, filled, filledBy}
-use Rattle.report.specs.Step.{needed, asAsked, askedOf, askedNumber, askedOffset, packetsOf, Measurable, Measured}
+use Rattle.report.specs.Step.{needed, asAsked, askedOf, askedNumber, askedOffset, packetsOf, MeasureAsks, MeasureGives}
 use Rattle.report.proofs.Bytes.{nine, length-stored, length-encoded, encoded-append, naturals, front-last}
 
 -- the room, divided: fewer than nine numbers; then the rows
@@ -189,7 +189,7 @@ module _ (s : List ℕ) (room : ℕ) where
   pub fits-packets : (x : StreamNumbers) (h : Fits x) → packetsOf s ≡ h .ps
   fits-packets x h = ap (λ (r : Packets). r .accepted) (file-holds s (h .written) (h .ps) (h .is-file) .all-read)
 
-  pub fits-measurable : (x : StreamNumbers) → Fits x → Measurable x s room
+  pub fits-measurable : (x : StreamNumbers) → Fits x → MeasureAsks x s room
   fits-measurable x h =
       let holds = file-holds s (h .written) (h .ps) (h .is-file) in
       let long = length-report (ofParameters (h .written)) (h .ps) in
@@ -217,7 +217,7 @@ refused-leaves s out n o e = go (fileOf s) e
 
 -- the rows behind, and then the nine numbers in front, are the report
 pub report-filled : (s out : List ℕ) (x : StreamNumbers) {state : State} {rows after : List ℕ} → Fits s (length out) x
-    → Measured x s out state rows → after ≡ sets rows 0 (inBytes (summaryOf state)) → after ≡ filledBy s out
+    → MeasureGives x s out state rows → after ≡ sets rows 0 (inBytes (summaryOf state)) → after ≡ filledBy s out
 unfolding filledBy
 report-filled s out x {state} {rows} {after} h m e =
     let y = ofParameters (h .written) in

@@ -33,20 +33,20 @@ use Rattle.limits.specs.Paper.{setUpRefusal}
 use Rattle.record.specs.Layout.{bytesIn}
 use Rattle.record.specs.Write as record-write
 use Rattle.report.specs.Paper.{limitsOf, limitsNumber, limitsLeft}
-use Rattle.report.specs.Step.{Writes, Limits, drawNumber, drawLeft, Draws}
+use Rattle.report.specs.Step.{WriteGives, LimitsGives, drawNumber, drawLeft, DrawGives}
 
-pub writes-as : (s : Parameters) (ts ss ms out : List ℕ) {w v : Written} {after : List ℕ} → record-write.Writes s ts ss ms out w after → w ≡ v
-    → Writes s ts ss ms out (record-write.writtenNumber v) after
+pub writes-as : (s : Parameters) (ts ss ms out : List ℕ) {w v : Written} {after : List ℕ} → record-write.WriteGives s ts ss ms out w after → w ≡ v
+    → WriteGives s ts ss ms out (record-write.writtenNumber v) after
 writes-as s ts ss ms out h e = record {
   number-is = ap record-write.writtenNumber (sym e ∙ h .answered);
   bytes-are = h .left ∙ ap (λ (w : Written). record-write.leftBy w (bytesIn s (packets ts ss ms)) out) (h .answered);
 }
 
 -- a number of 0 says that the file was written: every refusal of the writer's has another
-number-nought : (s : Parameters) (ts ss ms : List ℕ) (room : ℕ) → record-write.writtenNumber (record-write.writtenOf s ts ss ms room) ≡ 0
+number-zero : (s : Parameters) (ts ss ms : List ℕ) (room : ℕ) → record-write.writtenNumber (record-write.writtenOf s ts ss ms room) ≡ 0
     → record-write.writtenOf s ts ss ms room ≡ Done (record-write.fileLength (length ts))
 unfolding record-write.writtenOf
-number-nought s ts ss ms room =
+number-zero s ts ss ms room =
     let set-up = setUpRefusal s in
     pick-either P (eqb set-up 0) (λ t. by (scannedOf nothing false ts ss ms) refl) (λ t e. absurd (eqb-false set-up 0 t e))
   where
@@ -60,10 +60,10 @@ number-nought s ts ss ms room =
     by (scan.Fine n) f = pick-either P (leb size room) (λ t e. refl) (λ t e. absurd (omega arith))
     by (scan.Refused r) f = λ e. absurd (scanned-some nothing false ts ss ms r f e)
 
-pub written-whole : (s : Parameters) (ts ss ms out : List ℕ) {after : List ℕ} → Writes s ts ss ms out 0 after
-    → record-write.Writes s ts ss ms out (Done (record-write.fileLength (length ts))) after
+pub written-whole : (s : Parameters) (ts ss ms out : List ℕ) {after : List ℕ} → WriteGives s ts ss ms out 0 after
+    → record-write.WriteGives s ts ss ms out (Done (record-write.fileLength (length ts))) after
 written-whole s ts ss ms out h =
-    let done = number-nought s ts ss ms (length out) (sym (h .number-is)) in
+    let done = number-zero s ts ss ms (length out) (sym (h .number-is)) in
     record {
       answered = sym done;
       left = h .bytes-are ∙ ap (λ (w : Written). record-write.leftBy w (bytesIn s (packets ts ss ms)) out) done;
@@ -77,17 +77,17 @@ module _ (x : StreamNumbers) (out : List ℕ) where
   unfolding limitsNumber
   in-order = set-up-then x (pick (leb 4 (length out)) 0 15)
 
-  by-number : (n : ℕ) → limitsNumber x (length out) ≡ n → 0 < n → Limits x out n out
+  by-number : (n : ℕ) → limitsNumber x (length out) ≡ n → 0 < n → LimitsGives x out n out
   unfolding limitsLeft
   by-number n e p = record { number-is = sym e; numbers-are = sym (rw (e, ne-eqb n 0 (λ z. omega arith))) }
 
-  pub limits-refused : (n : ℕ) → setUpOf x ≡ n → 0 < n → Limits x out n out
+  pub limits-refused : (n : ℕ) → setUpOf x ≡ n → 0 < n → LimitsGives x out n out
   limits-refused n e p = by-number n (in-order ∙ rw (e, ne-eqb n 0 (λ z. omega arith))) p
 
-  pub limits-short : setUpOf x ≡ 0 → length out < 4 → Limits x out 15 out
+  pub limits-short : setUpOf x ≡ 0 → length out < 4 → LimitsGives x out 15 out
   limits-short e h = by-number 15 (in-order ∙ rw (eq-eqb (setUpOf x) 0 e, lt-leb 4 (length out) h)) (omega arith)
 
-  pub limits-done : {after : List ℕ} → setUpOf x ≡ 0 → 4 ≤ length out → after ≡ sets out 0 (limitsOf x) → Limits x out 0 after
+  pub limits-done : {after : List ℕ} → setUpOf x ≡ 0 → 4 ≤ length out → after ≡ sets out 0 (limitsOf x) → LimitsGives x out 0 after
   unfolding limitsLeft
   limits-done e h f =
       let fine : limitsNumber x (length out) ≡ 0 = in-order ∙ rw (eq-eqb (setUpOf x) 0 e, le-leb 4 (length out) h) in
@@ -119,14 +119,14 @@ module _ (fpt margin latency : ℤ) (out : List Float) where
       pick-either P (inFloat binary64 latency) (λ l e. let z : _≡_ {A = ℕ} 0 1 = cc in absurd (omega arith)) (λ l e. cc))
       (λ m e. cc)) (λ f e. cc)
 
-  pub draws-refused : {n : ℕ} → graphOf fpt margin latency ≡ Not-Drawn n → Draws fpt margin latency out n out
+  pub draws-refused : {n : ℕ} → graphOf fpt margin latency ≡ Not-Drawn n → DrawGives fpt margin latency out n out
   draws-refused e = record {
     number-is = sym (ap (λ (d : Drawn). drawNumber d (length out)) e ∙ rw (not-drawn e));
     doubles-are = sym (ap (λ (d : Drawn). drawLeft d out) e);
   }
 
   module _ {g : Graph} (e : graphOf fpt margin latency ≡ Figures g) where
-    pub draws-short : length out < 3 → Draws fpt margin latency out 15 out
+    pub draws-short : length out < 3 → DrawGives fpt margin latency out 15 out
     draws-short h =
         let few = lt-leb 3 (length out) h in
         record {
@@ -135,7 +135,7 @@ module _ (fpt margin latency : ℤ) (out : List Float) where
         }
 
     pub draws-done : {after : List Float} → 3 ≤ length out → after ≡ sets out 0 (g .fpt ∷ g .margin ∷ g .latency ∷ [])
-        → Draws fpt margin latency out 0 after
+        → DrawGives fpt margin latency out 0 after
     draws-done h f =
         let enough = le-leb 3 (length out) h in
         record {

@@ -13,7 +13,7 @@ use Rattle.timing.specs.declared.StreamNumbers.{StreamNumbers}
 use Rattle.timing.specs.declared.Rules.{Rules}
 use Rattle.timing.specs.declared.State.{State}
 use Rattle.timing.specs.Step.{rulesOf, freshOf, arriveOf}
-use Rattle.timing.specs.Feed.{Arrives, Lays, Ran}
+use Rattle.timing.specs.Feed.{ArriveAsks, LayAsks, RunGives}
 use Rattle.timing.specs.Range.{inRange, Sound}
 use Rattle.timing.proofs.InRange.{sound-fresh, of-sound}
 use Rattle.timing.proofs.Dealing.{sound-after}
@@ -25,7 +25,7 @@ use Rattle.record.proofs.Ways.{rest-all}
 use Rattle.record.proofs.Reading.{neither, packet-here, packets-end, packets-go, packets-accepted}
 use Rattle.record.proofs.ReadWrite.{packets-scan}
 use Rattle.report.specs.Paper.{rowBytes, summaryBytes}
-use Rattle.report.specs.Step.{packetsOf, Measurable, Measured}
+use Rattle.report.specs.Step.{packetsOf, MeasureAsks, MeasureGives}
 use Rattle.report.proofs.Bytes.{as-bytes}
 
 -- ---- the loop
@@ -39,7 +39,7 @@ pub record Loop (x : StreamNumbers) (file out₀ : List ℕ) (rules : Rules) (s 
   pub loop : R.Loop as-bytes rules (freshOf x) (packetsOf file) summaryBytes out₀ s (rest file s from .accepted) at out
   pub ends : rest file s from .ending ≡ done
 
-pub loop-begins : (x : StreamNumbers) (file out : List ℕ) {rules : Rules} {s : State} → Measurable x file (length out) → rules ≡ rulesOf x
+pub loop-begins : (x : StreamNumbers) (file out : List ℕ) {rules : Rules} {s : State} → MeasureAsks x file (length out) → rules ≡ rulesOf x
     → s ≡ freshOf x → Loop x file out rules s headBytes summaryBytes out
 loop-begins x file out m er es =
     let scans = packets-scan (length (drop headBytes file)) nothing false 0 headBytes (drop headBytes file) (omega arith) (m .whole) in
@@ -88,11 +88,11 @@ module _ {x : StreamNumbers} {file out₀ : List ℕ} {rules : Rules} {s : State
           e : q ≡ p
           e = read ∙ ap packetAt (rest-all file from)
 
-      pub packet-arrives : Arrives rules s (q .time)
+      pub packet-arrives : ArriveAsks rules s (q .time)
       packet-arrives = R.loop-arrives as-bytes these (k .loop)
 
       module _ {a : State} (ea : a ≡ arriveOf rules s (q .time) (q .stamp)) where
-        pub packet-lays : q .marker ≡ 1 → Lays rowBytes rules a at (length out)
+        pub packet-lays : q .marker ≡ 1 → LayAsks rowBytes rules a at (length out)
         packet-lays m = rw ea (R.loop-lays as-bytes these (k .loop) m)
 
         pub packet-closed : a .frames .closed ≤ 1000000000
@@ -115,15 +115,15 @@ module _ {x : StreamNumbers} {file out₀ : List ℕ} {rules : Rules} {s : State
           }
 
   -- nothing is left
-  pub loop-ends : length file ≤ from → Measured x file out₀ s out
+  pub loop-ends : length file ≤ from → MeasureGives x file out₀ s out
   loop-ends h =
       let none = packets-end (s .past) from (drop from file) (omega (arith, length-drop from file)) in
       let ran = R.loop-ends as-bytes (ap (λ (r : Packets). r .accepted) none) (k .loop) in
-      subst (λ (q : Rules). Ran rowBytes q (freshOf x) (packetsOf file) summaryBytes out₀ s out) (k .rules-are) ran
+      subst (λ (q : Rules). RunGives rowBytes q (freshOf x) (packetsOf file) summaryBytes out₀ s out) (k .rules-are) ran
 
 -- the state of a file that can be measured is in range
-pub measured-in-range : {x : StreamNumbers} {file before after : List ℕ} {room : ℕ} {s : State} → Measurable x file room
-    → Measured x file before s after → inRange s ≡ true
+pub measured-in-range : {x : StreamNumbers} {file before after : List ℕ} {room : ℕ} {s : State} → MeasureAsks x file room
+    → MeasureGives x file before s after → inRange s ≡ true
 measured-in-range {x} {file} {s = s} m d =
     let scans = packets-scan (length (drop headBytes file)) nothing false 0 headBytes (drop headBytes file) (omega arith) (m .whole) in
     let passes = scan-runs (packetsOf file) (rulesOf x) (freshOf x) 0 (scans .0) (scans .1) .0 in
@@ -131,6 +131,6 @@ measured-in-range {x} {file} {s = s} m d =
 
 -- of the stream that the fresh state is of
 pub measured-from : {x : StreamNumbers} (file : List ℕ) {out₀ out : List ℕ} {s₀ s : State} → s₀ ≡ freshOf x
-    → Measured (s₀ .numbers) file out₀ s out → Measured x file out₀ s out
+    → MeasureGives (s₀ .numbers) file out₀ s out → MeasureGives x file out₀ s out
 measured-from file {out₀} {out} {s = s} e m =
-    subst (λ (y : StreamNumbers). Measured y file out₀ s out) (ap (λ (z : State). z .numbers) e) m
+    subst (λ (y : StreamNumbers). MeasureGives y file out₀ s out) (ap (λ (z : State). z .numbers) e) m

@@ -8,21 +8,21 @@ use lib.IntN.{ℤ}
 use Rattle.laws.specs.Unique.{one-answer}
 use Rattle.timing.specs.declared.StreamNumbers.{StreamNumbers}
 use Rattle.limits.specs.declared.Parameters.{Parameters}
-use Rattle.report.specs.Step.{Measures, Writes, Limits, Draws}
+use Rattle.report.specs.Step.{CallGives, WriteGives, LimitsGives, DrawGives}
 
 -- ---- the C functions: the number, and what the lent slice holds then
 
-pub measures-unique : (s out : List ℕ) (a b : ℕ) (p q : List ℕ) → Measures s out a p → Measures s out b q → (a ≡ b) × (p ≡ q)
+pub measures-unique : (s out : List ℕ) (a b : ℕ) (p q : List ℕ) → CallGives s out a p → CallGives s out b q → (a ≡ b) × (p ≡ q)
 measures-unique s out a b p q x y = (one-answer (x .number-is) (y .number-is), one-answer (x .bytes-are) (y .bytes-are))
 
-pub writes-unique : (s : Parameters) (ts ss ms out : List ℕ) (a b : ℕ) (p q : List ℕ) → Writes s ts ss ms out a p
-    → Writes s ts ss ms out b q → (a ≡ b) × (p ≡ q)
+pub writes-unique : (s : Parameters) (ts ss ms out : List ℕ) (a b : ℕ) (p q : List ℕ) → WriteGives s ts ss ms out a p
+    → WriteGives s ts ss ms out b q → (a ≡ b) × (p ≡ q)
 writes-unique s ts ss ms out a b p q x y = (one-answer (x .number-is) (y .number-is), one-answer (x .bytes-are) (y .bytes-are))
 
-pub limits-unique : (x : StreamNumbers) (out : List ℕ) (a b : ℕ) (p q : List ℕ) → Limits x out a p → Limits x out b q → (a ≡ b) × (p ≡ q)
+pub limits-unique : (x : StreamNumbers) (out : List ℕ) (a b : ℕ) (p q : List ℕ) → LimitsGives x out a p → LimitsGives x out b q → (a ≡ b) × (p ≡ q)
 limits-unique x out a b p q y z = (one-answer (y .number-is) (z .number-is), one-answer (y .numbers-are) (z .numbers-are))
 
-pub draws-unique : (fpt margin latency : ℤ) (out : List Float) (a b : ℕ) (p q : List Float) → Draws fpt margin latency out a p
-    → Draws fpt margin latency out b q → (a ≡ b) × (p ≡ q)
+pub draws-unique : (fpt margin latency : ℤ) (out : List Float) (a b : ℕ) (p q : List Float) → DrawGives fpt margin latency out a p
+    → DrawGives fpt margin latency out b q → (a ≡ b) × (p ≡ q)
 draws-unique fpt margin latency out a b p q x y =
     (one-answer (x .number-is) (y .number-is), one-answer (x .doubles-are) (y .doubles-are))

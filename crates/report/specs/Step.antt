@@ -17,7 +17,7 @@ use Rattle.timing.specs.declared.Drawn.{Drawn}
 use Rattle.timing.specs.declared.Drawn.the-variants.{Figures, Refused as Not-Drawn}
 use Rattle.timing.specs.Step.{ofParameters, setUpOf, rulesOf, freshOf}
 use Rattle.timing.specs.Answers.{summaryWidth, graphOf, drawnNumber}
-use Rattle.timing.specs.Feed.{Ran}
+use Rattle.timing.specs.Feed.{RunGives}
 use Rattle.limits.specs.declared.Parameters.{Parameters}
 use Rattle.record.specs.Paper.{headBytes, done, packetsIn, File, file, refused, fileOf}
 use Rattle.record.specs.Layout.{bytesIn}
@@ -53,26 +53,26 @@ abbrev pub packetsOf : List ℕ → List Packet
 packetsOf s = packetsIn nothing headBytes (drop headBytes s) .accepted
 
 -- nothing is refused, and the rows fit behind the nine numbers
-pub record Measurable (x : StreamNumbers) (s : List ℕ) (room : ℕ) : Type 0 where
+pub record MeasureAsks (x : StreamNumbers) (s : List ℕ) (room : ℕ) : Type 0 where
   pub set-up : setUpOf x ≡ 0
   pub whole : packetsIn nothing headBytes (drop headBytes s) .ending ≡ done
   pub fits : summaryBytes + length (rowBytes (rowsOf x (packetsOf s))) ≤ room
 
 -- the state after the packets, and their rows put behind the nine numbers
-abbrev pub Measured : StreamNumbers → List ℕ → List ℕ → State → List ℕ → Type 0
-Measured x s before state after = Ran rowBytes (rulesOf x) (freshOf x) (packetsOf s) summaryBytes before state after
+abbrev pub MeasureGives : StreamNumbers → List ℕ → List ℕ → State → List ℕ → Type 0
+MeasureGives x s before state after = RunGives rowBytes (rulesOf x) (freshOf x) (packetsOf s) summaryBytes before state after
 
 -- ---- the C functions: the number, and what the lent slice holds then
 
-pub record Measures (s out : List ℕ) (number : ℕ) (after : List ℕ) : Type 0 where
+pub record CallGives (s out : List ℕ) (number : ℕ) (after : List ℕ) : Type 0 where
   pub number-is : number ≡ answerOf s (length out) .number
   pub bytes-are : after ≡ filledBy s out
 
-pub record Writes (s : Parameters) (ts ss ms out : List ℕ) (number : ℕ) (after : List ℕ) : Type 0 where
+pub record WriteGives (s : Parameters) (ts ss ms out : List ℕ) (number : ℕ) (after : List ℕ) : Type 0 where
   pub number-is : number ≡ writtenNumber (writtenOf s ts ss ms (length out))
   pub bytes-are : after ≡ leftBy (writtenOf s ts ss ms (length out)) (bytesIn s (packets ts ss ms)) out
 
-pub record Limits (x : StreamNumbers) (out : List ℕ) (number : ℕ) (after : List ℕ) : Type 0 where
+pub record LimitsGives (x : StreamNumbers) (out : List ℕ) (number : ℕ) (after : List ℕ) : Type 0 where
   pub number-is : number ≡ limitsNumber x (length out)
   pub numbers-are : after ≡ limitsLeft x out
 
@@ -84,6 +84,6 @@ abbrev pub drawLeft : Drawn → List Float → List Float
 drawLeft (Figures g) out = pick (leb 3 (length out)) (g .fpt ∷ g .margin ∷ g .latency ∷ drop 3 out) out
 drawLeft (Not-Drawn number) out = out
 
-pub record Draws (fpt margin latency : ℤ) (out : List Float) (number : ℕ) (after : List Float) : Type 0 where
+pub record DrawGives (fpt margin latency : ℤ) (out : List Float) (number : ℕ) (after : List Float) : Type 0 where
   pub number-is : number ≡ drawNumber (graphOf fpt margin latency) (length out)
   pub doubles-are : after ≡ drawLeft (graphOf fpt margin latency) out

@@ -21,13 +21,13 @@ ghost use lib.Seq.{sets};
 ghost use Rattle.laws.specs.Lay.{Put};
 ghost use Rattle.frame.specs.Step.{numbersOf};
 ghost use Rattle.timing.specs.Answers.{summaryWidth, summaryOf};
-ghost use Rattle.timing.specs.Feed.{closing, Lays};
+ghost use Rattle.timing.specs.Feed.{closing, LayAsks};
 ghost use Rattle.timing.specs.Range.{inRange};
 ghost use Rattle.timing.specs.Step.{ofParameters};
 ghost use Rattle.limits.specs.Paper.{given};
 ghost use Rattle.record.specs.Write.{writtenOf, writtenPlace};
 ghost use Rattle.report.specs.Paper.{inBytes, encoded, rowBytes, summaryBytes, answerOf, roomOf};
-ghost use Rattle.report.specs.Step.{needed, askedOf, Measurable, Measured, Measures, Writes, Limits, Draws};
+ghost use Rattle.report.specs.Step.{needed, askedOf, MeasureAsks, MeasureGives, CallGives, WriteGives, LimitsGives, DrawGives};
 
 // The bytes of a number that is reported, of a row, and of the nine numbers in front.
 const NUMBER: usize = 8;
@@ -120,7 +120,7 @@ fn put_summary(s: State, out: &mut [u8])
 
 // The row of the frame that a marker closes now, from byte `at` on; where the next one goes.
 fn put_closed(s: State, rules: Rules, out: &mut [u8], at: usize) -> usize
-    requires { ⌜ Lays rowBytes rules s at (length (now out)) ⌝ }
+    requires { ⌜ LayAsks rowBytes rules s at (length (now out)) ⌝ }
     ensures { λ r. ⌜ Put (rowBytes (closing rules s)) at (now (out .entry)) r (now (out .exit)) ⌝ }
 {
     let frames = s.frames;
@@ -135,8 +135,8 @@ fn put_closed(s: State, rules: Rules, out: &mut [u8], at: usize) -> usize
 // The packets of a file that was asked for and is fine, one by one. The heavy step has this one call site. The rules are taken apart and
 // put together again, so that they are held as single numbers: else the loop reads them from memory for each packet.
 fn measure(numbers: StreamNumbers, file: &[u8], out: &mut [u8]) -> State
-    requires { ⌜ Measurable numbers (now file) (length (now out)) ⌝ }
-    ensures { λ r. ⌜ Measured numbers (now (file .entry)) (now (out .entry)) r (now (out .exit)) ⌝ }
+    requires { ⌜ MeasureAsks numbers (now file) (length (now out)) ⌝ }
+    ensures { λ r. ⌜ MeasureGives numbers (now (file .entry)) (now (out .entry)) r (now (out .exit)) ⌝ }
 {
     let made = numbers.rules();
     let plan = made.plan;
@@ -164,7 +164,7 @@ fn measure(numbers: StreamNumbers, file: &[u8], out: &mut [u8]) -> State
 // A whole file: the refusal number and nothing written; or 0, and the nine numbers and the rows stand in front.
 #[no_mangle]
 pub extern "C" fn vtiming_measure(file: &[u8], out: &mut [u8]) -> u32
-    ensures { λ r. ⌜ Measures (now (file .entry)) (now (out .entry)) r (now (out .exit)) ⌝ }
+    ensures { λ r. ⌜ CallGives (now (file .entry)) (now (out .entry)) r (now (out .exit)) ⌝ }
 {
     let asked = ask(file, out.len());
     match asked {
@@ -223,7 +223,7 @@ pub extern "C" fn vtiming_write(
     markers: &[u8],
     out: &mut [u8],
 ) -> u32
-    ensures { λ r. ⌜ Writes (given rate schedule class height n maxudp tro)
+    ensures { λ r. ⌜ WriteGives (given rate schedule class height n maxudp tro)
         (now (arrivals .entry)) (now (stamps .entry)) (now (markers .entry)) (now (out .entry)) r (now (out .exit)) ⌝ }
 {
     let numbers = Parameters {
@@ -288,7 +288,7 @@ pub extern "C" fn vtiming_limits(
     tro: u32,
     out: &mut [u64],
 ) -> u32
-    ensures { λ r. ⌜ Limits (ofParameters (given rate schedule class height n maxudp tro)) (now (out .entry)) r (now (out .exit)) ⌝ }
+    ensures { λ r. ⌜ LimitsGives (ofParameters (given rate schedule class height n maxudp tro)) (now (out .entry)) r (now (out .exit)) ⌝ }
 {
     let told = Parameters {
         rate,
@@ -319,7 +319,7 @@ pub extern "C" fn vtiming_limits(
 // FPT, margin and VL in microseconds; or 16, then 15, and nothing written.
 #[no_mangle]
 pub extern "C" fn vtiming_graph(fpt: i64, margin: i64, latency: i64, out: &mut [f64]) -> u32
-    ensures { λ r. ⌜ Draws fpt margin latency (now (out .entry)) r (now (out .exit)) ⌝ }
+    ensures { λ r. ⌜ DrawGives fpt margin latency (now (out .entry)) r (now (out .exit)) ⌝ }
 {
     let drawn = timing::draw(fpt, margin, latency);
     match drawn {

@@ -17,7 +17,7 @@ use Rattle.packet.specs.declared.Refusal.{Refusal}
 use Rattle.packet.specs.declared.Scanned.{Scanned}
 use Rattle.packet.specs.declared.Scanned.the-variants.{Fine, Refused}
 use Rattle.packet.specs.declared.Packet.{Packet}
-use Rattle.packet.specs.Paper.{nought, marked, at, earlierAt, refusalAt, declared, pastAt}
+use Rattle.packet.specs.Paper.{noPacket, marked, at, earlierAt, refusalAt, declared, pastAt}
 use Rattle.packet.specs.Step.{nothing, elapsedOf, nextOf, scanOf}
 use Rattle.packet.specs.Calls.{pastAfter, begunAfter, andThen, more}
 use Rattle.packet.proofs.Cutting.{scan-cut, scan-more}
@@ -101,7 +101,7 @@ module _ (x : StreamNumbers) (l : List Packet) where
   pub state-declared : stateAfter (rulesOf x) (freshOf x) l ≡ stateAt x l (length l)
   state-declared =
       ap (λ (s : State). stateAfter (rulesOf x) s l) fresh-declared
-      ∙ fold-states (stepOf (rulesOf x)) l nought (stateAt x l) (λ i h. step-declared i)
+      ∙ fold-states (stepOf (rulesOf x)) l noPacket (stateAt x l) (λ i h. step-declared i)
 
 -- rows of a list cut in two
 pub rows-cut : (rules : Rules) (s : State) (l m : List Packet) → rowsAfter rules s (l ++ m)
@@ -119,13 +119,13 @@ module _ (x : StreamNumbers) (l : List Packet) where
   row-declared i = FF.rows-step (rulesOf x .plan) (frameHistory x l) i
 
   state-take : (i : ℕ) → i ≤ length l → stateAfter (rulesOf x) (stateAt x l 0) (take i l) ≡ stateAt x l i
-  state-take = fold-up-to (stepOf (rulesOf x)) l nought (stateAt x l) (λ i h. step-declared x l i)
+  state-take = fold-up-to (stepOf (rulesOf x)) l noPacket (stateAt x l) (λ i h. step-declared x l i)
 
   rows-take : (i : ℕ) → i ≤ length l → rowsAfter (rulesOf x) (stateAt x l 0) (take i l) ≡ rowsTo x l i
   unfolding rowsAfter rowsTo
   rows-take zero h = refl
   rows-take (suc i) h =
-      ap (rowsAfter (rulesOf x) (stateAt x l 0)) (take-suc l i nought h) ∙ rows-cut (rulesOf x) (stateAt x l 0) (take i l) (at l i ∷ [])
+      ap (rowsAfter (rulesOf x) (stateAt x l 0)) (take-suc l i noPacket h) ∙ rows-cut (rulesOf x) (stateAt x l 0) (take i l) (at l i ∷ [])
       ∙ rw (rows-take i (omega arith), state-take i (omega arith), row-declared i)
       (ap (λ (r : List Row). rowsTo x l i ++ r) (append-nil (F.rowsAt (rulesOf x .plan) (frameHistory x l) i)))
 

@@ -26,15 +26,15 @@ use Rattle.timing.specs.declared.Fed.{Fed}
 use Rattle.timing.specs.declared.Fed.the-variants.{Accepted, Refused}
 use Rattle.timing.specs.Step.{rulesOf, stateAfter, rowsAfter, numbers}
 use Rattle.timing.specs.Range.{inRange}
-use Rattle.timing.specs.Feed.{Passes, Runs, Ran, Outcome, refusedBy, acceptedAs, roomFor, byScan, feedAll, feedOf, Is}
+use Rattle.timing.specs.Feed.{Passes, RunAsks, RunGives, Outcome, refusedBy, acceptedAs, roomFor, byScan, feedAll, feedOf, FeedGives}
 use Rattle.timing.proofs.InRange.{sound-of}
 use Rattle.timing.proofs.Scanning.{scan-runs, numbers-length}
 
-is : {o q : Outcome} → q ≡ o → Is o (q .answer) (q .rows)
+is : {o q : Outcome} → q ≡ o → FeedGives o (q .answer) (q .rows)
 is e = record { answer-is = ap (λ (x : Outcome). x .answer) e; rows-are = ap (λ (x : Outcome). x .rows) e }
 
 module _ (s : State) (rows : List ℤ) (ts ss ms : List ℕ) where
-  pub fed-9 : inRange s ≡ false → Is (feedOf s rows ts ss ms) (Refused 9 0 s) rows
+  pub fed-9 : inRange s ≡ false → FeedGives (feedOf s rows ts ss ms) (Refused 9 0 s) rows
   unfolding feedOf
   fed-9 e = is (rw e)
 
@@ -45,14 +45,14 @@ module _ (s : State) (rows : List ℤ) (ts ss ms : List ℕ) where
     by-scan x f = rw (e, f)
 
     pub fed-refused : {x : Scanned} {r : Refusal} → x ≡ scannedOf (s .past) (s .frames .begun) ts ss ms → x ≡ Scan-Refused r
-        → Is (feedOf s rows ts ss ms) (Refused (r .number) (r .place) s) rows
+        → FeedGives (feedOf s rows ts ss ms) (Refused (r .number) (r .place) s) rows
     fed-refused {x} f g = is (ap (λ (y : Scanned). byScan s rows y (packets ts ss ms)) (sym g) ∙ by-scan x f)
 
     module _ {x : Scanned} {n : ℕ} (f : x ≡ scannedOf (s .past) (s .frames .begun) ts ss ms) (g : x ≡ Fine n) where
       room-for : roomFor s rows n (packets ts ss ms) ≡ feedOf s rows ts ss ms
       room-for = ap (λ (y : Scanned). byScan s rows y (packets ts ss ms)) (sym g) ∙ by-scan x f
 
-      pub fed-15 : length rows / rowWidth < n → Is (feedOf s rows ts ss ms) (Refused 15 (s .past .packets) s) rows
+      pub fed-15 : length rows / rowWidth < n → FeedGives (feedOf s rows ts ss ms) (Refused 15 (s .past .packets) s) rows
       fed-15 l =
           let few : length rows < n * rowWidth = div-lt-iff-lt-mul {k = rowWidth} {x = length rows} {y = n} (omega arith) .0 l in
           is (sym (rw (lt-leb (n * rowWidth) (length rows) few)) ∙ room-for)
@@ -68,7 +68,7 @@ module _ (s : State) (rows : List ℤ) (ts ss ms : List ℕ) where
 
       -- the rules that the code has worked out
       module _ {q : Rules} (eq : q ≡ rulesOf (s .numbers)) (l : n ≤ length rows / rowWidth) where
-        pub runs : Runs numbers q s (packets ts ss ms) 0 (length rows)
+        pub runs : RunAsks numbers q s (packets ts ss ms) 0 (length rows)
         runs =
             let r = scan-runs (packets ts ss ms) q s 0 n (fine .1) in
             record {
@@ -77,9 +77,9 @@ module _ (s : State) (rows : List ℤ) (ts ss ms : List ℕ) where
               fits = omega (arith, enough l, r .1, numbers-length (rowsAfter q s (packets ts ss ms)));
             }
 
-        pub fed : {t : State} {after : List ℤ} → Ran numbers q s (packets ts ss ms) 0 rows t after → Is (feedOf s rows ts ss ms) (Accepted t) after
+        pub fed : {t : State} {after : List ℤ} → RunGives numbers q s (packets ts ss ms) 0 rows t after → FeedGives (feedOf s rows ts ss ms) (Accepted t) after
         fed {t} {after} ran =
-            let r = subst (λ (x : Rules). Ran numbers x s (packets ts ss ms) 0 rows t after) eq ran in
+            let r = subst (λ (x : Rules). RunGives numbers x s (packets ts ss ms) 0 rows t after) eq ran in
             let o = is {q = acceptedAs s rows (packets ts ss ms)} (sym (rw (le-leb (n * rowWidth) (length rows) (enough l))) ∙ room-for) in
             record { answer-is = ap Accepted (r .state-is) ∙ o .answer-is; rows-are = r .rows-are ∙ o .rows-are }
 

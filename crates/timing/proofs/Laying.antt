@@ -11,7 +11,7 @@ use Rattle.frame.specs.declared.Row.{Row}
 use Rattle.frame.specs.Step.{rowOf}
 use Rattle.timing.specs.declared.Rules.{Rules}
 use Rattle.timing.specs.declared.State.{State}
-use Rattle.timing.specs.Feed.{closing, Lays}
+use Rattle.timing.specs.Feed.{closing, LayAsks}
 use Rattle.timing.proofs.Sink.{Sink, one}
 
 -- the row that is closed
@@ -22,7 +22,7 @@ module _ {A : Type 0} (w : Sink A) (rules : Rules) (s : State) where
   one-row : s .frames .begun ≡ true → w .write (closing rules s) ≡ w .row (closedRow rules s)
   one-row e = rw e (one w (closedRow rules s))
 
-  pub row-fits : {at room : ℕ} → s .frames .begun ≡ true → Lays (w .write) rules s at room → at + length (w .row (closedRow rules s)) ≤ room
+  pub row-fits : {at room : ℕ} → s .frames .begun ≡ true → LayAsks (w .write) rules s at room → at + length (w .row (closedRow rules s)) ≤ room
   row-fits {at} {room} e l = rw (sym (one-row e)) (l .fits)
 
   module _ (at : ℕ) (before : List A) where

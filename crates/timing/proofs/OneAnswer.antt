@@ -9,12 +9,12 @@ use Rattle.frame.specs.declared.Row.{Row}
 use Rattle.timing.specs.declared.Rules.{Rules}
 use Rattle.timing.specs.declared.State.{State}
 use Rattle.timing.specs.declared.Fed.{Fed}
-use Rattle.timing.specs.Feed.{Ran, Outcome, Is}
+use Rattle.timing.specs.Feed.{RunGives, Outcome, FeedGives}
 
 -- a call of `feed`: its answer and its rows
-pub is-unique : (o : Outcome) (a b : Fed) (p q : List ℤ) → Is o a p → Is o b q → (a ≡ b) × (p ≡ q)
+pub is-unique : (o : Outcome) (a b : Fed) (p q : List ℤ) → FeedGives o a p → FeedGives o b q → (a ≡ b) × (p ≡ q)
 is-unique o a b p q x y = (one-answer (x .answer-is) (y .answer-is), one-answer (x .rows-are) (y .rows-are))
 
 pub ran-unique : {A : Type 0} (w : List Row → List A) (rules : Rules) (s : State) (l : List Packet) (at : ℕ) (before : List A) (a b : State)
-    (p q : List A) → Ran w rules s l at before a p → Ran w rules s l at before b q → (a ≡ b) × (p ≡ q)
+    (p q : List A) → RunGives w rules s l at before a p → RunGives w rules s l at before b q → (a ≡ b) × (p ≡ q)
 ran-unique w rules s l at before a b p q x y = (one-answer (x .state-is) (y .state-is), one-answer (x .rows-are) (y .rows-are))

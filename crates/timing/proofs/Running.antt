@@ -15,12 +15,12 @@ use Rattle.packet.specs.Paper.{marked}
 use Rattle.packet.specs.Step.{numberOf, nextOf}
 use Rattle.frame.specs.declared.Row.{Row}
 use Rattle.frame.specs.Step as F
-use Rattle.frame.specs.Range.{Planned, Rowable}
+use Rattle.frame.specs.Range.{Planned, RowAsks}
 use Rattle.timing.specs.declared.Rules.{Rules}
 use Rattle.timing.specs.declared.State.{State}
 use Rattle.timing.specs.Step.{rulesOf, arriveOf, markOf, stepOf, rowsOf, stateAfter, rowsAfter}
 use Rattle.timing.specs.Range.{Sound}
-use Rattle.timing.specs.Feed.{Arrives, Makes, Lays, closing, Passes, Going, Runs, Ran}
+use Rattle.timing.specs.Feed.{ArriveAsks, MakeAsks, LayAsks, closing, Passes, Going, RunAsks, RunGives}
 use Rattle.timing.proofs.Planning.{planned}
 use Rattle.timing.proofs.Sink.{Sink, both}
 use Rattle.timing.proofs.Staying.{arrives, few-closed, sound-step, rows-made}
@@ -57,14 +57,14 @@ module _ {rules : Rules} {s : State} (g : Going rules s) (p : Packet) (passed : 
   by-rules : (P : Rules → Type 0) → P (rulesOf (s .numbers)) → P rules
   by-rules P h = subst P (sym (g .rules-are)) h
 
-  pub going-arrives : Arrives rules s (p .time)
-  going-arrives = by-rules (λ q. Arrives q s (p .time)) (arrives s p (g .sound) passed)
+  pub going-arrives : ArriveAsks rules s (p .time)
+  going-arrives = by-rules (λ q. ArriveAsks q s (p .time)) (arrives s p (g .sound) passed)
 
   pub going-closed : (arriveOf rules s (p .time) (p .stamp)) .frames .closed ≤ 1000000000
   going-closed = by-rules (λ q. (arriveOf q s (p .time) (p .stamp)) .frames .closed ≤ 1000000000) (few-closed s p (g .sound) passed)
 
-  pub going-makes : Makes rules (arriveOf rules s (p .time) (p .stamp))
-  going-makes = by-rules (λ q. Makes q (arriveOf q s (p .time) (p .stamp)))
+  pub going-makes : MakeAsks rules (arriveOf rules s (p .time) (p .stamp))
+  going-makes = by-rules (λ q. MakeAsks q (arriveOf q s (p .time) (p .stamp)))
       (record { planned = planned (s .numbers) (g .sound .accepted); made = rows-made s p (g .sound) passed })
 
   pub going-next : Going rules (stepOf rules s p)
@@ -102,10 +102,10 @@ module _ {A : Type 0} (w : Sink A) where
       (out : List A) : Type 0 where
     pub state : stateAfter rules s rest ≡ stateAfter rules s₀ l
     pub putting : Putting (w .write (rowsAfter rules s₀ l)) from out₀ (w .write (rowsAfter rules s rest)) at out
-    pub runs : Runs (w .write) rules s rest at (length out)
+    pub runs : RunAsks (w .write) rules s rest at (length out)
 
   pub loop-begins : {rules : Rules} {s₀ : State} {l : List Packet} {from : ℕ} (out₀ : List A)
-      → Runs (w .write) rules s₀ l from (length out₀) → Loop rules s₀ l from out₀ s₀ l from out₀
+      → RunAsks (w .write) rules s₀ l from (length out₀) → Loop rules s₀ l from out₀ s₀ l from out₀
   loop-begins out₀ r = record { state = refl; putting = putting-begins _ _ out₀; runs = r }
 
   module _ {rules : Rules} {s₀ : State} {l : List Packet} {from : ℕ} {out₀ : List A} {s : State} where
@@ -128,13 +128,13 @@ module _ {A : Type 0} (w : Sink A) where
           let parts = length-append (w .write (rowsOf rules s p)) (w .write (rowsAfter rules (stepOf rules s p) ps)) in
           omega (arith, these .runs .fits, ap length cut, parts)
 
-      pub loop-arrives : Arrives rules s (p .time)
+      pub loop-arrives : ArriveAsks rules s (p .time)
       loop-arrives = going-arrives (these .runs .going) p passed
 
       pub loop-closed : (arriveOf rules s (p .time) (p .stamp)) .frames .closed ≤ 1000000000
       loop-closed = going-closed (these .runs .going) p passed
 
-      pub loop-lays : p .marker ≡ 1 → Lays (w .write) rules (arriveOf rules s (p .time) (p .stamp)) at (length out)
+      pub loop-lays : p .marker ≡ 1 → LayAsks (w .write) rules (arriveOf rules s (p .time) (p .stamp)) at (length out)
       loop-lays m =
           let same = ap (λ (r : List Row). length (w .write r)) (closes-rows rules s p (eq-eqb (p .marker) 1 m)) in
           record { makes = going-makes (these .runs .going) p passed; fits = omega (arith, rest-fits, same) }
@@ -157,7 +157,7 @@ module _ {A : Type 0} (w : Sink A) where
           })
 
     pub loop-ends : {rest : List Packet} {at : ℕ} {out : List A} → rest ≡ [] → Loop rules s₀ l from out₀ s rest at out
-        → Ran (w .write) rules s₀ l from out₀ s out
+        → RunGives (w .write) rules s₀ l from out₀ s out
     unfolding fold rowsAfter
     loop-ends {rest} {at} {out} c k =
         let none = subst (λ (x : List Packet). Loop rules s₀ l from out₀ s x at out) c k in

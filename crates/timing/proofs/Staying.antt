@@ -13,12 +13,12 @@ use Rattle.packet.proofs.Refusals as P
 use Rattle.packet.proofs.Ranging as PR
 use Rattle.bucket.proofs.Ranging as B
 use Rattle.frame.specs.Step as F
-use Rattle.frame.specs.Range.{Rowable, Kept}
+use Rattle.frame.specs.Range.{RowAsks, Kept}
 use Rattle.frame.proofs.Ranges as R
 use Rattle.timing.specs.declared.State.{State}
 use Rattle.timing.specs.Step.{rulesOf, arriveOf, markOf, stepOf}
 use Rattle.timing.specs.Range.{Sound}
-use Rattle.timing.specs.Feed.{Arrives}
+use Rattle.timing.specs.Feed.{ArriveAsks}
 use Rattle.timing.proofs.Planning.{planned, spacing-some, reach-fits, drains-few, guess-fits}
 
 module _ (s : State) (p : Packet) (x : Sound s) (e : numberOf (s .past) p ≡ 0) where
@@ -43,7 +43,7 @@ module _ (s : State) (p : Packet) (x : Sound s) (e : numberOf (s .past) p ≡ 0)
   same : s .frames .begun ≡ true → firstOf (s .past) (p .time) ≡ s .past .first
   same b = first-same (x .frames .begun b)
 
-  pub arrives : Arrives (rulesOf (s .numbers)) s (p .time)
+  pub arrives : ArriveAsks (rulesOf (s .numbers)) s (p .time)
   arrives = record {
     few = accepted .few;
     apart = spacing-some (s .numbers) (x .accepted);
@@ -99,7 +99,7 @@ module _ (s : State) (p : Packet) (x : Sound s) (e : numberOf (s .past) p ≡ 0)
 
   -- a row can be made of the frame that the packet closes
   pub rows-made : (arriveOf (rulesOf (s .numbers)) s (p .time) (p .stamp)) .frames .begun ≡ true
-      → Rowable (rulesOf (s .numbers) .plan) ((arriveOf (rulesOf (s .numbers)) s (p .time) (p .stamp)) .frames .closed)
+      → RowAsks (rulesOf (s .numbers) .plan) ((arriveOf (rulesOf (s .numbers)) s (p .time) (p .stamp)) .frames .closed)
       ((arriveOf (rulesOf (s .numbers)) s (p .time) (p .stamp)) .frames .marked)
       ((arriveOf (rulesOf (s .numbers)) s (p .time) (p .stamp)) .frames .current)
   unfolding arriveOf F.arriveOf

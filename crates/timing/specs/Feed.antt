@@ -18,7 +18,7 @@ use Rattle.packet.specs.Paper.{packets}
 use Rattle.packet.specs.Step.{elapsedOf, nextOf, numberOf, scanOf, scannedOf, scannedNumber, scannedPlace, scannedClosed}
 use Rattle.frame.specs.declared.Row.{Row}
 use Rattle.frame.specs.Step.{rowWidth, rowOf}
-use Rattle.frame.specs.Range.{Planned, Pushable, Rowable}
+use Rattle.frame.specs.Range.{Planned, PushAsks, RowAsks}
 use Rattle.timing.specs.declared.Rules.{Rules}
 use Rattle.timing.specs.declared.State.{State}
 use Rattle.timing.specs.declared.Fed.{Fed}
@@ -29,7 +29,7 @@ use Rattle.timing.specs.Range.{inRange, Sound}
 -- ---- what the parts ask and give
 
 -- before a packet that arrives at t
-pub record Arrives (rules : Rules) (s : State) (t : ℕ) : Type 0 where
+pub record ArriveAsks (rules : Rules) (s : State) (t : ℕ) : Type 0 where
   pub few : s .past .packets < 1000000000
   pub apart : 0 < rules .drains .num
   pub guess : s .drained * rules .drains .num < 18446744073709551616
@@ -37,16 +37,16 @@ pub record Arrives (rules : Rules) (s : State) (t : ℕ) : Type 0 where
   pub reach : grains (elapsedOf (s .past) t) * rules .drains .den < 18446744073709551616
   pub level : s .bucket .level ≤ s .past .packets
   pub planned : Planned (rules .plan)
-  pub push : s .frames .begun ≡ true → Pushable (rules .plan) (s .frames .current) t
+  pub push : s .frames .begun ≡ true → PushAsks (rules .plan) (s .frames .current) t
 
 -- the row that a marker closes, if the lead-in is over
 abbrev pub closing : Rules → State → List Row
 closing rules s = pick (s .frames .begun) (rowOf (rules .plan) (s .frames .closed) (s .frames .marked) (s .frames .current) ∷ []) []
 
 -- before that row is made
-pub record Makes (rules : Rules) (s : State) : Type 0 where
+pub record MakeAsks (rules : Rules) (s : State) : Type 0 where
   pub planned : Planned (rules .plan)
-  pub made : s .frames .begun ≡ true → Rowable (rules .plan) (s .frames .closed) (s .frames .marked) (s .frames .current)
+  pub made : s .frames .begun ≡ true → RowAsks (rules .plan) (s .frames .closed) (s .frames .marked) (s .frames .current)
 
 -- ---- a list of packets that is accepted
 
@@ -63,18 +63,18 @@ pub record Going (rules : Rules) (s : State) : Type 0 where
 -- Rows are written as numbers, as bytes or as lines: `w` says how.
 module _ {A : Type 0} (w : List Row → List A) where
   -- before the row that a marker closes is written at `at`, where so much has room
-  pub record Lays (rules : Rules) (s : State) (at room : ℕ) : Type 0 where
-    pub makes : Makes rules s
+  pub record LayAsks (rules : Rules) (s : State) (at room : ℕ) : Type 0 where
+    pub makes : MakeAsks rules s
     pub fits : at + length (w (closing rules s)) ≤ room
 
   -- what a run through a list needs: packets that pass, and room for the rows from `at` on
-  pub record Runs (rules : Rules) (s : State) (l : List Packet) (at room : ℕ) : Type 0 where
+  pub record RunAsks (rules : Rules) (s : State) (l : List Packet) (at room : ℕ) : Type 0 where
     pub going : Going rules s
     pub passes : Passes (s .past) l
     pub fits : at + length (w (rowsAfter rules s l)) ≤ room
 
   -- and what it gives
-  pub record Ran (rules : Rules) (s : State) (l : List Packet) (at : ℕ) (before : List A) (state : State) (after : List A) : Type 0 where
+  pub record RunGives (rules : Rules) (s : State) (l : List Packet) (at : ℕ) (before : List A) (state : State) (after : List A) : Type 0 where
     pub state-is : state ≡ stateAfter rules s l
     pub rows-are : after ≡ sets before at (w (rowsAfter rules s l))
 
@@ -147,7 +147,7 @@ fedRefusal (Accepted s) = refusal 0 0
 fedRefusal (Refused number place s) = refusal number place
 
 -- an answer and a list of rows are an outcome's
-pub record Is (o : Outcome) (answer : Fed) (rows : List ℤ) : Type 0 where
+pub record FeedGives (o : Outcome) (answer : Fed) (rows : List ℤ) : Type 0 where
   pub answer-is : answer ≡ o .answer
   pub rows-are : rows ≡ o .rows
 

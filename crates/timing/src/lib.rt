@@ -14,7 +14,7 @@ ghost use Rattle.packet.specs.Paper.{OneLength, packets};
 ghost use lib.Dec.{T};
 ghost use lib.Ieee.{binary64, inFloat};
 ghost use Rattle.timing.specs.Answers.{setUpAs, verdictOf, summaryWith, microsecondsOf, graphOf};
-ghost use Rattle.timing.specs.Feed.{Arrives, closing, Lays, Runs, Ran, feedOf, Is};
+ghost use Rattle.timing.specs.Feed.{ArriveAsks, closing, LayAsks, RunAsks, RunGives, feedOf, FeedGives};
 use bucket::Bucket;
 use bucket::Network;
 use frame::Buffer;
@@ -195,7 +195,7 @@ impl State {
 impl State {
     // The packet arrives: it is in the bucket, and in the open frame if there is one.
     pub fn arrive(self, rules: Rules, t: u64, stamp: u32) -> State
-        requires { ⌜ Arrives rules self t ⌝ }
+        requires { ⌜ ArriveAsks rules self t ⌝ }
         ensures { λ r. ⌜ r ≡ arriveOf rules self t stamp ⌝ }
     {
         let past = self.past;
@@ -229,7 +229,7 @@ impl State {
 
     // The row of the frame that a marker closes now, laid into `rows` from `at` on; where the next one goes.
     fn lay_row(self, rules: Rules, rows: &mut [i64], at: usize) -> usize
-        requires { ⌜ Lays numbers rules self at (length (now rows)) ⌝ }
+        requires { ⌜ LayAsks numbers rules self at (length (now rows)) ⌝ }
         ensures { λ r. ⌜ Put (numbers (closing rules self)) at (now (rows .entry)) r (now (rows .exit)) ⌝ }
     {
         let frames = self.frames;
@@ -255,8 +255,8 @@ impl State {
         rows: &mut [i64],
     ) -> State
         requires { ⌜ OneLength (now arrivals) (now stamps) (now markers)
-            × Runs numbers rules self (packets (now arrivals) (now stamps) (now markers)) 0 (length (now rows)) ⌝ }
-        ensures { λ r. ⌜ Ran numbers rules self (packets (now (arrivals .entry)) (now (stamps .entry)) (now (markers .entry))) 0
+            × RunAsks numbers rules self (packets (now arrivals) (now stamps) (now markers)) 0 (length (now rows)) ⌝ }
+        ensures { λ r. ⌜ RunGives numbers rules self (packets (now (arrivals .entry)) (now (stamps .entry)) (now (markers .entry))) 0
             (now (rows .entry)) r (now (rows .exit)) ⌝ }
     {
         let mut s = self;
@@ -281,7 +281,7 @@ impl State {
     // and rows are as they were. Accepted, ten numbers are written for each frame closed, from the start of
     // `rows` on, and the rest of `rows` stays.
     pub fn feed(mut self, arrivals: &[u64], stamps: &[u32], markers: &[u8], rows: &mut [i64]) -> Fed
-        ensures { λ r. ⌜ Is (feedOf self (now (rows .entry)) (now (arrivals .entry)) (now (stamps .entry)) (now (markers .entry)))
+        ensures { λ r. ⌜ FeedGives (feedOf self (now (rows .entry)) (now (arrivals .entry)) (now (stamps .entry)) (now (markers .entry)))
             r (now (rows .exit)) ⌝ }
     {
         if !self.in_range() {

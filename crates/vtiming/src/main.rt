@@ -10,7 +10,7 @@ ghost use Prim.Native.Nat.{_≤_};
 ghost use lib.ListN.{length};
 ghost use Rattle.text.specs.Lines.{lineRoom};
 ghost use Rattle.pump.specs.Step.{Fits, Roomy};
-ghost use Rattle.pump.specs.Run.{Fetched, Printed};
+ghost use Rattle.pump.specs.Run.{FetchGives, ProgramGives};
 ghost use Rattle.pump.specs.Said.{Said, Heard};
 ghost use Rattle.libc.specs.Io.{Moved};
 
@@ -31,7 +31,7 @@ fn tell(lines: &[u8]) -> bool
 // A read behind the bytes that are held, so that what has come is printed before more is waited for.
 fn fetch(pump: Pump, window: &mut [u8]) -> Came
     requires { ⌜ Fits pump (length (now window)) × Roomy pump (now window) ⌝ }
-    ensures { λ r. ⌜ Fetched pump (now (window .entry)) r (now (window .exit)) ⌝ }
+    ensures { λ r. ⌜ FetchGives pump (now (window .entry)) r (now (window .exit)) ⌝ }
 {
     let settled = pump.settle(window);
     let held = settled.held;
@@ -42,7 +42,7 @@ fn fetch(pump: Pump, window: &mut [u8]) -> Came
 // Until the last line is out, or a read or a write fails.
 fn run(window: &mut [u8], out: &mut [u8]) -> End
     requires { ⌜ (65538 ≤ length (now window)) × (lineRoom ≤ length (now out)) ⌝ }
-    ensures { λ r. ⌜ Printed (length (now (out .entry))) r ⌝ }
+    ensures { λ r. ⌜ ProgramGives (length (now (out .entry))) r ⌝ }
 {
     let mut pump = pump::begin();
     let mut turns = u64::MAX;

@@ -1,7 +1,7 @@
 -- What stands in front of a window: each return is one law, from the tests before it.
 use mathlib.Core.Path.{refl, sym, _∙_}
 use native.Mathlib.Omega.{arith}
-use Rattle.record.proofs.Format.{framed-scrap, framed-nought, framed-whole}
+use Rattle.record.proofs.Format.{framed-scrap, framed-zero, framed-whole}
 use Rattle.record.proofs.Ways.{short-cut, short-waits}
 use borrow.Author.Needs.{needs}
 use Rattle.record.proofs.frame.Statement.{statement}
@@ -17,7 +17,7 @@ read16-requires : tie.Need-read16-requires
 read16-requires c κs = search needs
 
 returns-2 : tie.Need-returns-2
-returns-2 c = sym (framed-nought _ _ (omega arith) (omega arith))
+returns-2 c = sym (framed-zero _ _ (omega arith) (omega arith))
 
 sub-if3 : tie.Need-sub-if3
 sub-if3 c = search needs

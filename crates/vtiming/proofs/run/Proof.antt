@@ -6,7 +6,7 @@ use denote.Ref.{now}
 use borrow.Author.Tests.{not-true, not-false}
 use native.Mathlib.Omega.{arith}
 use lib.ListN.{length}
-use Rattle.pump.specs.Run.{Reached}
+use Rattle.pump.specs.Run.{InLoop}
 use Rattle.pump.proofs.Program.{reached-begins, reached-fits, reached-worn, spoken, reached-steps, reached-ends, reached-unwritten}
 use Rattle.pump.proofs.Program.{reached-wants, reached-roomy, reached-reads, reached-unread, joined}
 use borrow.Author.Needs.{needs}
@@ -15,7 +15,7 @@ use Rattle.vtiming.proofs.run.Tie as tie
 
 abbrev Inv-loop : tie.InvT-loop
 Inv-loop window₀ out₀ pump₀ turns₀ window out pump turns =
-    (length window ≡ length window₀) × (length out ≡ length out₀) × Reached (length out₀) pump window
+    (length window ≡ length window₀) × (length out ≡ length out₀) × InLoop (length out₀) pump window
 
 abbrev μ-loop : tie.MeasureT-loop
 μ-loop window₀ out₀ pump₀ turns₀ window out pump turns = turns
@@ -128,7 +128,7 @@ loop-again c = let told = c .before .before .before .before in
     (told .tell .result) (l .inv .1) (l .inv .2) (t .step .ensures) (told .tell .ensures) in
     let went = reached-steps k (not-false (told .tell .result) (c .before .before .before .if1 .left)) (c .before .before .if2 .left) in
     let both : (length (c .if3 .window) ≡ length (now (start .args .window)))
-    × Reached (length (now (start .args .out))) (c .if3 .pump) (c .if3 .window) =
+    × InLoop (length (now (start .args .out))) (c .if3 .pump) (c .if3 .window) =
     ⊎-elim
     (λ x. joined (x .8) (x .9) (x .3 .given ∙ l .inv .0)
     (reached-reads went (reached-wants k (start .pre .1) (c .before .before .if2 .left) (x .0 .taken))
