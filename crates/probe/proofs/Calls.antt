@@ -22,7 +22,7 @@ use Rattle.probe.specs.declared.Answer.{Answer}
 use Rattle.probe.specs.declared.Held.{Held}
 use Rattle.probe.specs.declared.Held.the-variants.{Known, Nothing}
 use Rattle.probe.specs.Words.{wordsOf, heldBy}
-use Rattle.probe.specs.Calls.{wordsNumber, setUpLeft, SetUpGives, Told, refused, accepted, byFed, byHeld, callOf, CallGives, askedOf}
+use Rattle.probe.specs.Calls.{wordsNumber, setUpLeft, SetUpGives, CallOutcome, refused, accepted, byFed, byHeld, callOf, CallGives, askedOf}
 use Rattle.probe.proofs.RoundTrip.{length-words, only-words-hold}
 use Rattle.probe.proofs.Asking.{by-lengths}
 
@@ -53,12 +53,12 @@ module _ (x : StreamNumbers) (words : List ℕ) where
 
 -- ---- a call
 
-is : {told : Told} (t : Told) → t ≡ told → CallGives told (t .number) (t .words) (t .rows) (t .out)
+is : {told : CallOutcome} (t : CallOutcome) → t ≡ told → CallGives told (t .number) (t .words) (t .rows) (t .out)
 is t e = record {
-  number-is = ap (λ (x : Told). x .number) e;
-  words-are = ap (λ (x : Told). x .words) e;
-  rows-are = ap (λ (x : Told). x .rows) e;
-  out-is = ap (λ (x : Told). x .out) e;
+  number-is = ap (λ (x : CallOutcome). x .number) e;
+  words-are = ap (λ (x : CallOutcome). x .words) e;
+  rows-are = ap (λ (x : CallOutcome). x .rows) e;
+  out-is = ap (λ (x : CallOutcome). x .out) e;
 }
 
 pub enough-words : (words : List ℕ) {h : Held} {s : State} → h ≡ heldBy (take 32 words) → h ≡ Known s → 32 ≤ length words

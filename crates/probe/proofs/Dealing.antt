@@ -27,7 +27,7 @@ use Rattle.timing.proofs.Accepting.{dealt}
 use Rattle.probe.specs.declared.Held.{Held}
 use Rattle.probe.specs.declared.Held.the-variants.{Known, Nothing}
 use Rattle.probe.specs.Words.{heldBy, Holds, HoldNone}
-use Rattle.probe.specs.Calls.{wordsNumber, setUpLeft, Told, refused, accepted, byFed, byHeld, callOf, Unchanged}
+use Rattle.probe.specs.Calls.{wordsNumber, setUpLeft, CallOutcome, refused, accepted, byFed, byHeld, callOf, Unchanged}
 use Rattle.probe.specs.Dealt.{Lent, lentPackets, asCall, AllWhole, told, Dealt, no-call, one-call}
 use Rattle.probe.proofs.RoundTrip.{Narrow}
 use Rattle.probe.proofs.Calls.{enough-words}
@@ -106,10 +106,10 @@ carried (c ∷ cs) s t words written (call {t = mid} {more = more} g rest) w f e
     let fed = feed-slices s (c .rows) (c .ts) (c .ss) (c .ms) (w .0 .one-length) ∙ g in
     let after = sets (c .rows) 0 (writes s (asCall c)) in
     let now = as-accepted words (c .rows) (c .out) (c .ts) (c .ss) (c .ms) s e (w .0 .nine) mid after fed in
-    let left = ap (λ (x : Told). x .words) now in
+    let left = ap (λ (x : CallOutcome). x .words) now in
     let holds = ap (λ (l : List ℕ). heldBy (take 32 l)) left ∙ laid-hold words mid (enough-words words refl e) narrow in
     let on = carried cs mid t (told words c .words) more rest (w .1) narrow holds in
-    (on .0, one-call s e (ap (λ (x : Told). x .number) now) (ap (λ (x : Told). x .rows) now) (on .1), on .2)
+    (on .0, one-call s e (ap (λ (x : CallOutcome). x .number) now) (ap (λ (x : CallOutcome). x .rows) now) (on .1), on .2)
 
 -- "An accepted list of packets dealt out in order over any calls gives the rows, end state and verdicts of one call with the whole list.":
 -- from the words that set-up leaves, each call is accepted, what they write to the rows is the one call's, and the words at the end hold

@@ -5,13 +5,13 @@ use Prim.Native.Nat.{ℕ}
 use lib.IntN.{ℤ}
 use Rattle.laws.specs.Unique.{one-answer}
 use Rattle.timing.specs.declared.StreamNumbers.{StreamNumbers}
-use Rattle.probe.specs.Calls.{SetUpGives, Told, CallGives}
+use Rattle.probe.specs.Calls.{SetUpGives, CallOutcome, CallGives}
 
 pub sets-up-unique : (x : StreamNumbers) (words : List ℕ) (a b : ℕ) (p q : List ℕ) → SetUpGives x words a p → SetUpGives x words b q
     → (a ≡ b) × (p ≡ q)
 sets-up-unique x words a b p q u v = (one-answer (u .number-is) (v .number-is), one-answer (u .words-are) (v .words-are))
 
-pub feeds-unique : (told : Told) (a b : ℕ) (p q : List ℕ) (r s : List ℤ) (o m : List ℕ) → CallGives told a p r o → CallGives told b q s m
+pub feeds-unique : (told : CallOutcome) (a b : ℕ) (p q : List ℕ) (r s : List ℤ) (o m : List ℕ) → CallGives told a p r o → CallGives told b q s m
     → (a ≡ b) × (p ≡ q) × (r ≡ s) × (o ≡ m)
 feeds-unique told a b p q r s o m x y = (
   one-answer (x .number-is) (y .number-is),

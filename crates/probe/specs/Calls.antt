@@ -37,7 +37,7 @@ pub record SetUpGives (x : StreamNumbers) (words : List ℕ) (number : ℕ) (aft
 -- ---- a call
 
 -- the number, 0 where it is accepted, and the place; the state's words, the rows and the nine numbers, as they are then
-pub record Told : Type 0 where
+pub record CallOutcome : Type 0 where
   pub number : ℕ
   pub place : ℕ
   pub words : List ℕ
@@ -46,33 +46,33 @@ pub record Told : Type 0 where
 
 module _ (words : List ℕ) (rows : List ℤ) (out : List ℕ) where
   -- "A refused call accepts none of its packets, returns the number and the packet's place in the history [..], state and rows unchanged."
-  abbrev pub refused : ℕ → ℕ → Told
+  abbrev pub refused : ℕ → ℕ → CallOutcome
   refused number place = record { number = number; place = place; words = words; rows = rows; out = out }
 
-  abbrev pub accepted : State → List ℤ → Told
+  abbrev pub accepted : State → List ℤ → CallOutcome
   accepted t after = record { number = 0; place = 0; words = sets words 0 (wordsOf t); rows = after; out = sets out 0 (summaryOf t) }
 
   -- what `feed` answers from the state s; where it accepts, 15 after all else if fewer than nine numbers are lent for the summary
-  abbrev pub byFed : State → Fed → List ℤ → Told
+  abbrev pub byFed : State → Fed → List ℤ → CallOutcome
   byFed s (Accepted t) after = pick (leb summaryWidth (length out)) (accepted t after) (refused 15 (s .past .packets))
   byFed s (Refused number place t) after = refused number place
 
   module _ (ts ss ms : List ℕ) where
     -- "9 exactly a state [..] with a number outside its range": so words that hold no state are 9 too
-    abbrev pub byHeld : Held → Told
+    abbrev pub byHeld : Held → CallOutcome
     byHeld (Known s) = byFed s (feedOf s rows ts ss ms .answer) (feedOf s rows ts ss ms .rows)
     byHeld Nothing = refused 9 0
 
-    unfoldable pub callOf : Told
+    unfoldable pub callOf : CallOutcome
     unfolding heldBy feedOf wordsOf summaryWith
     callOf = byHeld (heldBy (take 32 words))
 
 -- the lent slices are as they were
-abbrev pub Unchanged : List ℕ → List ℤ → List ℕ → Told → Type 0
+abbrev pub Unchanged : List ℕ → List ℤ → List ℕ → CallOutcome → Type 0
 Unchanged words rows out told = (told .words ≡ words) × (told .rows ≡ rows) × (told .out ≡ out)
 
 -- a number and the slices' contents are what is told
-pub record CallGives (told : Told) (number : ℕ) (words : List ℕ) (rows : List ℤ) (out : List ℕ) : Type 0 where
+pub record CallGives (told : CallOutcome) (number : ℕ) (words : List ℕ) (rows : List ℤ) (out : List ℕ) : Type 0 where
   pub number-is : number ≡ told .number
   pub words-are : words ≡ told .words
   pub rows-are : rows ≡ told .rows
@@ -81,7 +81,7 @@ pub record CallGives (told : Told) (number : ℕ) (words : List ℕ) (rows : Lis
 abbrev pub answer : ℕ → ℕ → Answer
 answer number place = record { number = number; place = place }
 
-abbrev pub asked : Told → Answer
+abbrev pub asked : CallOutcome → Answer
 asked told = answer (told .number) (told .place)
 
 -- number and place of a call that lends so many row numbers and so many of the summary; what they are does not matter, so let them be 0

@@ -11,7 +11,7 @@ use Rattle.timing.specs.declared.State.{State}
 use Rattle.timing.specs.Answers.{summaryWidth}
 use Rattle.timing.specs.Feed.{Call, writes}
 use Rattle.probe.specs.Words.{Holds}
-use Rattle.probe.specs.Calls.{Told, callOf}
+use Rattle.probe.specs.Calls.{CallOutcome, callOf}
 
 -- each timestamp has 32 bits
 unfoldable pub Stamped : List Packet → Type 0
@@ -43,7 +43,7 @@ unfoldable pub AllWhole : List Lent → Type 0
 AllWhole [] = Unit
 AllWhole (c ∷ cs) = Whole c × AllWhole cs
 
-abbrev pub told : List ℕ → Lent → Told
+abbrev pub told : List ℕ → Lent → CallOutcome
 told words c = callOf words (c .rows) (c .out) (c .ts) (c .ss) (c .ms)
 
 -- each call is accepted, on the words that the one before it left, which hold a state; it lays what it writes (`writes`) from the front of

@@ -25,10 +25,10 @@ use Rattle.pump.specs.declared.Stepped.{Stepped}
 use Rattle.pump.specs.declared.Came.{Came}
 use Rattle.pump.specs.declared.Came.the-variants.{Failed, On}
 use Rattle.pump.specs.declared.End.{End}
-use Rattle.pump.specs.declared.End.the-variants.{Whole, Unwritten, Unread, Worn}
+use Rattle.pump.specs.declared.End.the-variants.{Whole, Unwritten, Unread, TurnsOver}
 use Rattle.pump.specs.Said.{Said, Heard}
 use Rattle.pump.specs.Step.{fresh, Fits, StepGives, shown, openedBy, stageBy, stepOf, settledOf, grown, cameOf, Roomy}
-use Rattle.pump.specs.Run.{Read-in, came-in, Reaches, begins, steps, reads, RunEnds, whole, unwritten, unread, worn}
+use Rattle.pump.specs.Run.{Read-in, came-in, Reaches, begins, steps, reads, RunEnds, whole, unwritten, unread, turns-over}
 use Rattle.pump.specs.Run.{FetchGives, ProgramGives, InLoop}
 use Rattle.pump.proofs.Reading.{back}
 use Rattle.pump.proofs.Stepping.{shown-size}
@@ -46,7 +46,7 @@ abbrev isWhole : End → Bool
 isWhole Whole = true
 isWhole Unwritten = false
 isWhole Unread = false
-isWhole Worn = false
+isWhole TurnsOver = false
 
 -- a run that ended otherwise
 short : {room : ℕ} {last : Bool} {file text : List ℕ} {end : End} → RunEnds room last file text end → isWhole end ≡ false → ProgramGives room end
@@ -61,8 +61,8 @@ short {last = last} {file = file} {text = text} x e =
       ended = ran-ended x;
     }
 
-pub reached-worn : {room : ℕ} {p : Pump} {w : List ℕ} → InLoop room p w → ProgramGives room Worn
-reached-worn h = short (worn (h .reaches)) refl
+pub reached-turns-over : {room : ℕ} {p : Pump} {w : List ℕ} → InLoop room p w → ProgramGives room TurnsOver
+reached-turns-over h = short (turns-over (h .reaches)) refl
 
 pub reached-unread : {room : ℕ} {p : Pump} {w after : List ℕ} {r : Came} → InLoop room p w → p .last ≡ false → r ≡ Failed
     → FetchGives p w r after → ProgramGives room Unread

@@ -24,9 +24,9 @@ use Rattle.pump.specs.declared.Stage.{Stage}
 use Rattle.pump.specs.declared.Stage.the-variants.{Head, Walking}
 use Rattle.pump.specs.declared.Pump.{Pump}
 use Rattle.pump.specs.declared.End.{End}
-use Rattle.pump.specs.declared.End.the-variants.{Whole, Unwritten, Unread, Worn}
+use Rattle.pump.specs.declared.End.the-variants.{Whole, Unwritten, Unread, TurnsOver}
 use Rattle.pump.specs.Step.{fresh, Fits, shown, onward, openedBy, tookBy, stageBy, stepOf, settledOf, grown}
-use Rattle.pump.specs.Run.{Read-in, came-in, Reaches, begins, steps, reads, Front, Whole-output, RunEnds, whole, unwritten, unread, worn}
+use Rattle.pump.specs.Run.{Read-in, came-in, Reaches, begins, steps, reads, Front, Whole-output, RunEnds, whole, unwritten, unread, turns-over}
 use Rattle.pump.proofs.Moving.{drop-take}
 use Rattle.pump.proofs.Stepping.{shown-size}
 
@@ -186,7 +186,7 @@ pub ran-front : {room : ℕ} {last : Bool} {file text : List ℕ} {end : End} �
 ran-front {room} (whole {p} {w} {file} {text} r d e) = λ v l. ([], append-nil _ ∙ step-ends p w file text room (reaches-holds r) e v l)
 ran-front (unwritten r d) = so-far r
 ran-front (unread r l f) = so-far r
-ran-front (worn r) = so-far r
+ran-front (turns-over r) = so-far r
 
 -- and all of it where the last line is out
 pub ran-whole : {room : ℕ} {last : Bool} {file text : List ℕ} → RunEnds room last file text Whole → Whole-output last file text
@@ -197,10 +197,10 @@ abbrev isUnread : End → Bool
 isUnread Whole = false
 isUnread Unwritten = false
 isUnread Unread = true
-isUnread Worn = false
+isUnread TurnsOver = false
 
 pub ran-ended : {room : ℕ} {last : Bool} {file text : List ℕ} {end : End} → RunEnds room last file text end → last ≡ true → end ≡ Unread → ⊥
 ran-ended (whole r d e) l f = false-true (ap isUnread f)
 ran-ended (unwritten r d) l f = false-true (ap isUnread f)
 ran-ended (unread r g h) l f = false-true (sym g ∙ l)
-ran-ended (worn r) l f = false-true (ap isUnread f)
+ran-ended (turns-over r) l f = false-true (ap isUnread f)

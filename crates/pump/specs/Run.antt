@@ -11,7 +11,7 @@ use Rattle.pump.specs.declared.Pump.{Pump}
 use Rattle.pump.specs.declared.Came.{Came}
 use Rattle.pump.specs.declared.Came.the-variants.{Failed}
 use Rattle.pump.specs.declared.End.{End}
-use Rattle.pump.specs.declared.End.the-variants.{Whole, Unwritten, Unread, Worn}
+use Rattle.pump.specs.declared.End.the-variants.{Whole, Unwritten, Unread, TurnsOver}
 use Rattle.pump.specs.Said.{Said, Heard}
 use Rattle.pump.specs.Step.{fresh, shown, stepOf, settledOf, grown, cameOf}
 
@@ -61,7 +61,7 @@ pub data RunEnds (room : ℕ) : Bool → List ℕ → List ℕ → End → Type 
       → RunEnds room (p .last) file text Unwritten
   unread : {p : Pump} {w file text after : List ℕ} → Reaches room p w file text → p .last ≡ false → FetchGives p w Failed after
       → RunEnds room (p .last) file text Unread
-  worn : {p : Pump} {w file text : List ℕ} → Reaches room p w file text → RunEnds room (p .last) file text Worn
+  turns-over : {p : Pump} {w file text : List ℕ} → Reaches room p w file text → RunEnds room (p .last) file text TurnsOver
 
 -- the program: what its reads brought, and what it handed over to be written
 pub record ProgramGives (room : ℕ) (end : End) : Type 0 where

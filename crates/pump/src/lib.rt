@@ -44,7 +44,7 @@ pub enum End {
     Whole,
     Unwritten,
     Unread,
-    Worn,
+    TurnsOver,
 }
 
 // Before the first read.

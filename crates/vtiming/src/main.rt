@@ -66,7 +66,7 @@ fn run(window: &mut [u8], out: &mut [u8]) -> End
         }
         turns -= 1;
     }
-    End::Worn
+    End::TurnsOver
 }
 
 // The window holds a whole record, of 65,537 bytes at most, and a read's worth more. Both arrays are lent from here, and no other

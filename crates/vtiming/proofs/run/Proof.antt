@@ -7,7 +7,7 @@ use borrow.Author.Tests.{not-true, not-false}
 use native.Mathlib.Omega.{arith}
 use lib.ListN.{length}
 use Rattle.pump.specs.Run.{InLoop}
-use Rattle.pump.proofs.Program.{reached-begins, reached-fits, reached-worn, spoken, reached-steps, reached-ends, reached-unwritten}
+use Rattle.pump.proofs.Program.{reached-begins, reached-fits, reached-turns-over, spoken, reached-steps, reached-ends, reached-unwritten}
 use Rattle.pump.proofs.Program.{reached-wants, reached-roomy, reached-reads, reached-unread, joined}
 use borrow.Author.Needs.{needs}
 use Rattle.vtiming.proofs.run.Statement.{statement}
@@ -143,7 +143,7 @@ same-length-8 : tie.Need-same-length-8 Inv-loop μ-loop
 same-length-8 c = search needs
 
 returns-4 : tie.Need-returns-4 Inv-loop μ-loop
-returns-4 c = reached-worn (c .before .loop .inv .2)
+returns-4 c = reached-turns-over (c .before .loop .inv .2)
 
 pub run-spec : {M : Type 1} → statement M
 run-spec =
