@@ -29,7 +29,7 @@
  *    0  accepted
  *    1  the rate code is not 1 to 8                                   give one of the codes below
  *    2  the schedule is not 0 or 1                                    0 is gapped, 1 linear
- *    3  the class is unknown or against the schedule                  1 goes with schedule 0, 2 with 1; 3 and 0 with either
+ *    3  the class is unknown or against the schedule                  1 is for schedule 0, 2 for 1; 3 and 0 are for either
  *    4  the height is 0                                               give the number of lines
  *    5  the packets per frame are not 1 to 20,000                     count the packets of a good frame
  *    6  MAXUDP is not 1460 or 8960                                    1460 is the standard limit, 8960 the extended one
@@ -61,7 +61,7 @@
 extern "C" {
 #endif
 
-/* The version of this header and of the archive that it goes with. */
+/* The version of this header and of the archive that it belongs to. */
 #define VTIMING_VERSION "1.1.0"
 #define VTIMING_VERSION_MAJOR 1
 #define VTIMING_VERSION_MINOR 1

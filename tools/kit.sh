@@ -30,7 +30,7 @@ kit_tool() { kit_file "bin/$1"; }
 emulator=""
 [ "$(uname -m)" = x86_64 ] || emulator=$(kit_tool qemu-x86_64) || exit 2
 
-# As `rt` runs it: under the kit's own loader and C library, so that nothing hangs on what this machine has installed.
+# As `rt` runs it: under the kit's own loader and C library, so that nothing depends on what this machine has installed.
 proved_program() {
     local loader
     loader=$(kit_file lib/ld-linux-x86-64.so.2) || return 2

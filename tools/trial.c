@@ -48,7 +48,7 @@ static const char *kind(int64_t number)
     }
 }
 
-/* The two answers with the two numbers that go with each. */
+/* The two answers, each with its two numbers. */
 static void put_verdict(const uint8_t *answer)
 {
     int64_t a = vtiming_number(answer, 4), b = vtiming_number(answer, 5), c = vtiming_number(answer, 7), d = vtiming_number(answer, 8);

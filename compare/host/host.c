@@ -291,7 +291,7 @@ static void graph(const struct room *room, int fill) {
     room_holds(&out, room->number ? (struct bytes){NULL, 0} : turned_round(now.filled, wanted));
 }
 
-/* --- a state that goes from call to call --- */
+/* --- a state that is carried from call to call --- */
 
 static uint64_t held[STATE_WORDS]; /* the words that set-up, or the last accepted call, left */
 
@@ -316,7 +316,7 @@ static uint32_t call_set_up(const struct lent *state) {
                           pointer(state), state->size / 8);
 }
 
-/* What stands in the words is the library's own, but for the seven numbers; it may not hang on what stood there. */
+/* What stands in the words is the library's own, but for the seven numbers; it may not depend on what stood there. */
 static void set_up(const struct room *room, int fill) {
     const struct numbers *n = &now.numbers;
     const uint64_t seven[7] = {n->rate, n->schedule, n->stream_class, n->height, n->packets_per_frame, n->maxudp, n->tro};

@@ -66,7 +66,7 @@ pub fn bucket(limits: &Limits, packets: &[Packet]) -> Bucket {
 /// The bucket as it stands between two events.
 struct Walk {
     level: i128,
-    /// Drain instants gone by.
+    /// Drain instants so far.
     k: i128,
     /// "drains that found a packet".
     found: i128,

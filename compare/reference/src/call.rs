@@ -1,5 +1,5 @@
 //! One call after an accepted history: the refusals 10 and 15 that a whole
-//! list does not show. (9 hangs on ranges given outside document 01: `ranges`.)
+//! list does not show. (9 depends on ranges given outside document 01: `ranges`.)
 
 use crate::measure::{measure_accepted, Measurement, Row, ROW_NUMBERS};
 use crate::numbers::{set_up, Numbers};

@@ -85,7 +85,7 @@ pub struct Case {
 
 /// Generated case `index` of a seed.
 pub fn case(seed: u64, index: u64) -> Case {
-    // The files of `generate` hang on seed and number too; the other cases
+    // The files of `generate` depend on seed and number too; the other cases
     // must not repeat their choices.
     let mut random = Random::new(seed ^ 0x6361_7365, index);
     let call = match index % 20 {
@@ -351,7 +351,7 @@ fn example() -> Vec<Packet> {
 }
 
 /// Document 01's cases on both sides of each limit, its example, and one of
-/// each outcome, so that none hangs on the seed.
+/// each outcome, so that none depends on the seed.
 pub fn fixed() -> Vec<Case> {
     let mut random = Random::new(0, 0);
     let mut calls = fixed_limits();

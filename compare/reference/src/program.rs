@@ -60,7 +60,7 @@ pub enum Way {
     /// As a file that is its standard input.
     Whole,
     /// Through a pipe, each piece once the one before it has been read. The
-    /// sizes are gone through again and again.
+    /// sizes are used again and again.
     Pieces(&'static [usize]),
     /// Through a pipe, up to the end of each marker packet; the rest is held
     /// back until the rows closed so far have come out: the program "prints

@@ -6,7 +6,7 @@ pub struct Random {
 }
 
 impl Random {
-    /// File `index` of a seed does not hang on the files before it.
+    /// File `index` of a seed does not depend on the files before it.
     pub fn new(seed: u64, index: u64) -> Random {
         let mut random = Random { state: seed };
         let mixed = random.bits() ^ index.wrapping_mul(0xd134_2543_de82_ef95);

@@ -1,5 +1,5 @@
 //! docs/STATE.md: which number of a state stands in which word, and its range,
-//! on both sides. What a range hangs on is taken from the list of packets
+//! on both sides. What a range depends on is taken from the list of packets
 //! alone; of the library's state nothing else is known here.
 
 use crate::measure::Measurement;
@@ -75,7 +75,7 @@ pub fn changed_nine(so_far: &Measurement, change: &[(u8, u64)]) -> [i64; 9] {
     nine
 }
 
-/// What the ranges of a state hang on.
+/// What the ranges of a state depend on.
 struct Known {
     numbers: Numbers,
     frame: u64,

@@ -511,7 +511,7 @@ impl Sender<'_> {
 
     /// As many packets as the buffer holds, one more or one fewer, before read
     /// 0; then each at a read's instant, where the read comes after it, or a
-    /// nanosecond later, where it has gone before.
+    /// nanosecond later, where the read comes before it.
     fn buffer_edge(&mut self, t_cf: i128, count: i128) -> Vec<i128> {
         let full = self.limits.vrx_full + self.random.pick(&[-1, 0, 0, 1]);
         let later = self.random.pick(&[0, 1, 1, 1]);

@@ -384,7 +384,7 @@ fn refusal_22() {
     assert_eq!(parse(&wrong_length), Err(refused(22, 19)));
     let unknown_kind = [&file[..19], &[0, 1, 3]].concat();
     assert_eq!(parse(&unknown_kind), Err(refused(22, 19)));
-    // 22 goes before 23: no parameters yet, but the kind is unknown.
+    // 22 comes before 23: no parameters yet, but the kind is unknown.
     assert_eq!(parse(&[1, 0, 1, 9]), Err(refused(22, 1)));
 }
 
@@ -396,7 +396,7 @@ fn refusal_23() {
     assert_eq!(parse(&packets_first), Err(refused(23, 1)));
     let again = [&file[..35], &file[1..19]].concat();
     assert_eq!(parse(&again), Err(refused(23, 35)));
-    // 23 goes before set-up's own refusals.
+    // 23 comes before set-up's own refusals.
     let mut refused_again = again;
     refused_again[35 + 3] = 0;
     assert_eq!(parse(&refused_again), Err(refused(23, 35)));
@@ -551,7 +551,7 @@ fn over_and_the_first_failing_frame() {
     // VRX_FULL is 1 here, so frame 1 overfills the buffer.
     let over = Buffer::Over { frame: 1, peak: 3 };
     assert_eq!(measure(&numbers, &list).unwrap().buffer, over);
-    // Under goes before over in one frame.
+    // Under comes before over in one frame.
     list[5].arrival += 19_000_000;
     let under = Buffer::Under {
         frame: 1,

@@ -287,7 +287,7 @@ fn reach_every_answer(cases: &[Case]) {
     }
 }
 
-/// What the host counts must not hang on the seed, so the fixed cases alone
+/// What the host counts must not depend on the seed, so the fixed cases alone
 /// reach it all; and generated ones reach it too.
 #[test]
 fn the_cases_reach_every_answer_of_every_call() {
