@@ -19,7 +19,7 @@
  * Nothing else is forbidden: whatever the bytes and numbers are, every call ends and there is an answer.
  *
  * What comes back. Each function returns 0 where it has done its work, or the number by which it refuses. A refused call
- * writes nothing at all. An accepted call writes at the front of what was lent, and what lies behind stays as it was.
+ * writes nothing at all. An accepted call writes at the front of what was lent, and what lies after it stays as it was.
  * The two functions that can refuse at a place have a twin that takes the same input, writes nothing and returns that
  * place; it returns 0 for an accepted call, and also where the place is 0, so ask the number first. vtiming_measure_room
  * writes nothing either, and returns a number of bytes.
@@ -148,7 +148,7 @@ enum vtiming_buffer_answer {
  * Refuses by 20 to 23, 1 to 7 and 11 to 14 at the first record that is refused, and by 15 after all else. */
 uint32_t vtiming_measure(const uint8_t *file, size_t file_len, uint8_t *out, size_t out_len);
 
-/* The twin of vtiming_measure, told how much room there would be: the offset in the file of the refused record (0 for
+/* The twin of vtiming_measure, given how much room there would be: the offset in the file of the refused record (0 for
  * 20), the file's length for 15, 0 for an accepted file. */
 uint64_t vtiming_measure_offset(const uint8_t *file, size_t file_len, size_t out_len);
 

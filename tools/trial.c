@@ -124,7 +124,7 @@ static int measured(uint32_t n, size_t count, uint64_t first, uint64_t step, siz
     return 0;
 }
 
-/* Each kind and each answer that examples/ does not bring about. */
+/* Each kind and each answer that examples/ does not show. */
 static int try_answers(void)
 {
     uint8_t answer[VTIMING_SUMMARY_BYTES + VTIMING_ROW_BYTES];
