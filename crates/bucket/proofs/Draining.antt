@@ -60,6 +60,7 @@ module _ (h : History) (p : 0 < h .frame) (mono : Climbs (drains h) (h .packets)
   none-at-first : drains h 0 ≡ 0
   none-at-first = rw (sub-self, zero-mul, zero-div)
 
+  -- B6: the packets so far are the drains that found one, and the level
   pub conserved : (i : ℕ) → i < h .packets → suc i ≡ found h (drains h i) + levelAt (drains h) i
   unfolding levelAt found
   conserved zero l = omega (arith, ap (found h) none-at-first)

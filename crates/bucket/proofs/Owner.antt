@@ -133,7 +133,7 @@ module _ (h : History) (p : 0 < h .frame) (ordered : Ordered h) where
 
   -- ---- the theorems
 
-  -- the level after a packet is the greatest excess of the runs that end there
+  -- B4, D3b: the level after a packet is the greatest excess of the runs that end there
   pub level-greatest : (i : ℕ) → i < h .packets → GreatestEnding h i (level h i)
   level-greatest i l =
       let n = level-named (drains h) (h .packets) drains-grow i l in
@@ -206,7 +206,7 @@ module _ (h : History) (p : 0 < h .frame) (ordered : Ordered h) where
   pub level-of : (limit i : ℕ) → i < h .packets → (bucketAt (drains h) limit (suc i)) .level ≡ level h i
   level-of limit i l = level-at limit i ∙ level-is h p drains-grow i l
 
-  -- instants that found nothing are not saved up: after however many, the next packet is in the bucket
+  -- E2: instants that found nothing are not saved up: after however many, the next packet is in the bucket
   pub not-saved-up : (i : ℕ) → suc i < h .packets → level h i ≤ drains h (suc i) - drains h i → level h (suc i) ≡ 1
   not-saved-up i l few =
       let here = level-is h p drains-grow i (omega arith) in

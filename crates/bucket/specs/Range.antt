@@ -5,7 +5,7 @@ use Rattle.laws.specs.Every.{Test, at-most, Entry, entry, tests}
 use Rattle.bucket.specs.declared.Bucket.{Bucket}
 use Rattle.bucket.specs.Paper.{networkNumber, networkFirst, networkLast}
 
--- it holds, began at, peaked at and names no more than the packets
+-- N4: it holds, began at, peaked at and names no more than the packets
 abbrev pub table : Bucket → ℕ → List Entry
 table b packets =
     entry (b .level) 8 (at-most (b .level) packets ∷ [])

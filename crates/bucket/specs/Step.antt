@@ -9,10 +9,11 @@ use Rattle.bucket.specs.declared.Bucket.{Bucket}
 use Rattle.bucket.specs.declared.Network.{Network}
 use Rattle.bucket.specs.declared.Network.the-variants.{Pass, Burst}
 
+-- B7: a fresh bucket
 abbrev pub emptyOf : Bucket
 emptyOf = record { level = 0; start = 0; peak = 0; network = Pass }
 
--- the first burst stands
+-- D3d: the first burst stands
 abbrev pub judged : Network → Bool → ℕ → ℕ → Network
 judged Pass true first last = Burst (record { first = first; last = last })
 judged Pass false first last = Pass
@@ -22,7 +23,7 @@ abbrev pub arrivedOf : ℕ → ℕ → ℕ → Network → ℕ → ℕ → Bucke
 arrivedOf level start peak network place limit =
     record { level = level; start = start; peak = max peak level; network = judged network (ltb limit level) start place }
 
--- level′ = (level less the drains, not below 0) + 1; where nothing is left of the level a new run begins
+-- B2, B4: level′ = (level less the drains, not below 0) + 1; where nothing is left of the level a new run begins
 unfoldable pub stepOf : Bucket → ℕ → ℕ → ℕ → Bucket
 stepOf b place drains limit =
     arrivedOf (b .level - drains + 1) (pick (leb (b .level) drains) place (b .start)) (b .peak) (b .network) place limit

@@ -26,7 +26,7 @@ unfolding numberOf
 number-small [] h = omega arith
 number-small (b ∷ bs) h = rw (pow-succ' 256 (length bs)) (digits-lt (h .0) (number-small bs (h .1)))
 
--- a number that fits comes back from its bytes, which are bytes
+-- F2: a number that fits comes back from its bytes, which are bytes
 pub number-bytes : (k x : ℕ) → x < 256 ^ k → numberOf (bytesOf k x) ≡ x
 unfolding numberOf bytesOf
 number-bytes zero x h = omega arith
@@ -41,7 +41,7 @@ bytes-small (suc k) x h = (
   bytes-small k (x % 256 ^ k) (mod-lt x (positive k)),
 )
 
--- bytes come back from their number
+-- F2: bytes come back from their number
 pub bytes-number : (bs : List ℕ) → Bytes bs → bytesOf (length bs) (numberOf bs) ≡ bs
 unfolding numberOf bytesOf
 bytes-number [] h = refl

@@ -3,6 +3,7 @@ use mathlib.Core.List.{List, [], _∷_}
 use Prim.Native.Nat.{ℕ, zero, suc, _+_, _*_, _/_, _%_, _^_, _<_, _≤_}
 use lib.ListN.{length, take, drop}
 
+-- F2: the highest byte stands first
 unfoldable pub numberOf : List ℕ → ℕ
 numberOf [] = 0
 numberOf (b ∷ bs) = b * 256 ^ length bs + numberOf bs
@@ -11,7 +12,7 @@ numberOf (b ∷ bs) = b * 256 ^ length bs + numberOf bs
 abbrev pub numberAt : ℕ → List ℕ → ℕ → ℕ
 numberAt k s at = numberOf (take k (drop at s))
 
--- the k bytes of a number
+-- F2: the k bytes of a number
 unfoldable pub bytesOf : ℕ → ℕ → List ℕ
 bytesOf zero x = []
 bytesOf (suc k) x = x / 256 ^ k ∷ bytesOf k (x % 256 ^ k)

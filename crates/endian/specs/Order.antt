@@ -6,7 +6,7 @@ use Rattle.endian.specs.declared.Order.{Order}
 use Rattle.endian.specs.declared.Order.the-variants.{Big, Little}
 use Rattle.endian.specs.Number.{numberOf, bytesOf}
 
--- bytes in an order, turned to stand the highest first; and such bytes turned to that order
+-- X11: bytes in an order, turned to stand the highest first; and such bytes turned to that order
 abbrev pub turned : Order → List ℕ → List ℕ
 turned Big l = l
 turned Little l = reverse l

@@ -34,7 +34,7 @@ offset-is g stamp F = go (encoded g stamp)
     go (pos n) = passes (pos n) n 0 g (frameTime g F) (omega arith)
     go (negsuc n) = passes (negsuc n) 0 (suc n) g (frameTime g F) (omega arith)
 
--- TRO less FPT is what is left from the first packet to the first read
+-- P12: TRO less FPT is what is left from the first packet to the first read
 pub margin-is : (g tro F : ℕ) → 0 < F → subℕ (tro + F) (phase g F) ≡ pos tro -ℤ firstPacketTime g F
 margin-is g tro F p =
     let t = frameTime g F in

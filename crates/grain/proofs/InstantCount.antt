@@ -7,6 +7,7 @@ use native.Mathlib.Nat.{le-div-iff-mul-le, div-eq-of-lt-le, div-mul-le-self, le-
 use Rattle.grain.specs.Paper.{InstantBy, instants}
 
 module _ (num den : ℕ) (p : 0 < num) where
+  -- E1: as many as are up to e, with no fraction made
   pub instants-are : (k e : ℕ) → k ≤ instants e num den ↔ InstantBy num den k e
   instants-are k e = le-div-iff-mul-le p
 

@@ -8,6 +8,7 @@ use lib.Signed.{_≤ℤ_, _<ℤ_}
 use Rattle.laws.specs.Differ.{differ-sub, differ-le, differ-lt, differ-neg, sub-same}
 use Rattle.grain.specs.Paper.{Nearest, nearest, frameTime, phase, firstPacketTime}
 
+-- P7: the quotient is the nearest
 pub nearest-is : (g F : ℕ) → 0 < F → Nearest g F (nearest g F)
 unfolding nearest
 nearest-is g F p = record {
@@ -23,11 +24,13 @@ nearest-unique g F N M p q =
 
 -- "FPT is at least minus half a frame and below plus half": twice FPT is at least −F and below F
 module _ (g F : ℕ) (p : 0 < F) where
+  -- P8: at least minus half a frame
   pub at-least : negℤ (pos F) ≤ℤ subℕ (2 * g) (2 * frameTime g F)
   at-least =
       differ-le (negℤ (pos F)) (subℕ (2 * g) (2 * frameTime g F)) 0 F (2 * g) (2 * frameTime g F) (differ-neg F)
       (differ-sub (2 * g) (2 * frameTime g F)) (omega (arith, nearest-is g F p .low))
 
+  -- P8: and below plus half
   pub below : subℕ (2 * g) (2 * frameTime g F) <ℤ pos F
   below =
       differ-lt (subℕ (2 * g) (2 * frameTime g F)) (pos F) (2 * g) (2 * frameTime g F) F 0 (differ-sub (2 * g) (2 * frameTime g F))

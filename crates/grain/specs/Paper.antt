@@ -5,14 +5,15 @@ use lib.Dec.{ltb}
 use lib.IntN.{ℤ, pos, subℕ, _-ℤ_}
 use Rattle.laws.specs.Count.{count}
 
--- "27 grains are one nanosecond."
+-- G1: "27 grains are one nanosecond."
 abbrev pub nanosecond : ℕ
 nanosecond = 27
 
+-- E5: 27t over unbounded numbers; within 64 bits: proofs/WideDivision.antt
 abbrev pub grains : ℕ → ℕ
 grains t = nanosecond * t
 
--- "N = round(27t/F), halves up": N·F is at most half of F after g, and g
+-- P7: "N = round(27t/F), halves up": N·F is at most half of F after g, and g
 -- is less than half of F after N·F. One N is so: proofs/Rounding.antt.
 pub record Nearest (g F N : ℕ) : Type 0 where
   pub low : 2 * (N * F) ≤ 2 * g + F
@@ -21,11 +22,11 @@ pub record Nearest (g F N : ℕ) : Type 0 where
 unfoldable pub nearest : ℕ → ℕ → ℕ
 nearest g F = (2 * g + F) / (2 * F)
 
--- "T_CF = N·F."
+-- P7: "T_CF = N·F."
 abbrev pub frameTime : ℕ → ℕ → ℕ
 frameTime g F = nearest g F * F
 
--- "FPT = 27t − T_CF"
+-- P8: "FPT = 27t − T_CF"
 abbrev pub firstPacketTime : ℕ → ℕ → ℤ
 firstPacketTime g F = subℕ g (frameTime g F)
 
@@ -33,27 +34,28 @@ firstPacketTime g F = subℕ g (frameTime g F)
 unfoldable pub phase : ℕ → ℕ → ℕ
 phase g F = g + F - frameTime g F
 
--- "An RTP tick at 90 kHz is 300,000 grains." "P = 1,288,490,188,800,000 grains (2^32 ticks)"
+-- G2: "An RTP tick at 90 kHz is 300,000 grains."
 abbrev pub tick : ℕ
 tick = 300000
 
+-- P9: "P = 1,288,490,188,800,000 grains (2^32 ticks)"
 abbrev pub wrap : ℕ
 wrap = 1288490188800000
 
--- "Encoded time, formulas (1) and (2): the arrival's wrap count times P plus 300,000 times the timestamp, with [..] wrap count INT(27t/P)."
--- An integer, as is what depends on it: only formulas (1) and (2) say that it is not before the epoch.
+-- P9: "Encoded time, formulas (1) and (2): the arrival's wrap count times P plus 300,000 times the timestamp, with [..] wrap count
+-- INT(27t/P)." An integer, as is what depends on it: only formulas (1) and (2) say that it is not before the epoch.
 unfoldable pub encoded : ℕ → ℕ → ℤ
 encoded g stamp = pos (g / wrap * wrap + tick * stamp)
 
--- "RTP_OFFSET = encoded − T_CF.", which is FPT less VL whatever is encoded: proofs/EncodedTime.antt, offset-is
+-- P10: "RTP_OFFSET = encoded − T_CF.", which is FPT less VL whatever is encoded: proofs/EncodedTime.antt, offset-is
 abbrev pub rtpOffset : ℕ → ℕ → ℕ → ℤ
 rtpOffset g stamp F = encoded g stamp -ℤ pos (frameTime g F)
 
--- "Latency VL = 27t − encoded."
+-- P11: "Latency VL = 27t − encoded."
 abbrev pub latency : ℕ → ℕ → ℤ
 latency g stamp = pos g -ℤ encoded g stamp
 
--- Instants lie k·num/den after a start, k = 1, 2, and so on: instant k is at most e. No fraction is made: both sides times den.
+-- E1: Instants lie k·num/den after a start, k = 1, 2, and so on: instant k is at most e. No fraction is made: both sides times den.
 abbrev pub InstantBy : ℕ → ℕ → ℕ → ℕ → Type 0
 InstantBy num den k e = k * num ≤ e * den
 
@@ -61,10 +63,10 @@ InstantBy num den k e = k * num ≤ e * den
 abbrev pub instants : ℕ → ℕ → ℕ → ℕ
 instants e num den = e * den / num
 
--- Read j lies at base + j·num/den: it is strictly before x.
+-- P14, E1: Read j lies at base + j·num/den: it is strictly before x.
 abbrev pub readBefore : ℕ → ℕ → ℕ → ℕ → ℕ → Bool
 readBefore base num den x j = ltb (base * den + j * num) (x * den)
 
--- the reads 0 .. n − 1 strictly before x, counted one by one
+-- P16: the reads 0 .. n − 1 strictly before x, counted one by one
 abbrev pub readsBefore : ℕ → ℕ → ℕ → ℕ → ℕ → ℕ
 readsBefore n base num den x = count (readBefore base num den x) n

@@ -16,7 +16,7 @@ use Rattle.limits.specs.Paper.{microsecond, frameLength, seconds, active
 use Rattle.limits.specs.Paper.{classFits}
 use Rattle.limits.specs.Facts.{int-exact, default-whole}
 
--- "INT as in document 001": the largest whole number not greater than the fraction
+-- S8: "INT as in document 001": the largest whole number not greater than the fraction
 pub record IntIs (x : Fraction) (m : ℕ) : Type 0 where
   pub divides : 0 < x .den
   pub largest : (k : ℕ) → (k ≤ m) ↔ (k * x .den ≤ x .num)
@@ -28,14 +28,14 @@ pub int-unique : (x : Fraction) (m p : ℕ) → IntIs x m → IntIs x p → m �
 int-unique x m p a b =
     omega (arith, b .largest m .1 (a .largest m .0 (omega arith)), a .largest p .1 (b .largest p .0 (omega arith)))
 
--- "C_MAX: narrow MAX(4, INT(n/(43200·R·T))); narrow linear MAX(4, INT(n/(43200·T))); wide MAX(16, INT(n/(21600·T)))."
+-- S9: "C_MAX: narrow MAX(4, INT(n/(43200·R·T))); narrow linear MAX(4, INT(n/(43200·T))); wide MAX(16, INT(n/(21600·T)))."
 abbrev pub CMaxIs : Class → ℕ → ℕ → ℕ → ℕ → Type 0
 CMaxIs Narrow schedule F n c = (m : ℕ) × IntIs (whole n ÷ (whole 43200 · activeRatio schedule · seconds F)) m × (c ≡ max 4 m)
 CMaxIs NarrowLinear schedule F n c = (m : ℕ) × IntIs (whole n ÷ (whole 43200 · seconds F)) m × (c ≡ max 4 m)
 CMaxIs Wide schedule F n c = (m : ℕ) × IntIs (whole n ÷ (whole 21600 · seconds F)) m × (c ≡ max 16 m)
 CMaxIs Unknown schedule F n c = ⊥
 
--- "VRX_FULL: narrow and narrow linear MAX(INT(12000/MAXUDP), INT(n/(27000·T))); wide MAX(INT(1080000/MAXUDP), INT(n/(300·T)))."
+-- S10: "VRX_FULL: narrow and narrow linear MAX(INT(12000/MAXUDP), INT(n/(27000·T))); wide MAX(INT(1080000/MAXUDP), INT(n/(300·T)))."
 abbrev pub FullIs : ℕ → ℕ → ℕ → ℕ → ℕ → ℕ → Type 0
 FullIs bytes k maxudp F n full =
     (a : ℕ) × (b : ℕ) × IntIs (whole bytes ÷ whole maxudp) a × IntIs (whole n ÷ (whole k · seconds F)) b × (full ≡ max a b)
@@ -46,7 +46,7 @@ VrxFullIs NarrowLinear maxudp F n full = FullIs 12000 27000 maxudp F n full
 VrxFullIs Wide maxudp F n full = FullIs 1080000 300 maxudp F n full
 VrxFullIs Unknown maxudp F n full = ⊥
 
--- "TRO: given in whole microseconds, [..] or default: 43F/1125 for height 1080 and up, else 28F/750."
+-- S6, S7: "TRO: given in whole microseconds, [..] or default: 43F/1125 for height 1080 and up, else 28F/750."
 pub record TroIs (F height tro g : ℕ) : Type 0 where
   pub given : (tro ≡ allOnes → ⊥) → g ≡ microsecond * tro
   pub default : tro ≡ allOnes → Same (whole g) (defaultTro F height)

@@ -16,12 +16,12 @@ use Rattle.limits.specs.Paper.{readSpacing, readNum, readDen}
 use Rattle.limits.specs.declared.Parameters.{Parameters}
 use Rattle.limits.specs.Accepted.{Accepted, both}
 
--- "R = 24/25, from 1080/1125"
+-- S1: "R = 24/25, from 1080/1125"
 pub gapped-ratio : Same (activeRatio 0) (whole 1080 ÷ whole 1125)
 unfolding activeRatio
 gapped-ratio = refl
 
--- the spacing that the code keeps in two numbers is R·F/n
+-- P14: the spacing that the code keeps in two numbers is R·F/n
 pub spacing : (schedule F n : ℕ) → Same (record { num = readNum schedule F; den = readDen schedule n }) (readSpacing schedule F n)
 spacing schedule F n = rw (mul-one (activeRatio schedule .den), mul-one (activeRatio schedule .num * F))
 
@@ -67,12 +67,12 @@ int-exact x e =
 abbrev pub wholeDefaults : ℕ → Bool
 wholeDefaults F = isWhole (defaultTro F 1080) && isWhole (defaultTro F 1079)
 
--- the one test of the table
+-- S7: the one test of the table
 pub table-whole : every wholeDefaults frameLengths ≡ true
 unfolding defaultTro
 table-whole = refl
 
--- so the default of any code at any height is whole
+-- S7: so the default of any code at any height is whole
 pub default-whole : (rate height : ℕ) → isWhole (defaultTro (frameLength rate) height) ≡ true
 unfolding defaultTro frameLength
 default-whole rate height =
@@ -95,7 +95,7 @@ default-below F height h =
     (λ e. div-lt-iff-lt-mul (omega arith) .1 (omega arith))
     (λ e. div-lt-iff-lt-mul (omega arith) .1 (omega arith))
 
--- "TRO: given in whole microseconds, below one frame, or default": so any TRO that set-up takes lies below one frame
+-- S6: "TRO: given in whole microseconds, below one frame, or default": so any TRO that set-up takes lies below one frame
 pub tro-below : {p : Parameters} → Accepted p → troGrains (frameLength (p .rate)) (p .height) (p .tro) < frameLength (p .rate)
 unfolding troGrains
 tro-below {p} a = go (eqb (p .tro) allOnes) refl (a .tro-fits)

@@ -8,6 +8,7 @@ pub tro-grains : troGrains (frameLength 6) 1080 allOnes ≡ 20640000
 unfolding frameLength troGrains defaultTro int
 tro-grains = refl
 
+-- S7: the default TRO
 pub tro-figure : int (whole (troGrains (frameLength 6) 1080 allOnes) · whole 1000 ÷ whole microsecond) ≡ 764444
 unfolding frameLength troGrains defaultTro int
 tro-figure = refl
@@ -16,6 +17,7 @@ pub spacing-grains : Same (readSpacing 0 (frameLength 6) 4320) (whole 120000)
 unfolding frameLength activeRatio
 spacing-grains = refl
 
+-- P14: the spacing of the reads
 pub spacing-figure : int (readSpacing 0 (frameLength 6) 4320 · whole 10000 ÷ whole microsecond) ≡ 44444
 unfolding frameLength activeRatio int
 spacing-figure = refl

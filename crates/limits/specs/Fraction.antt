@@ -23,7 +23,7 @@ x ÷ y = record { num = x .num * y .den; den = x .den * y .num }
 abbrev pub Same : Fraction → Fraction → Type 0
 Same x y = x .num * y .den ≡ y .num * x .den
 
--- INT, document 001: the largest whole number not greater than the fraction
+-- S8: INT, document 001: the largest whole number not greater than the fraction
 unfoldable pub int : Fraction → ℕ
 int x = x .num / x .den
 

@@ -11,14 +11,14 @@ use Rattle.limits.specs.declared.Class.{Class}
 use Rattle.limits.specs.declared.Parameters.{Parameters}
 use Rattle.limits.specs.declared.Class.the-variants.{Narrow, NarrowLinear, Wide, Unknown}
 
--- "Every duration is a whole number of grains; 27 grains are one nanosecond."
+-- G1: "Every duration is a whole number of grains; 27 grains are one nanosecond."
 abbrev pub microsecond : ℕ
 microsecond = grains 1000
 
 abbrev pub second : ℕ
 second = grains 1000000000
 
--- "The frame length in grains for each rate code, 1 to 8"; a code outside has 0, and set-up refuses it
+-- G3: "The frame length in grains for each rate code, 1 to 8"; a code outside has 0, and set-up refuses it
 abbrev pub frameLengths : List ℕ
 frameLengths =
     1126125000 ∷ 1125000000 ∷ 1080000000 ∷ 900900000 ∷ 900000000 ∷ 540000000 ∷ 450450000 ∷ 450000000 ∷ []
@@ -26,16 +26,16 @@ frameLengths =
 unfoldable pub frameLength : ℕ → ℕ
 frameLength rate = getD (0 ∷ frameLengths) rate 0
 
--- "With T the frame in seconds"
+-- S8: "With T the frame in seconds"
 abbrev pub seconds : ℕ → Fraction
 seconds F = whole F ÷ whole second
 
--- "Schedule: 0 gapped (R = 24/25, from 1080/1125), 1 linear (R = 1)."; a code above 1, which set-up refuses, goes with 1
+-- S1: "Schedule: 0 gapped (R = 24/25, from 1080/1125), 1 linear (R = 1)."; a code above 1, which set-up refuses, goes with 1
 unfoldable pub activeRatio : ℕ → Fraction
 activeRatio zero = whole 24 ÷ whole 25
 activeRatio (suc schedule) = whole 1
 
--- "Class: 1 narrow (gapped only), 2 narrow linear (linear only), 3 wide (either). 0 means 3."
+-- S2: "Class: 1 narrow (gapped only), 2 narrow linear (linear only), 3 wide (either). 0 means 3."
 abbrev pub classes : List Class
 classes = Wide ∷ Narrow ∷ NarrowLinear ∷ Wide ∷ []
 
@@ -44,33 +44,33 @@ classOf class = getD classes class Unknown
 
 -- The six formulas, for any frame length F. A class that set-up refuses has 0, which no sentence of the paper speaks of.
 
--- "C_MAX: narrow MAX(4, INT(n/(43200·R·T))); narrow linear MAX(4, INT(n/(43200·T))); wide MAX(16, INT(n/(21600·T)))."
+-- S9: "C_MAX: narrow MAX(4, INT(n/(43200·R·T))); narrow linear MAX(4, INT(n/(43200·T))); wide MAX(16, INT(n/(21600·T)))."
 unfoldable pub cMax : Class → ℕ → ℕ → ℕ → ℕ
 cMax Narrow schedule F n = max 4 (int (whole n ÷ (whole 43200 · activeRatio schedule · seconds F)))
 cMax NarrowLinear schedule F n = max 4 (int (whole n ÷ (whole 43200 · seconds F)))
 cMax Wide schedule F n = max 16 (int (whole n ÷ (whole 21600 · seconds F)))
 cMax Unknown schedule F n = 0
 
--- "VRX_FULL: narrow and narrow linear MAX(INT(12000/MAXUDP), INT(n/(27000·T))); wide MAX(INT(1080000/MAXUDP), INT(n/(300·T)))."
+-- S10: "VRX_FULL: narrow and narrow linear MAX(INT(12000/MAXUDP), INT(n/(27000·T))); wide MAX(INT(1080000/MAXUDP), INT(n/(300·T)))."
 unfoldable pub vrxFull : Class → ℕ → ℕ → ℕ → ℕ
 vrxFull Narrow maxudp F n = max (int (whole 12000 ÷ whole maxudp)) (int (whole n ÷ (whole 27000 · seconds F)))
 vrxFull NarrowLinear maxudp F n = max (int (whole 12000 ÷ whole maxudp)) (int (whole n ÷ (whole 27000 · seconds F)))
 vrxFull Wide maxudp F n = max (int (whole 1080000 ÷ whole maxudp)) (int (whole n ÷ (whole 300 · seconds F)))
 vrxFull Unknown maxudp F n = 0
 
--- "TRO (4; all ones is default)"
+-- S6, F3: "TRO (4; all ones is default)"
 abbrev pub allOnes : ℕ
 allOnes = 4294967295
 
--- "or default: 43F/1125 for height 1080 and up, else 28F/750"
+-- S7: "or default: 43F/1125 for height 1080 and up, else 28F/750"
 unfoldable pub defaultTro : ℕ → ℕ → Fraction
 defaultTro F height = pick (leb 1080 height) (whole 43 · whole F ÷ whole 1125) (whole 28 · whole F ÷ whole 750)
 
--- "TRO: given in whole microseconds, .. or default"
+-- S6: "TRO: given in whole microseconds, .. or default"
 unfoldable pub troGrains : ℕ → ℕ → ℕ → ℕ
 troGrains F height tro = pick (eqb tro allOnes) (int (defaultTro F height)) (microsecond * tro)
 
--- "Read j (0 to n−1) is at T_CF + TRO + j·R·F/n, kept as a fraction."
+-- P14: "Read j (0 to n−1) is at T_CF + TRO + j·R·F/n, kept as a fraction."
 abbrev pub readSpacing : ℕ → ℕ → ℕ → Fraction
 readSpacing schedule F n = activeRatio schedule · whole F ÷ whole n
 
@@ -86,22 +86,22 @@ readDen schedule n = activeRatio schedule .den * n
 abbrev pub within : ℕ → ℕ → ℕ → Bool
 within low high x = leb low x && leb x high
 
--- "class (unknown or against the schedule)"
+-- N2: "class (unknown or against the schedule)"
 abbrev pub classFits : Class → ℕ → Bool
 classFits Narrow schedule = eqb schedule 0
 classFits NarrowLinear schedule = eqb schedule 1
 classFits Wide schedule = true
 classFits Unknown schedule = false
 
--- "MAXUDP 1460 or 8960."
+-- S5: "MAXUDP 1460 or 8960."
 abbrev pub maxudpKnown : ℕ → Bool
 maxudpKnown maxudp = eqb maxudp 1460 || eqb maxudp 8960
 
--- "TRO: given in whole microseconds, below one frame, or default"
+-- S6: "TRO: given in whole microseconds, below one frame, or default"
 unfoldable pub troFits : ℕ → ℕ → Bool
 troFits F tro = eqb tro allOnes || ltb (microsecond * tro) F
 
--- "set-up, in this order: rate, schedule, class (unknown or against the schedule), height, n, MAXUDP, TRO"
+-- N1, N2, S3, S4: "set-up, in this order: rate, schedule, class (unknown or against the schedule), height, n, MAXUDP, TRO"
 -- "Height 1 to 65,535. Packets per frame n, 1 to 20,000."
 abbrev pub questions : Parameters → List Bool
 questions p =
@@ -119,7 +119,7 @@ unfoldable pub firstNo : ℕ → List Bool → ℕ
 firstNo k [] = 0
 firstNo k (answer ∷ more) = pick answer (firstNo (suc k) more) k
 
--- the refusals 1 to 7 of set-up, and 0 for what is accepted
+-- N2: the refusals 1 to 7 of set-up, and 0 for what is accepted
 unfoldable pub setUpRefusal : Parameters → ℕ
 setUpRefusal p = firstNo 1 (questions p)
 

@@ -20,24 +20,25 @@ after n t = record { packets = n; first = t; last = t }
 pub first-accepted : (t : ℕ) → refusalOf nothing t 1 ≡ 0
 first-accepted t = accepted-0 _ _ _ (omega arith) (omega arith) (omega arith) (omega arith)
 
+-- N1: a marker of 2
 pub marker-2 : (t : ℕ) → refusalOf nothing t 2 ≡ 11
 marker-2 t = refused-11 _ _ _ (omega arith)
 
--- at the same instant as the one before, and one nanosecond earlier
+-- N1: at the same instant as the one before, and one nanosecond earlier
 pub same-instant : (t : ℕ) → refusalOf (after 1 t) t 0 ≡ 0
 same-instant t = accepted-0 _ _ _ (omega arith) (omega arith) (omega arith) (omega arith)
 
 pub earlier : (t : ℕ) → refusalOf (after 1 (t + 1)) t 0 ≡ 12
 earlier t = refused-12 _ _ _ (omega arith) (omega arith)
 
--- 600 s after the first packet, and one nanosecond more
+-- N1: 600 s after the first packet, and one nanosecond more
 pub at-600-s : (t : ℕ) → refusalOf (after 1 t) (t + 600000000000) 0 ≡ 0
 at-600-s t = accepted-0 _ _ _ (omega arith) (omega arith) (omega arith) (omega arith)
 
 pub after-600-s : (t : ℕ) → refusalOf (after 1 t) (t + 600000000001) 0 ≡ 13
 after-600-s t = refused-13 _ _ _ (omega arith) (omega arith) (omega arith)
 
--- the packet at place 999,999,999 is the last of 1,000,000,000, and the one at place 1,000,000,000 is one too many
+-- N1: the packet at place 999,999,999 is the last of 1,000,000,000, and the one at place 1,000,000,000 is one too many
 pub place-999999999 : (t : ℕ) → refusalOf (after 999999999 t) t 0 ≡ 0
 place-999999999 t = accepted-0 _ _ _ (omega arith) (omega arith) (omega arith) (omega arith)
 

@@ -20,14 +20,14 @@ noPacket = record { time = 0; stamp = 0; marker = 0 }
 abbrev pub marked : Packet → Bool
 marked p = eqb (p .marker) 1
 
--- "A call lends three slices of these": as many packets as the shortest has
+-- P1, P2: "A call lends three slices of these": as many packets as the shortest has
 unfoldable pub packets : List ℕ → List ℕ → List ℕ → List Packet
 packets [] ss ms = []
 packets (t ∷ ts) [] ms = []
 packets (t ∷ ts) (s ∷ ss) [] = []
 packets (t ∷ ts) (s ∷ ss) (m ∷ ms) = record { time = t; stamp = s; marker = m } ∷ packets ts ss ms
 
--- what is not "the three slices differ in length"
+-- N6: what is not "the three slices differ in length"
 pub record OneLength (ts ss ms : List ℕ) : Type 0 where
   pub stamps : length ss ≡ length ts
   pub markers : length ms ≡ length ts
@@ -44,12 +44,12 @@ module _ (l : List Packet) where
   abbrev pub at : ℕ → Packet
   at i = getD l i noPacket
 
-  -- "arrival earlier than the one before it": the first packet has none before it
+  -- N7: "arrival earlier than the one before it": the first packet has none before it
   abbrev pub earlierAt : ℕ → Bool
   earlierAt zero = false
   earlierAt (suc i) = ltb (at (suc i) .time) (at i .time)
 
-  -- "11 marker above 1; 12 arrival earlier than the one before it; 13 more than 600 s after the first packet;
+  -- N1, N7: "11 marker above 1; 12 arrival earlier than the one before it; 13 more than 600 s after the first packet;
   -- 14 more than 1,000,000,000 packets", in this order; 0 where packet i is not refused.
   -- Places count from 0: the packet at 1,000,000,000 is the first of more than that many.
   unfoldable pub refusalAt : ℕ → ℕ
@@ -65,11 +65,12 @@ module _ (l : List Packet) where
   abbrev pub markedAt : ℕ → Bool
   markedAt i = marked (at i)
 
-  -- a marker came before packet i
+  -- P4: a marker came before packet i
   abbrev pub begunAt : ℕ → Bool
   begunAt = begun markedAt
 
-  -- "Packets up to and including the first marker are the lead-in: in the bucket, in no frame. After that each marker closes a frame."
+  -- P4, P5: "Packets up to and including the first marker are the lead-in: in the bucket, in no frame. After that each marker closes a
+  -- frame."
   abbrev pub closesAt : ℕ → Bool
   closesAt = again markedAt
 
@@ -77,7 +78,7 @@ module _ (l : List Packet) where
   abbrev pub firstRefused : ℕ
   firstRefused = seek refusedAt (length l)
 
-  -- "packet by packet 11 to 14": the first refused packet names its number and place; else so many frames close
+  -- N7: "packet by packet 11 to 14": the first refused packet names its number and place; else so many frames close
   unfoldable pub declared : Scanned
   declared =
       pick (ltb firstRefused (length l))

@@ -5,7 +5,7 @@ use Prim.Native.Nat.{_-_, _≤_}
 use Rattle.laws.specs.Every.{Test, at-most, same, where-so, Entry, entry, tests}
 use Rattle.packet.specs.declared.Past.{Past}
 
--- at most a billion packets, in order, within 600 s; nothing before the first
+-- N4: at most a billion packets, in order, within 600 s; nothing before the first
 abbrev pub table : Past → List Entry
 table past =
     entry (past .packets) 8 (at-most (past .packets) 1000000000 ∷ [])

@@ -25,7 +25,7 @@ firstOf past t = pick (eqb (past .packets) 0) t (past .first)
 abbrev pub elapsedOf : Past → ℕ → ℕ
 elapsedOf past t = t - firstOf past t
 
--- the number by which a packet is refused, 0 where it is not
+-- N7: the number by which a packet is refused, 0 where it is not
 unfoldable pub refusalOf : Past → ℕ → ℕ → ℕ
 refusalOf past t marker =
     pick (ltb 1 marker) 11
@@ -72,7 +72,7 @@ scanOf past begun closed (p ∷ ps) =
     (scanOf (nextOf past (p .time)) (begun || marked p) (closed + closes begun p) ps)
     (Refused (record { number = numberOf past p; place = past .packets }))
 
--- "10 the three slices differ in length", with place 0
+-- N1, N6, N12: "10 the three slices differ in length", with place 0
 abbrev pub unequal : Scanned
 unequal = Refused (record { number = 10; place = 0 })
 
