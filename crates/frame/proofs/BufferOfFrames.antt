@@ -160,7 +160,7 @@ module _ (plan : Plan) (p : Planned plan) (h : History) (ordered : Climbs (h .ti
         (D.top-bound (plan .packets) (firstRead plan h (since h i)) (plan .reads .num) (plan .reads .den) (arrival plan h (since h i))
         (up plan h ordered i inside p whole) j l)
 
-    -- "The buffer runs dry where least is below 0.": where there was a lack
+    -- P19: "The buffer runs dry where least is below 0.": where there was a lack
     pub is-dry : 0 < (closedAt plan h i) .deficit → Dry plan h (since h i)
     is-dry l = (
       subℕ 0 ((closedAt plan h i) .deficit),

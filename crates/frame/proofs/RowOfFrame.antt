@@ -56,6 +56,7 @@ module _ (plan : Plan) (h : History) (ordered : Climbs (h .time) (h .packets)) (
   held-is : closedAt plan h i ≡ frameFrom plan h (since h i) (suc (i - since h i))
   held-is = rw (one-more h i)
 
+  -- P6: the kind that the code finds is the frame's
   pub kind-is : kindOf (closedAt plan h i) (plan .packets) ≡ kindAt plan h i
   unfolding kindOf keptOf
   kind-is = rw (one-more h i, add-zero (since h i))
@@ -111,12 +112,14 @@ module _ (plan : Plan) (h : History) (ordered : Climbs (h .time) (h .packets)) (
         ∙ most-same (λ j. readsFrom plan (λ k. h .time (since h i + k)) (λ k. h .stamp (since h i + k)) j - j)
         (λ j. readsTo plan h (since h i) j - j) (plan .packets) (λ j l. ap (λ (r : ℕ). r - j) (reads-same j l))
 
+    -- P17: the greatest level that is kept is the frame's peak
     pub peak-is : PeakIs plan h (since h i) (pos ((closedAt plan h i) .top))
     peak-is = rw top-is (record {
       bound = D.peak-bound (plan .packets) (firstRead plan h (since h i)) (plan .reads .num) (plan .reads .den) (arrival plan h (since h i)) up;
       met = D.peak-met (plan .packets) (firstRead plan h (since h i)) (plan .reads .num) (plan .reads .den) (arrival plan h (since h i)) up (p .some);
     })
 
+    -- P15, P18: the greatest lack that is kept, below 0, is the frame's least
     pub least-is : LeastIs plan h (since h i) (subℕ 0 ((closedAt plan h i) .deficit))
     least-is = rw deficit-is (record {
       bound = D.least-bound (plan .packets) (firstRead plan h (since h i)) (plan .reads .num) (plan .reads .den) (arrival plan h (since h i)) up;
@@ -164,6 +167,7 @@ module _ (plan : Plan) (h : History) (ordered : Climbs (h .time) (h .packets)) (
         (differ-same (pos (grains (from - to))) (subℕ (grains from) (grains to)) (grains (from - to)) 0 (grains from) (grains to)
         (omega arith) (differ-sub (grains from) (grains to)) (omega arith))
 
+    -- P8, P10, P11, P12, P13: the five times of the row are the frame's
     pub times-are : closesAt h i ≡ true → Times plan h (since h i) (wholeRow plan (numberAt h i) (markedTime plan h i) (closedAt plan h i))
     unfolding wholeRow
     times-are e = record {

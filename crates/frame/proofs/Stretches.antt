@@ -14,6 +14,7 @@ use Rattle.frame.specs.ByPlace.{markedTime}
 use Rattle.frame.specs.declared.Plan.{Plan}
 
 module _ (h : History) where
+  -- P5: the frame began after the last marker
   pub since-is : (i : ℕ) → Began h i (since h i)
   unfolding since
   since-is zero = record { within = omega arith; clear = λ k l q. absurd (not-suc-le-zero q); after = λ q. absurd (not-suc-le-zero q) }

@@ -42,8 +42,8 @@ isNone (Over p) = false
 abbrev pub Fails : (ℕ → Buffer → Type 0) → ℕ → Type 0
 Fails A i = (b : Buffer) × A i b × (hasFailed b ≡ true)
 
--- "The first failing frame decides": the answer of the first m places is that of the first that fails; else pass, where one passes; else
--- none, where each is none
+-- V8: "The first failing frame decides": the answer of the first m places is that of the first that fails; else pass, where one passes;
+-- else none, where each is none
 pub data FirstDecides (A : ℕ → Buffer → Type 0) (m : ℕ) (b : Buffer) : Type 0 where
   failed : (i : ℕ) → i < m → A i b → hasFailed b ≡ true → ((k : ℕ) → k < i → ¬ Fails A k) → FirstDecides A m b
   passed : (i : ℕ) → i < m → A i Pass → ((k : ℕ) → k < m → ¬ Fails A k) → b ≡ Pass → FirstDecides A m b
@@ -52,15 +52,15 @@ pub data FirstDecides (A : ℕ → Buffer → Type 0) (m : ℕ) (b : Buffer) : T
 -- ---- which packets are a frame
 
 module _ (h : History) where
-  -- "Packets up to and including the first marker are the lead-in: [..] in no frame.": it is over before packet i
+  -- P4, E4: "Packets up to and including the first marker are the lead-in: [..] in no frame.": it is over before packet i
   abbrev pub begunAt : ℕ → Bool
   begunAt = begun (h .marked)
 
-  -- "After that each marker closes a frame."
+  -- P5: "After that each marker closes a frame."
   abbrev pub closesAt : ℕ → Bool
   closesAt = again (h .marked)
 
-  -- "frame number from 0": how many frames are closed before packet i
+  -- V1: "frame number from 0": how many frames are closed before packet i
   abbrev pub numberAt : ℕ → ℕ
   numberAt i = count closesAt i
 
@@ -86,13 +86,13 @@ module _ (plan : Plan) (h : History) where
   abbrev pub differsAt : ℕ → ℕ
   differsAt i = seek (λ j. not (eqb (h .stamp (since h i + j)) (h .stamp (since h i)))) (heldAt h i)
 
-  -- "Kinds, tried in this order: 1 short (fewer than n), 2 long (more than
+  -- P6: "Kinds, tried in this order: 1 short (fewer than n), 2 long (more than
   -- n), 3 stamp (some timestamp differs from the first packet's), 0 whole."
   abbrev pub kindAt : ℕ → ℕ
   kindAt i = pick (ltb (heldAt h i) (plan .packets)) 1
       (pick (ltb (plan .packets) (heldAt h i)) 2 (pick (ltb (differsAt i) (heldAt h i)) 3 0))
 
-  -- "detail (count for 1 and 2, place in the frame, from 0, of the first differing timestamp for 3, else 0)"
+  -- V2: "detail (count for 1 and 2, place in the frame, from 0, of the first differing timestamp for 3, else 0)"
   abbrev pub detailAt : ℕ → ℕ
   detailAt i = pick (eqb (kindAt i) 3) (differsAt i) (pick (eqb (kindAt i) 0) 0 (heldAt h i))
 
@@ -103,49 +103,49 @@ module _ (plan : Plan) (h : History) where
     abbrev pub arrival : ℕ → ℕ
     arrival j = grains (h .time (s + j))
 
-    -- "T_CF + TRO", where read 0 is
+    -- P14: "T_CF + TRO", where read 0 is
     abbrev pub firstRead : ℕ
     firstRead = frameTime (arrival 0) (plan .period) + plan .tro
 
-    -- "the frame's reads strictly before its arrival", of packet j
+    -- P16: "the frame's reads strictly before its arrival", of packet j
     abbrev pub readsTo : ℕ → ℕ
     readsTo j = readsBefore (plan .packets) firstRead (plan .reads .num) (plan .reads .den) (arrival j)
 
-    -- "Level just after packet j: j + 1 less the frame's reads strictly before its arrival."
+    -- P16: "Level just after packet j: j + 1 less the frame's reads strictly before its arrival."
     abbrev pub levelOf : ℕ → ℤ
     levelOf j = subℕ (suc j) (readsTo j)
 
-    -- "The frame's peak is the greatest of these."
+    -- P17: "The frame's peak is the greatest of these."
     pub record PeakIs (z : ℤ) : Type 0 where
       pub bound : (j : ℕ) → j < plan .packets → levelOf j ≤ℤ z
       pub met : (j : ℕ) × (j < plan .packets) × (z ≡ levelOf j)
 
-    -- "At one instant arrivals come before reads.": the frame's packets arrived by read j
+    -- P15: "At one instant arrivals come before reads.": the frame's packets arrived by read j
     abbrev pub arrivedBy : ℕ → ℕ
     arrivedBy j = count (λ i. leb (arrival i * plan .reads .den) (firstRead * plan .reads .den + j * plan .reads .num)) (plan .packets)
 
-    -- "Least is the smallest, over all n reads, of the frame's packets arrived by that read less reads done, that one included."
+    -- P18: "Least is the smallest, over all n reads, of the frame's packets arrived by that read less reads done, that one included."
     pub record LeastIs (z : ℤ) : Type 0 where
       pub bound : (j : ℕ) → j < plan .packets → z ≤ℤ subℕ (arrivedBy j) (suc j)
       pub met : (j : ℕ) × (j < plan .packets) × (z ≡ subℕ (arrivedBy j) (suc j))
 
-    -- "after its read time": packet j comes after read j
+    -- D3e, V7: "after its read time": packet j comes after read j
     abbrev pub late : ℕ → Bool
     late j = ltb (firstRead * plan .reads .den + j * plan .reads .num) (arrival j * plan .reads .den)
 
-    -- "one of its packets comes after its read time"
+    -- D3e: "one of its packets comes after its read time"
     abbrev pub SomeLate : Type 0
     SomeLate = (j : ℕ) × (j < plan .packets) × (late j ≡ true)
 
-    -- "The buffer runs dry where least is below 0."
+    -- P19: "The buffer runs dry where least is below 0."
     abbrev pub Dry : Type 0
     Dry = (z : ℤ) × LeastIs z × (z <ℤ pos 0)
 
-    -- "over (VRX peak above VRX_FULL)"
+    -- V7: "over (VRX peak above VRX_FULL)"
     abbrev pub Overfull : Type 0
     Overfull = (z : ℤ) × PeakIs z × (pos (plan .full) <ℤ z)
 
-    -- "FPT = 27t − T_CF", "RTP_OFFSET = encoded − T_CF. Latency VL = 27t − encoded. Margin = TRO −
+    -- P8, P10, P11, P12, P13: "FPT = 27t − T_CF", "RTP_OFFSET = encoded − T_CF. Latency VL = 27t − encoded. Margin = TRO −
     -- FPT. GAP = first arrival of this frame less arrival of the marker packet before it"
     pub record Times (r : Row) : Type 0 where
       pub fpt : r .fpt ≡ firstPacketTime (arrival 0) (plan .period)
@@ -154,14 +154,14 @@ module _ (plan : Plan) (h : History) where
       pub margin : r .margin ≡ pos (plan .tro) -ℤ firstPacketTime (arrival 0) (plan .period)
       pub gap : r .gap ≡ subℕ (arrival 0) (grains (h .time (pred s)))
 
-    -- "VRX peak; VRX least"
+    -- V1: "VRX peak; VRX least"
     pub record Levels (r : Row) : Type 0 where
       pub peak : PeakIs (r .peak)
       pub least : LeastIs (r .least)
 
   -- ---- the row
 
-  -- "For kinds 1 to 3 the last seven are 0."
+  -- V3: "For kinds 1 to 3 the last seven are 0."
   pub record Zeros (r : Row) : Type 0 where
     pub fpt : r .fpt ≡ pos 0
     pub offset : r .offset ≡ pos 0
@@ -171,7 +171,7 @@ module _ (plan : Plan) (h : History) where
     pub peak : r .peak ≡ pos 0
     pub least : r .least ≡ pos 0
 
-  -- "A closed frame writes ten numbers": those of the frame that packet i closes
+  -- V1: "A closed frame writes ten numbers": those of the frame that packet i closes
   pub record RowIs (i : ℕ) (r : Row) : Type 0 where
     pub number : r .number ≡ pos (numberAt h i)
     pub kind : r .kind ≡ pos (kindAt i)
@@ -187,20 +187,20 @@ module _ (plan : Plan) (h : History) where
     pub closing : closesAt h i ≡ true
     pub whole : kindAt i ≡ 0
 
-  -- "pass": it neither runs dry nor overfull
+  -- V7: "pass": it neither runs dry nor overfull
   pub record PassIs (i : ℕ) : Type 0 where
     pub whole : Whole i
     pub not-dry : ¬ Dry (since h i)
     pub not-over : ¬ Overfull (since h i)
 
-  -- "under (least below 0) with frame and the lowest j whose packet arrives after read j"
+  -- V7: "under (least below 0) with frame and the lowest j whose packet arrives after read j"
   pub record UnderIs (i : ℕ) (p : Place) : Type 0 where
     pub whole : Whole i
     pub frame : p .frame ≡ numberAt h i
     pub dry : Dry (since h i)
     pub place : Lowest (late (since h i)) (plan .packets) (p .place)
 
-  -- "over (VRX peak above VRX_FULL) with frame and peak"; "in one frame under goes first"
+  -- V7, V8: "over (VRX peak above VRX_FULL) with frame and peak"; "in one frame under goes first"
   pub record OverIs (i : ℕ) (p : Place) : Type 0 where
     pub whole : Whole i
     pub frame : p .frame ≡ numberAt h i
@@ -208,7 +208,7 @@ module _ (plan : Plan) (h : History) where
     pub peak : PeakIs (since h i) (pos (p .place))
     pub over : plan .full < p .place
 
-  -- what packet i answers by itself: that of the frame it closes. A broken frame is not judged. One answer is so:
+  -- E3: what packet i answers by itself: that of the frame it closes. A broken frame is not judged. One answer is so:
   -- answer-unique in proofs/BufferOfFrames.antt
   abbrev pub AnswerIs : ℕ → Buffer → Type 0
   AnswerIs i None = ¬ Whole i
@@ -216,11 +216,11 @@ module _ (plan : Plan) (h : History) where
   AnswerIs i (Under p) = UnderIs i p
   AnswerIs i (Over p) = OverIs i p
 
-  -- "Buffer: none (no whole frame yet); pass; under [..]; over [..]. The first failing frame decides"
+  -- V7, V8: "Buffer: none (no whole frame yet); pass; under [..]; over [..]. The first failing frame decides"
   abbrev pub BufferIs : Buffer → Type 0
   BufferIs b = FirstDecides AnswerIs (h .packets) b
 
--- The paper's numbers for each case of the answer: "buffer 0 none, 1
+-- C2: The paper's numbers for each case of the answer: "buffer 0 none, 1
 -- pass, 2 under or 3 over, frame, packet or peak; 0 where there is none".
 abbrev pub bufferNumber : Buffer → ℕ
 bufferNumber None = 0

@@ -45,6 +45,7 @@ pub record RowAsks (plan : Plan) (number marked : ℕ) (f : Frame) : Type 0 wher
 -- The range of each number that is kept of the frames, as docs/STATE.md gives it, by the plan and by what
 -- came before, the first and the last arrival and how many packets: one table, and what it means.
 module _ (plan : Plan) (s : Frames) (first last packets : ℕ) where
+  -- N4: every number that is kept of the frames
   abbrev pub table : List Entry
   table =
       entry (s .closed) 8 (at-most (s .closed) packets ∷ [])

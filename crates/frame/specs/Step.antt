@@ -60,12 +60,12 @@ pushOf plan f t stamp = countedOf (openedOf f (plan .period) t stamp) stamp (rea
 
 -- ---- its kind, row and answer
 
--- "Kinds, tried in this order: 1 short (fewer than n), 2 long (more than
+-- P6: "Kinds, tried in this order: 1 short (fewer than n), 2 long (more than
 -- n), 3 stamp (some timestamp differs from the first packet's), 0 whole."
 unfoldable pub kindOf : Frame → ℕ → ℕ
 kindOf f n = pick (ltb (f .held) n) 1 (pick (ltb n (f .held)) 2 (pick (ltb (f .differs) (f .held)) 3 0))
 
--- "detail (count for 1 and 2, place in the frame, from 0, of the first differing timestamp for 3, else 0)"
+-- V2: "detail (count for 1 and 2, place in the frame, from 0, of the first differing timestamp for 3, else 0)"
 abbrev pub detailOf : Frame → ℕ → ℕ
 detailOf f kind = pick (eqb kind 3) (f .differs) (pick (eqb kind 0) 0 (f .held))
 
@@ -97,14 +97,14 @@ brokenRow number kind detail = record {
   least = pos 0;
 }
 
--- "For kinds 1 to 3 the last seven are 0."
+-- V3: "For kinds 1 to 3 the last seven are 0."
 unfoldable pub rowOf : Plan → ℕ → ℕ → Frame → Row
 unfolding kindOf wholeRow
 rowOf plan number marked f =
     pick (eqb (kindOf f (plan .packets)) 0) (wholeRow plan number marked f)
     (brokenRow number (kindOf f (plan .packets)) (detailOf f (kindOf f (plan .packets))))
 
--- "A closed frame writes ten numbers: frame number from 0; kind; detail [..]; FPT; RTP_OFFSET; VL; margin; GAP; VRX peak; VRX least."
+-- V1: "A closed frame writes ten numbers: frame number from 0; kind; detail [..]; FPT; RTP_OFFSET; VL; margin; GAP; VRX peak; VRX least."
 abbrev pub numbersOf : Row → List ℤ
 numbersOf r =
     r .number ∷ r .kind ∷ r .detail ∷ r .fpt ∷ r .offset ∷ r .latency ∷ r .margin ∷ r .gap ∷ r .peak ∷ r .least ∷ []
@@ -116,7 +116,8 @@ rowWidth = 10
 pub row-width : (r : Row) → length (numbersOf r) ≡ rowWidth
 row-width r = refl
 
--- "under (least below 0) [..]; over (VRX peak above VRX_FULL) [..]; in one frame under goes first." A broken frame is not judged.
+-- V7, V8, E3: "under (least below 0) [..]; over (VRX peak above VRX_FULL) [..]; in one frame under goes first." A broken frame is not
+-- judged.
 unfoldable pub answerOf : Plan → ℕ → Frame → Buffer
 unfolding kindOf
 answerOf plan number f =
@@ -125,7 +126,7 @@ answerOf plan number f =
     (pick (ltb (plan .full) (f .top)) (Over (record { frame = number; place = f .top })) Pass))
     None
 
--- "The first failing frame decides": the answer so far, and then the next frame's
+-- V8: "The first failing frame decides": the answer so far, and then the next frame's
 unfoldable pub joined : Buffer → Buffer → Buffer
 joined sofar next = pick (hasFailed sofar) sofar (pick (isNone next) sofar next)
 
@@ -134,7 +135,7 @@ joined sofar next = pick (hasFailed sofar) sofar (pick (isNone next) sofar next)
 abbrev pub noFrames : Frames
 noFrames = record { begun = false; closed = 0; marked = 0; current = emptyOf; buffer = None }
 
--- in the lead-in a packet is in no frame
+-- P4: in the lead-in a packet is in no frame
 unfoldable pub arriveOf : Plan → Frames → ℕ → ℕ → Frames
 arriveOf plan s t stamp = record {
   begun = s .begun;
@@ -144,7 +145,7 @@ arriveOf plan s t stamp = record {
   buffer = s .buffer;
 }
 
--- a marker packet, which has arrived, ends the lead-in or closes the frame
+-- P5: a marker packet, which has arrived, ends the lead-in or closes the frame
 unfoldable pub closeOf : Plan → Frames → ℕ → Frames
 unfolding answerOf joined
 closeOf plan s t = record {

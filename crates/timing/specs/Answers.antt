@@ -22,18 +22,19 @@ use Rattle.timing.specs.declared.Drawn.the-variants.{Figures, Refused as
 use Rattle.timing.specs.Step.{setUpOf, freshOf}
 use Rattle.timing.specs.Range.{inRange}
 
--- "A refused set-up returns its number and no state."
+-- N3: "A refused set-up returns its number and no state."
 unfoldable pub setUpAs : StreamNumbers → SetUp
 setUpAs x = pick (eqb (setUpOf x) 0) (Fresh (freshOf x)) (Refused (setUpOf x))
 
--- "The verdict holds the network answer and the buffer answer."
+-- V5: "The verdict holds the network answer and the buffer answer."
 abbrev pub answersOf : State → Verdict
 answersOf s = record { network = s .bucket .network; buffer = s .frames .buffer }
 
+-- X9: a state that a call would refuse has no verdict
 unfoldable pub verdictOf : State → Judged
 verdictOf s = pick (inRange s) (Given (answersOf s)) (Not-Judged 9)
 
--- "nine numbers (packets, frames, peak; network 0 pass or 1 burst, first, last; buffer 0 none, 1 pass, 2 under or 3 over, frame, packet
+-- C2: "nine numbers (packets, frames, peak; network 0 pass or 1 burst, first, last; buffer 0 none, 1 pass, 2 under or 3 over, frame, packet
 -- or peak; 0 where there is none)"
 unfoldable pub summaryWith : ℕ → ℕ → ℕ → Verdict → List ℕ
 summaryWith packets frames peak v =
@@ -56,11 +57,11 @@ summaryWidth = 9
 abbrev pub summaryOf : State → List ℕ
 summaryOf s = summaryWith (s .past .packets) (s .frames .closed) (s .bucket .peak) (answersOf s)
 
--- "FPT, margin and VL as microseconds, each the grains as a double (nothing lost) divided once by 27000."
+-- V9: "FPT, margin and VL as microseconds, each the grains as a double (nothing lost) divided once by 27000."
 unfoldable pub microsecondsOf : ℤ → Float
 microsecondsOf x = div binary64 (ofInt binary64 x) (ofInt binary64 (pos 27000))
 
--- "16 a figure for the graph above 2^53 in size; no doubles are given"
+-- N1, N9: "16 a figure for the graph above 2^53 in size; no doubles are given"
 unfoldable pub graphOf : ℤ → ℤ → ℤ → Drawn
 graphOf fpt margin latency =
     pick (inFloat binary64 fpt)

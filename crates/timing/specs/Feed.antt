@@ -80,13 +80,14 @@ module _ {A : Type 0} (w : List Row → List A) where
 
 -- ---- the whole call
 
--- the answer, and what the lent rows hold
+-- P2: the answer, and what the lent rows hold
 pub record Outcome : Type 0 where
   pub answer : Fed
   pub rows : List ℤ
 
 module _ (s : State) (rows : List ℤ) where
-  -- "A refused call accepts none of its packets, returns the number and the packet's place in the history [..], state and rows unchanged."
+  -- N11, D1d: "A refused call accepts none of its packets, returns the number and the packet's place in the history [..], state and rows
+  -- unchanged."
   abbrev pub refusedBy : ℕ → ℕ → Outcome
   refusedBy number place = record { answer = Refused number place s; rows = rows }
 
@@ -96,7 +97,7 @@ module _ (s : State) (rows : List ℤ) where
     rows = sets rows 0 (numbers (rowsAfter (rulesOf (s .numbers)) s l));
   }
 
-  -- "15 fewer than ten row numbers per frame closed in this call", with "the call's first packet's" place
+  -- N1, N8, N12: "15 fewer than ten row numbers per frame closed in this call", with "the call's first packet's" place
   abbrev pub roomFor : ℕ → List Packet → Outcome
   roomFor closed l = pick (leb (closed * rowWidth) (length rows)) (acceptedAs l) (refusedBy 15 (s .past .packets))
 
@@ -104,11 +105,11 @@ module _ (s : State) (rows : List ℤ) where
   byScan (Fine closed) l = roomFor closed l
   byScan (Scan-Refused r) l = refusedBy (r .number) (r .place)
 
-  -- the answer to packets lent in slices of one length
+  -- P3, D1c: the answer to packets lent in slices of one length
   unfoldable pub feedAll : List Packet → Outcome
   feedAll l = pick (inRange s) (byScan (scanOf (s .past) (s .frames .begun) 0 l) l) (refusedBy 9 0)
 
-  -- "Order: 9, 10, then packet by packet 11 to 14, then 15."
+  -- N10, D1c: "Order: 9, 10, then packet by packet 11 to 14, then 15."
   unfoldable pub feedOf : List ℕ → List ℕ → List ℕ → Outcome
   feedOf ts ss ms =
       pick (inRange s) (byScan (scannedOf (s .past) (s .frames .begun) ts ss ms) (packets ts ss ms)) (refusedBy 9 0)
@@ -124,7 +125,7 @@ abbrev pub firstOf : List Refusal → Refusal
 firstOf [] = refusal 0 0
 firstOf (r ∷ more) = pick (eqb (r .number) 0) (firstOf more) r
 
--- "9": the state is out of its ranges
+-- N4: "9": the state is out of its ranges
 abbrev pub rangeNumber : State → ℕ
 rangeNumber s = pick (inRange s) 0 9
 
@@ -132,12 +133,12 @@ module _ (s : State) (rows : List ℤ) (ts ss ms : List ℕ) where
   abbrev scanned : Scanned
   scanned = scannedOf (s .past) (s .frames .begun) ts ss ms
 
-  -- "15 fewer than ten row numbers per frame closed in this call"
+  -- N8: "15 fewer than ten row numbers per frame closed in this call"
   abbrev pub roomNumber : ℕ
   roomNumber = pick (leb (scannedClosed scanned * rowWidth) (length rows)) 0 15
 
-  -- "Order: 9, 10, then packet by packet 11 to 14, then 15."; "the packet's place in the history (0 for 1 to 10 and 24, the call's first
-  -- packet's for 15)"
+  -- N10, N12: "Order: 9, 10, then packet by packet 11 to 14, then 15."; "the packet's place in the history (0 for 1 to 10 and 24, the
+  -- call's first packet's for 15)"
   abbrev pub refusals : List Refusal
   refusals = refusal (rangeNumber s) 0 ∷ refusal (scannedNumber scanned) (scannedPlace scanned) ∷ refusal roomNumber (s .past .packets) ∷ []
 
@@ -167,21 +168,21 @@ allOf (c ∷ cs) = c .packets ++ allOf cs
 abbrev pub writes : State → Call → List ℤ
 writes s c = numbers (rowsAfter (rulesOf (s .numbers)) s (c .packets))
 
--- a call is accepted: the state after it, and what it writes laid from the front of its rows; "unused row numbers stay untouched"
+-- V4: a call is accepted: the state after it, and what it writes laid from the front of its rows; "unused row numbers stay untouched"
 abbrev pub Accepts : State → Call → State → Type 0
 Accepts s c t = feedAll s (c .rows) (c .packets) ≡ record { answer = Accepted t; rows = sets (c .rows) 0 (writes s c) }
 
--- a call is refused: it names the number and the place, and leaves state and rows
+-- N11: a call is refused: it names the number and the place, and leaves state and rows
 abbrev pub Refuses : State → Call → ℕ → ℕ → Type 0
 Refuses s c number place = feedAll s (c .rows) (c .packets) ≡ refusedBy s (c .rows) number place
 
--- each call is accepted, from the state that the one before it gave; what they write, one after the other
+-- D3a: each call is accepted, from the state that the one before it gave; what they write, one after the other
 pub data Deals : State → List Call → State → List ℤ → Type 0 where
   none : {s : State} → Deals s [] s []
   call : {s t u : State} {c : Call} {cs : List Call} {more : List ℤ} → Accepts s c t → Deals t cs u more
       → Deals s (c ∷ cs) u (writes s c ++ more)
 
--- each call is accepted, up to the first that is refused, which names this number and place
+-- N13: each call is accepted, up to the first that is refused, which names this number and place
 pub data Stops : State → List Call → ℕ → ℕ → Type 0 where
   here : {s : State} {c : Call} {cs : List Call} {number place : ℕ} → Refuses s c number place → Stops s (c ∷ cs) number place
   later : {s t : State} {c : Call} {cs : List Call} {number place : ℕ} → Accepts s c t → Stops t cs number place

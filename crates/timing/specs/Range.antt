@@ -34,12 +34,12 @@ module _ (s : State) where
   abbrev pub table : List Entry
   table = streamTable ++ (P.table (s .past) ++ (B.table (s .bucket) (s .past .packets) ++ (drainedTable ++ framesTable)))
 
-  -- "9 exactly a state whose stream numbers set-up refuses or with a number outside its range in docs/"
+  -- N1, N4: "9 exactly a state whose stream numbers set-up refuses or with a number outside its range in docs/"
   unfoldable pub inRange : Bool
   unfolding after rulesOf
   inRange = every (tests table)
 
--- the same with no test and no list: what a state in range is known to be
+-- N5: the same with no test and no list: what a state in range is known to be
 pub record Sound (s : State) : Type 0 where
   pub accepted : setUpOf (s .numbers) ≡ 0
   pub past : P.Ranged (s .past)

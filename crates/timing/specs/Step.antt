@@ -24,7 +24,7 @@ use Rattle.timing.specs.declared.State.{State}
 abbrev pub ofParameters : Parameters → StreamNumbers
 ofParameters p = record { parameters = p }
 
--- the refusals 1 to 7 of set-up, 0 where there is none
+-- N2: the refusals 1 to 7 of set-up, 0 where there is none
 abbrev pub setUpOf : StreamNumbers → ℕ
 setUpOf x = setUpRefusal (x .parameters)
 
@@ -44,6 +44,7 @@ rulesOf x = record {
   limit = cMax (classOf (x .parameters .class)) (x .parameters .schedule) (frameOf x) (x .parameters .n);
 }
 
+-- B7: the state before the first packet
 abbrev pub freshOf : StreamNumbers → State
 freshOf x = record { numbers = x; past = nothing; drained = 0; bucket = B.emptyOf; frames = F.noFrames }
 
@@ -53,7 +54,7 @@ freshOf x = record { numbers = x; past = nothing; drained = 0; bucket = B.emptyO
 abbrev pub drainedOf : Rules → Past → ℕ → ℕ
 drainedOf rules past t = instants (grains (elapsedOf past t)) (rules .drains .num) (rules .drains .den)
 
--- the packet arrives: it is in the bucket, and in the open frame if there is one
+-- P4: the packet arrives: it is in the bucket, and in the open frame if there is one
 unfoldable pub arriveOf : Rules → State → ℕ → ℕ → State
 arriveOf rules s t stamp = record {
   numbers = s .numbers;
@@ -63,7 +64,7 @@ arriveOf rules s t stamp = record {
   frames = F.arriveOf (rules .plan) (s .frames) t stamp;
 }
 
--- and is a marker
+-- B5: and is a marker, which leaves the bucket as it is
 unfoldable pub markOf : Rules → State → ℕ → State
 markOf rules s t = record {
   numbers = s .numbers;
