@@ -33,6 +33,7 @@ packets =
     ∷ 0 ∷ 14 ∷ 2 ∷ 0 ∷ 0 ∷ 0 ∷ 0 ∷ 2 ∷ 23 ∷ 149 ∷ 96 ∷ 0 ∷ 0 ∷ 7 ∷ 8 ∷ 1
     ∷ []
 
+-- L5: the whole output, computed from the bytes of the file
 pub file-output : outputOf (head ++ packets)
     ≡ codes "frame 0 0 0 18900000 0 18900000 1740000 45900000 1 0\npackets 5 frames 1 peak 2 network pass buffer pass\n"
 unfolding outputOf rowLines rowLine fields digitsOf summaryLine refusalLine setUpRefusal firstNo troFits frameLength activeRatio classOf

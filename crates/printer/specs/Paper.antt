@@ -11,12 +11,12 @@ use Rattle.timing.specs.declared.Judged.the-variants.{Given, Refused as Not-Jud
 use Rattle.timing.specs.Answers.{verdictOf}
 use Rattle.timing.specs.Step.{ofParameters, rulesOf, freshOf, stateAfter, rowsAfter}
 
--- "It prints `frame` and the ten numbers of each row as it closes"
+-- L2: "It prints `frame` and the ten numbers of each row as it closes"
 unfoldable pub rowLines : List Row → List ℕ
 rowLines [] = []
 rowLines (r ∷ rs) = rowLine r ++ rowLines rs
 
--- "then one last line: packets, frames closed, peak, verdicts"; a state that set-up and accepted packets lead to has a verdict
+-- L3: "then one last line: packets, frames closed, peak, verdicts"; a state that set-up and accepted packets lead to has a verdict
 -- (proofs/Output.antt, last-line)
 abbrev pub judgedLine : State → Judged → List ℕ
 judgedLine s (Given v) = summaryLine (s .past .packets) (s .frames .closed) (s .bucket .peak) (v .network) (v .buffer)
@@ -25,7 +25,7 @@ judgedLine s (Not-Judged number) = refusalLine number 0
 abbrev pub sumLine : State → List ℕ
 sumLine s = judgedLine s (verdictOf s)
 
--- "or, after the rows closed before a refusal, `refused`, number, offset."
+-- L4: "or, after the rows closed before a refusal, `refused`, number, offset."
 abbrev pub lastLine : State → Ending → List ℕ
 lastLine s done = sumLine s
 lastLine s (stopped number offset) = refusalLine number offset
@@ -42,6 +42,6 @@ abbrev pub outputBy : Reading → List ℕ
 outputBy (unread number offset) = refusalLine number offset
 outputBy (read numbers r) = linesOf (rulesOf (ofParameters numbers)) (freshOf (ofParameters numbers)) r
 
--- "`vtiming` reads a file on standard input": its whole output
+-- L1: "`vtiming` reads a file on standard input": its whole output
 unfoldable pub outputOf : List ℕ → List ℕ
 outputOf file = outputBy (readingOf file)

@@ -21,7 +21,7 @@ use Rattle.probe.specs.Words.{wordsOf, heldBy}
 
 -- ---- set-up
 
--- 1 to 7; then 15 where fewer words are lent than a state is
+-- X8: 1 to 7; then 15 where fewer words are lent than a state is
 unfoldable pub wordsNumber : StreamNumbers → ℕ → ℕ
 wordsNumber x room = orElse (setUpNumber (setUpAs x)) (pick (leb 32 room) 0 15)
 
@@ -45,20 +45,21 @@ pub record CallOutcome : Type 0 where
   pub out : List ℕ
 
 module _ (words : List ℕ) (rows : List ℤ) (out : List ℕ) where
-  -- "A refused call accepts none of its packets, returns the number and the packet's place in the history [..], state and rows unchanged."
+  -- N11: "A refused call accepts none of its packets, returns the number and the packet's place in the history [..], state and rows
+  -- unchanged."
   abbrev pub refused : ℕ → ℕ → CallOutcome
   refused number place = record { number = number; place = place; words = words; rows = rows; out = out }
 
   abbrev pub accepted : State → List ℤ → CallOutcome
   accepted t after = record { number = 0; place = 0; words = sets words 0 (wordsOf t); rows = after; out = sets out 0 (summaryOf t) }
 
-  -- what `feed` answers from the state s; where it accepts, 15 after all else if fewer than nine numbers are lent for the summary
+  -- X8: what `feed` answers from the state s; where it accepts, 15 after all else if fewer than nine numbers are lent for the summary
   abbrev pub byFed : State → Fed → List ℤ → CallOutcome
   byFed s (Accepted t) after = pick (leb summaryWidth (length out)) (accepted t after) (refused 15 (s .past .packets))
   byFed s (Refused number place t) after = refused number place
 
   module _ (ts ss ms : List ℕ) where
-    -- "9 exactly a state [..] with a number outside its range": so words that hold no state are 9 too
+    -- X7, N4: "9 exactly a state [..] with a number outside its range": so words that hold no state are 9 too
     abbrev pub byHeld : Held → CallOutcome
     byHeld (Known s) = byFed s (feedOf s rows ts ss ms .answer) (feedOf s rows ts ss ms .rows)
     byHeld Nothing = refused 9 0

@@ -46,8 +46,8 @@ AllWhole (c ∷ cs) = Whole c × AllWhole cs
 abbrev pub told : List ℕ → Lent → CallOutcome
 told words c = callOf words (c .rows) (c .out) (c .ts) (c .ss) (c .ms)
 
--- each call is accepted, on the words that the one before it left, which hold a state; it lays what it writes (`writes`) from the front of
--- its own rows, and what they write, one after the other, is at the end
+-- D3a, X8: each call is accepted, on the words that the one before it left, which hold a state; it lays what it writes (`writes`) from the
+-- front of its own rows, and what they write, one after the other, is at the end
 pub data Dealt : List ℕ → List Lent → List ℕ → List ℤ → Type 0 where
   no-call : {words : List ℕ} → Dealt words [] words []
   one-call : {words end : List ℕ} {c : Lent} {cs : List Lent} {more : List ℤ} (s : State) → Holds words s

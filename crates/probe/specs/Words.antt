@@ -37,7 +37,7 @@ verdictWords s =
     ∷ bufferPlace (s .frames .buffer)
     ∷ []
 
--- the values of the state's table: a number as itself, a bool as 0 or 1, an answer as its three numbers
+-- X7: the values of the state's table: a number as itself, a bool as 0 or 1, an answer as its three numbers
 unfoldable pub wordsOf : State → List ℕ
 wordsOf s = values (table s)
 
@@ -104,7 +104,7 @@ same [] (y ∷ ys) = false
 same (x ∷ xs) [] = false
 same (x ∷ xs) (y ∷ ys) = eqb x y && same xs ys
 
--- words hold a state exactly where they are the words of the state that they are read as, no more and no fewer
+-- X7: words hold a state exactly where they are the words of the state that they are read as, no more and no fewer
 unfoldable pub heldBy : List ℕ → Held
 unfolding wordsOf stateIn same
 heldBy w = pick (same (wordsOf (stateIn w)) w) (Known (stateIn w)) Nothing

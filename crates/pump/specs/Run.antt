@@ -34,11 +34,11 @@ pub data Reaches (room : ℕ) : Pump → List ℕ → List ℕ → List ℕ → 
   reads : {p : Pump} {w file text : List ℕ} (k : ℕ) (after : List ℕ) → Reaches room p w file text → Read-in p w k after
       → Reaches room (grown (settledOf p) k) after (file ++ came-in p k after) text
 
--- whatever follows the bytes that were read, the text is a front of the output; nothing follows the last
+-- X10: whatever follows the bytes that were read, the text is a front of the output; nothing follows the last
 abbrev pub Front : Bool → List ℕ → List ℕ → Type 0
 Front last file text = (v : List ℕ) → (last ≡ true → v ≡ []) → (rest : List ℕ) × (text ++ rest ≡ outputOf (file ++ v))
 
--- and here all of it
+-- X10: and here all of it
 abbrev pub Whole-output : Bool → List ℕ → List ℕ → Type 0
 Whole-output last file text = (v : List ℕ) → (last ≡ true → v ≡ []) → text ≡ outputOf (file ++ v)
 

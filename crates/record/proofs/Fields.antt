@@ -37,6 +37,7 @@ pub record PacketBack (p : Packet) (l : List ℕ) : Type 0 where
   pub kind-2 : kindOf l ≡ 2
   pub same : packetAt l ≡ p
 
+-- F4: a packet that is written is read back
 pub packet-back : (p : Packet) (rest : List ℕ) → Fit packetWidths (packetFields p) → PacketBack p (packetRecord p ++ rest)
 packet-back p rest f =
     let l = packetRecord p ++ rest in
@@ -51,6 +52,7 @@ pub record ParametersBack (s : Parameters) (l : List ℕ) : Type 0 where
   pub kind-1 : kindOf l ≡ 1
   pub same : parametersAt l ≡ s
 
+-- F3: parameters that are written are read back
 pub parameters-back : (s : Parameters) (rest : List ℕ) → ParametersHeld s → ParametersBack s (parameterRecord s ++ rest)
 parameters-back s rest h =
     let l = parameterRecord s ++ rest in

@@ -106,6 +106,7 @@ not-lone first l h = rw (ne-eqb (length l) 0 (λ e. omega arith)) (go first)
     go true = refl
     go false = refl
 
+-- F8: the version byte alone
 pub lone-23 : (l : List ℕ) → length l ≡ 0 → formatRefusal true l ≡ 23
 unfolding formatRefusal
 lone-23 l e = rw (eq-eqb (length l) 0 e)

@@ -42,6 +42,7 @@ length-records [] = refl
 length-records (p ∷ ps) =
     rw (length-append (packetRecord p) (recordsOf ps), length-packet p, length-records ps) (omega arith)
 
+-- F1: 19 bytes, and 16 for each packet
 pub length-file : (s : Parameters) (ps : List Packet) → length (bytesIn s ps) ≡ fileLength (length ps)
 unfolding bytesIn
 length-file s ps = rw (length-append (headOf s) (recordsOf ps), length-head s, length-records ps)

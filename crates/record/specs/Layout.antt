@@ -7,14 +7,15 @@ use Rattle.packet.specs.declared.Packet.{Packet}
 use Rattle.limits.specs.declared.Parameters.{Parameters}
 use Rattle.record.specs.Paper.{parametersLength, packetLength}
 
--- "length (two bytes, big-endian, of the body), body. Kind 1, 16 bytes: kind, rate, schedule, class, height (2), n (4), MAXUDP (2), TRO (4"
+-- F1, F3: "length (two bytes, big-endian, of the body), body. Kind 1, 16 bytes: kind, rate, schedule, class, height (2), n (4), MAXUDP (2),
+-- TRO (4"
 abbrev pub parameterWidths : List ℕ
 parameterWidths = 2 ∷ 1 ∷ 1 ∷ 1 ∷ 1 ∷ 2 ∷ 4 ∷ 2 ∷ 4 ∷ []
 
 abbrev pub parameterFields : Parameters → List ℕ
 parameterFields s = parametersLength ∷ 1 ∷ s .rate ∷ s .schedule ∷ s .class ∷ s .height ∷ s .n ∷ s .maxudp ∷ s .tro ∷ []
 
--- "Kind 2, 14 bytes: kind, arrival (8), timestamp (4), marker."
+-- F1, F4: "Kind 2, 14 bytes: kind, arrival (8), timestamp (4), marker."
 abbrev pub packetWidths : List ℕ
 packetWidths = 2 ∷ 1 ∷ 8 ∷ 4 ∷ 1 ∷ []
 
@@ -24,14 +25,14 @@ packetFields p = packetLength ∷ 2 ∷ p .time ∷ p .stamp ∷ p .marker ∷ [
 abbrev pub packetWith : ℕ → ℕ → ℕ → Packet
 packetWith t stamp marker = record { time = t; stamp = stamp; marker = marker }
 
--- "All big-endian."
+-- F2: "All big-endian."
 abbrev pub parameterRecord : Parameters → List ℕ
 parameterRecord s = fieldBytes Big parameterWidths (parameterFields s)
 
 abbrev pub packetRecord : Packet → List ℕ
 packetRecord p = fieldBytes Big packetWidths (packetFields p)
 
--- the packets' records, and the whole file: "Version byte 1, then records"
+-- F1: the packets' records, and the whole file: "Version byte 1, then records"
 unfoldable pub recordsOf : List Packet → List ℕ
 recordsOf [] = []
 recordsOf (p ∷ ps) = packetRecord p ++ recordsOf ps

@@ -13,25 +13,25 @@ use Rattle.packet.specs.Step.{nothing, numberOf, nextOf}
 use Rattle.endian.specs.Number.{numberAt}
 use Rattle.limits.specs.declared.Parameters.{Parameters}
 
--- "Version byte 1": the empty file has no byte 1 either
+-- F1: "Version byte 1": the empty file has no byte 1 either
 abbrev pub versionFits : List ℕ → Bool
 versionFits s = eqb (getD s 0 0) 1
 
--- "then records: length (two bytes, big-endian, of the body), body."
+-- F1: "then records: length (two bytes, big-endian, of the body), body."
 abbrev pub bodyLength : List ℕ → ℕ
 bodyLength l = numberAt 2 l 0
 
 abbrev pub kindOf : List ℕ → ℕ
 kindOf l = getD l 2 0
 
--- "Kind 1, 16 bytes": the length of its body, and the bytes of the whole record
+-- F3: "Kind 1, 16 bytes": the length of its body, and the bytes of the whole record
 abbrev pub parametersLength : ℕ
 parametersLength = 16
 
 abbrev pub parametersBytes : ℕ
 parametersBytes = 2 + parametersLength
 
--- "Kind 2, 14 bytes"
+-- F4: "Kind 2, 14 bytes"
 abbrev pub packetLength : ℕ
 packetLength = 14
 
@@ -42,7 +42,7 @@ packetBytes = 2 + packetLength
 abbrev pub headBytes : ℕ
 headBytes = 1 + parametersBytes
 
--- "Kind 1, 16 bytes: kind, rate, schedule, class, height (2), n (4), MAXUDP (2), TRO (4; all ones is default)."
+-- F3, F5: "Kind 1, 16 bytes: kind, rate, schedule, class, height (2), n (4), MAXUDP (2), TRO (4; all ones is default)."
 -- "Records keep class 0 and a default TRO as written."
 abbrev pub parametersAt : List ℕ → Parameters
 parametersAt l = record {
@@ -55,7 +55,7 @@ parametersAt l = record {
   tro = numberAt 4 l 14;
 }
 
--- "Kind 2, 14 bytes: kind, arrival (8), timestamp (4), marker."
+-- F4: "Kind 2, 14 bytes: kind, arrival (8), timestamp (4), marker."
 abbrev pub packetAt : List ℕ → Packet
 packetAt l = record { time = numberAt 8 l 3; stamp = numberAt 4 l 11; marker = getD l 15 0 }
 
@@ -63,20 +63,20 @@ packetAt l = record { time = numberAt 8 l 3; stamp = numberAt 4 l 11; marker = g
 unfoldable pub isParameters : ℕ → Bool
 isParameters kind = eqb kind 1
 
--- the length of each kind's body; 0, which no record has, for an unknown kind
+-- F3, F4: the length of each kind's body; 0, which no record has, for an unknown kind
 unfoldable pub kindLength : ℕ → ℕ
 kindLength kind = pick (isParameters kind) parametersLength (pick (eqb kind 2) packetLength 0)
 
--- "A lone version byte is 23 at offset 1."
+-- F8: "A lone version byte is 23 at offset 1."
 abbrev pub lone : Bool → List ℕ → Bool
 lone first l = first && eqb (length l) 0
 
--- what 23 is not: "no parameters first, or parameters again"
+-- N1: what 23 is not: "no parameters first, or parameters again"
 abbrev pub inPlace : Bool → ℕ → Bool
 inPlace first kind = pick first (isParameters kind) (not (isParameters kind))
 
--- "21 record cut short, or its length 0; 22 unknown kind, or wrong length for its kind; 23 no parameters first, or parameters again":
--- "at one record 21, 22, 23 come in that order"; 0 where none is given. `first`: it is the first record of the file
+-- N1, F7: "21 record cut short, or its length 0; 22 unknown kind, or wrong length for its kind; 23 no parameters first, or parameters
+-- again": "at one record 21, 22, 23 come in that order"; 0 where none is given. `first`: it is the first record of the file
 unfoldable pub formatRefusal : Bool → List ℕ → ℕ
 formatRefusal first l =
     pick (lone first l) 23
@@ -87,7 +87,7 @@ formatRefusal first l =
     (pick (inPlace first (kindOf l)) 0 23)
     22))))
 
--- 21 to 23 come "before set-up and packet refusals"
+-- F7: 21 to 23 come "before set-up and packet refusals"
 abbrev pub parametersRefusal : List ℕ → ℕ
 parametersRefusal l = orElse (formatRefusal true l) (setUpRefusal (parametersAt l))
 
@@ -96,7 +96,7 @@ packetRefusal past l = orElse (formatRefusal false l) (numberOf past (packetAt l
 
 -- "Reading stops at the first record that is refused and gives its offset"
 
--- all was read, or a record was refused: the number and its offset
+-- F6: all was read, or a record was refused: the number and its offset
 pub data Ending : Type 0 where
   done : Ending
   stopped : ℕ → ℕ → Ending
@@ -112,7 +112,7 @@ none e = record { accepted = []; ending = e }
 abbrev pub more : Packet → Packets → Packets
 more p r = record { accepted = p ∷ r .accepted; ending = r .ending }
 
--- by at most so many records: each takes bytes, so that there are no more records than bytes
+-- F6: by at most so many records: each takes bytes, so that there are no more records than bytes
 unfoldable pub packetsBy : ℕ → Past → ℕ → List ℕ → Packets
 packetsBy zero past at l = none done
 packetsBy (suc k) past at l =
@@ -136,7 +136,7 @@ parametersIn l =
     (read (parametersAt l) (packetsIn nothing (1 + (2 + bodyLength l)) (drop (2 + bodyLength l) l)))
     (unread (parametersRefusal l) 1)
 
--- "20 file empty, or version byte not 1": "its offset (0 for 20)"
+-- N1, F6, F7: "20 file empty, or version byte not 1": "its offset (0 for 20)"
 unfoldable pub readingOf : List ℕ → Reading
 readingOf s = pick (versionFits s) (parametersIn (drop 1 s)) (unread 20 0)
 

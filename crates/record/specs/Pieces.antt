@@ -98,7 +98,7 @@ answers (suc k) at l =
 abbrev pub allAnswers : ℕ → List ℕ → Heard
 allAnswers k s = heard (headRead s) (λ at. answers k at (drop headBytes s))
 
--- the same of a file in pieces: the bytes held, and the pieces still to come; by at most so many steps
+-- X5: the same of a file in pieces: the bytes held, and the pieces still to come; by at most so many steps
 unfoldable pub inPieces : ℕ → ℕ → List ℕ → List (List ℕ) → List Next
 inPieces zero at held pieces = []
 inPieces (suc k) at held [] =
@@ -122,7 +122,7 @@ allInPieces k held (p ∷ pieces) =
 
 -- ---- what a window alone does not decide
 
--- two continuations that are told apart
+-- X5: two continuations that are told apart
 pub record Depends (at : ℕ) (w : List ℕ) : Type 0 where
   pub one : List ℕ
   pub other : List ℕ
@@ -176,7 +176,7 @@ AnsweredBy past at ps done l = l ≡ toldPackets at ps ++ (End ∷ [])
 AnsweredBy past at ps (stopped number offset) l =
     Then (toldPackets at ps) (StopsAt (pastAfter past ps) (at + packetBytes * length ps) number offset) l
 
--- the answers of a file are its records: all of them and the end, or those up to the refusal, with its number and offset
+-- F6: the answers of a file are its records: all of them and the end, or those up to the refusal, with its number and offset
 abbrev pub Answered : Reading → Heard → Type 0
 Answered (unread number offset) y = HeadRefused number offset (y .head)
 Answered (read parameters r) y = (y .head ≡ toldHead parameters) × AnsweredBy nothing headBytes (r .accepted) (r .ending) (y .after)

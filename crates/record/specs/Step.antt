@@ -55,7 +55,7 @@ headBy version l framed.Cut = head.Refused 21 1
 headBy version l (framed.Whole body kind) = firstOf version body kind l
 headBy version l framed.More = head.More
 
--- of a window from the first byte on
+-- X5: of a window from the first byte on
 unfoldable pub headPiece : List ℕ → Bool → Head
 headPiece w last =
     pick (eqb (length w) 0) (pick last (head.Refused 20 0) head.More)
@@ -73,7 +73,7 @@ after at size = cursor ((at + size) % 2 ^ 64)
 abbrev pub packetOf : List ℕ → Cursor → Next
 packetOf l c = next.Packet (packetAt l) c
 
--- the bytes of a refused record, its length among them: behind them the next one begins. At 21 there is no length to go by
+-- X6: the bytes of a refused record, its length among them: behind them the next one begins. At 21 there is no length to go by
 abbrev pub stepOver : ℕ → List ℕ → ℕ
 stepOver number l = pick (eqb number 21) 0 (2 + bodyLength l)
 
@@ -90,7 +90,7 @@ nextBy at l framed.Cut = next.Refused 21 at 0
 nextBy at l (framed.Whole body kind) = wholeOf at body kind l
 nextBy at l framed.More = next.More
 
--- of a window from an offset on
+-- X5: of a window from an offset on
 unfoldable pub nextPiece : ℕ → List ℕ → Bool → Next
 nextPiece at w last = nextBy at w (framedOf w last)
 

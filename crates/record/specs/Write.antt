@@ -21,16 +21,16 @@ use Rattle.record.specs.Paper.{packetBytes, headBytes}
 abbrev pub fileLength : ℕ → ℕ
 fileLength packets = headBytes + packetBytes * packets
 
--- "24 the writer's lent bytes are fewer than the file needs", with place 0
+-- N1, F9: "24 the writer's lent bytes are fewer than the file needs", with place 0
 abbrev pub fitting : ℕ → ℕ → Written
 fitting needed room = pick (leb needed room) (Done needed) (Refused 24 0)
 
--- 10 to 14, "the packet's place in the history (0 for 1 to 10 and 24)"
+-- N12: 10 to 14, "the packet's place in the history (0 for 1 to 10 and 24)"
 abbrev pub scanning : Scanned → ℕ → ℕ → Written
 scanning (scan.Fine closed) needed room = fitting needed room
 scanning (scan.Refused r) needed room = Refused (r .number) (r .place)
 
--- "The writer refuses by 1 to 7, 10 to 14, then 24"
+-- F9: "The writer refuses by 1 to 7, 10 to 14, then 24"
 unfoldable pub writtenOf : Parameters → List ℕ → List ℕ → List ℕ → ℕ → Written
 writtenOf s ts ss ms room =
     pick (eqb (setUpRefusal s) 0)
@@ -46,7 +46,7 @@ abbrev pub writtenPlace : Written → ℕ
 writtenPlace (Done needed) = 0
 writtenPlace (Refused number place) = place
 
--- ".. and then writes nothing"; else the file stands in front, and the bytes beyond stay
+-- F10: ".. and then writes nothing"; else the file stands in front, and the bytes beyond stay
 abbrev pub leftBy : Written → List ℕ → List ℕ → List ℕ
 leftBy (Done needed) file out = file ++ drop needed out
 leftBy (Refused number place) file out = out

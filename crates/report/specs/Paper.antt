@@ -25,11 +25,11 @@ stateOf x ps = stateAfter (rulesOf x) (freshOf x) ps
 abbrev pub rowsOf : StreamNumbers → List Packet → List Row
 rowsOf x ps = rowsAfter (rulesOf x) (freshOf x) ps
 
--- "fills lent bytes with nine numbers (packets, frames, peak; [..]), then the rows"
+-- C1: "fills lent bytes with nine numbers (packets, frames, peak; [..]), then the rows"
 abbrev pub reportOf : StreamNumbers → List Packet → List ℤ
 reportOf x ps = map pos (summaryOf (stateOf x ps)) ++ numbers (rowsOf x ps)
 
--- "Each number is 8 bytes, signed, big-endian."
+-- C3: "Each number is 8 bytes, signed, big-endian."
 abbrev pub signed : ℤ → ℕ
 signed z = ofZ w64 z
 
@@ -55,7 +55,7 @@ summaryBytes = numberBytes * summaryWidth
 abbrev pub bytesFor : Parameters → List Packet → List ℕ
 bytesFor s ps = encoded (reportOf (ofParameters s) ps)
 
--- the refusal number and the offset: "both are 0 when accepted"
+-- C5: the refusal number and the offset: "both are 0 when accepted"
 pub record Answer : Type 0 where
   pub number : ℕ
   pub offset : ℕ
@@ -63,7 +63,7 @@ pub record Answer : Type 0 where
 abbrev pub answer : ℕ → ℕ → Answer
 answer number offset = record { number = number; offset = offset }
 
--- "Too few bytes is 15 at the file's length, after all else"
+-- C4: "Too few bytes is 15 at the file's length, after all else"
 abbrev pub answered : ℕ → ℕ → File → Answer
 answered size room (file s ps) = pick (leb (length (bytesFor s ps)) room) (answer 0 0) (answer 15 size)
 answered size room (refused number offset) = answer number offset
@@ -72,7 +72,7 @@ answered size room (refused number offset) = answer number offset
 unfoldable pub answerOf : List ℕ → ℕ → Answer
 answerOf s room = answered (length s) room (fileOf s)
 
--- how many lent bytes are enough: those of the report; none are needed to be told of a refusal
+-- X1: how many lent bytes are enough: those of the report; none are needed to be told of a refusal
 abbrev pub roomFor : File → ℕ
 roomFor (file s ps) = length (bytesFor s ps)
 roomFor (refused number offset) = 0
@@ -80,7 +80,7 @@ roomFor (refused number offset) = 0
 unfoldable pub roomOf : List ℕ → ℕ
 roomOf s = roomFor (fileOf s)
 
--- "bytes beyond stay"; "refused, it writes nothing"
+-- C1, C4: "bytes beyond stay"; "refused, it writes nothing"
 abbrev pub filled : List ℕ → File → List ℕ
 filled out (file s ps) = pick (leb (length (bytesFor s ps)) (length out)) (bytesFor s ps ++ drop (length (bytesFor s ps)) out) out
 filled out (refused number offset) = out
@@ -89,11 +89,11 @@ filled out (refused number offset) = out
 unfoldable pub filledBy : List ℕ → List ℕ → List ℕ
 filledBy s out = filled out (fileOf s)
 
--- a stream's frame length and TRO in grains, C_MAX and VRX_FULL in packets
+-- X2: a stream's frame length and TRO in grains, C_MAX and VRX_FULL in packets
 abbrev pub limitsOf : StreamNumbers → List ℕ
 limitsOf x = rulesOf x .plan .period ∷ rulesOf x .plan .tro ∷ rulesOf x .limit ∷ rulesOf x .plan .full ∷ []
 
--- 1 to 7 of set-up; then 15 where fewer than the four numbers are lent
+-- X2: 1 to 7 of set-up; then 15 where fewer than the four numbers are lent
 unfoldable pub limitsNumber : StreamNumbers → ℕ → ℕ
 limitsNumber x room = orElse (setUpNumber (setUpAs x)) (pick (leb 4 room) 0 15)
 

@@ -68,6 +68,7 @@ pub record CallGives (s out : List ℕ) (number : ℕ) (after : List ℕ) : Type
   pub number-is : number ≡ answerOf s (length out) .number
   pub bytes-are : after ≡ filledBy s out
 
+-- X4: the writer for C: the number, and what it leaves in the lent bytes
 pub record WriteGives (s : Parameters) (ts ss ms out : List ℕ) (number : ℕ) (after : List ℕ) : Type 0 where
   pub number-is : number ≡ writtenNumber (writtenOf s ts ss ms (length out))
   pub bytes-are : after ≡ leftBy (writtenOf s ts ss ms (length out)) (bytesIn s (packets ts ss ms)) out
@@ -76,10 +77,11 @@ pub record LimitsGives (x : StreamNumbers) (out : List ℕ) (number : ℕ) (afte
   pub number-is : number ≡ limitsNumber x (length out)
   pub numbers-are : after ≡ limitsLeft x out
 
--- 16 of the graph; then 15 where fewer than the three doubles are lent
+-- X3: 16 of the graph; then 15 where fewer than the three doubles are lent
 abbrev pub drawNumber : Drawn → ℕ → ℕ
 drawNumber d room = orElse (drawnNumber d) (pick (leb 3 room) 0 15)
 
+-- X3: refused, nothing is written
 abbrev pub drawLeft : Drawn → List Float → List Float
 drawLeft (Figures g) out = pick (leb 3 (length out)) (g .fpt ∷ g .margin ∷ g .latency ∷ drop 3 out) out
 drawLeft (Not-Drawn number) out = out

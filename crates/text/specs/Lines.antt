@@ -18,7 +18,7 @@ unfoldable pub fields : List ℤ → List ℕ
 fields [] = []
 fields (z ∷ zs) = codes " " ++ signed z ++ fields zs
 
--- "It prints `frame` and the ten numbers of each row as it closes"
+-- L2: "It prints `frame` and the ten numbers of each row as it closes"
 unfoldable pub rowLine : Row → List ℕ
 rowLine row = codes "frame" ++ fields (numbersOf row) ++ codes "\n"
 
@@ -26,7 +26,7 @@ rowLine row = codes "frame" ++ fields (numbersOf row) ++ codes "\n"
 abbrev pub pairWords : List ℕ → ℕ → ℕ → List ℕ
 pairWords word first second = word ++ digits first ++ codes " " ++ digits second
 
--- "then one last line: packets, frames closed, peak, verdicts (as `network burst 0 4`, `buffer under 0 3`)"
+-- L3: "then one last line: packets, frames closed, peak, verdicts (as `network burst 0 4`, `buffer under 0 3`)"
 abbrev pub countWords : (packets closed peak : ℕ) → List ℕ
 countWords packets closed peak =
     codes "packets " ++ digits packets ++ codes " frames " ++ digits closed ++ codes " peak " ++ digits peak
@@ -45,7 +45,7 @@ unfoldable pub summaryLine : (packets closed peak : ℕ) → Network → Buffer 
 summaryLine packets closed peak network buffer =
     countWords packets closed peak ++ codes " network " ++ networkWords network ++ codes " buffer " ++ bufferWords buffer ++ codes "\n"
 
--- "or, after the rows closed before a refusal, `refused`, number, offset."
+-- L4: "or, after the rows closed before a refusal, `refused`, number, offset."
 unfoldable pub refusalLine : (number offset : ℕ) → List ℕ
 refusalLine number offset = pairWords (codes "refused ") number offset ++ codes "\n"
 
