@@ -41,66 +41,69 @@ use Rattle.probe.proofs.Dealing as call-proved
 -- ---- a file and lent bytes
 
 module _ (s : List ℕ) where
-  -- "Too few bytes is 15 at the file's length, after all else": a refused file's number and offset do not depend on the room
+  -- C4, C5: "Too few bytes is 15 at the file's length, after all else": a refused file's number and offset do not depend on the room
   pub refused-first : (room number offset : ℕ) → fileOf s ≡ refused number offset → answerOf s room ≡ answer number offset
   unfolding answerOf
   refused-first room number offset e = ap (answered (length s) room) e
 
-  -- they are the check's own, for each number that it gives
+  -- C5, F6: they are the check's own, for each number that it gives
   pub as-checked : (room : ℕ) → (checkedNumber (checkedOf s) ≡ 0 → ⊥)
       → answerOf s room ≡ answer (checkedNumber (checkedOf s)) (checkedOffset (checkedOf s))
   as-checked = file-proved.as-checked s
 
-  -- and no room is needed to be told of them
+  -- X1: and no room is needed to be told of them
   pub refused-room : (number offset : ℕ) → fileOf s ≡ refused number offset → roomOf s ≡ 0
   unfolding roomOf
   refused-room number offset e = ap roomFor e
 
-  -- "refused, it writes nothing": whatever number but 0 is returned
+  -- C4: "refused, it writes nothing": whatever number but 0 is returned
   pub refused-writes-nothing : (out : List ℕ) → (answerOf s (length out) .number ≡ 0 → ⊥) → filledBy s out ≡ out
   refused-writes-nothing = file-proved.refused-writes-nothing s
 
   -- of a file that is accepted
   module _ (w : Parameters) (ps : List Packet) (e : fileOf s ≡ file w ps) where
+    -- C4: 15 at the file's length
     pub too-few-bytes : (room : ℕ) → room < length (bytesFor w ps) → answerOf s room ≡ answer 15 (length s)
     unfolding answerOf
     too-few-bytes room h = ap (answered (length s) room) e ∙ rw (lt-leb (length (bytesFor w ps)) room h)
 
-    -- "both are 0 when accepted"
+    -- C5: "both are 0 when accepted"
     pub accepted-zero : (room : ℕ) → length (bytesFor w ps) ≤ room → answerOf s room ≡ answer 0 0
     unfolding answerOf
     accepted-zero room h = ap (answered (length s) room) e ∙ rw (le-leb (length (bytesFor w ps)) room h)
 
-    -- the room that is told of an accepted file is its report's length: with as much or more it is accepted, with less it is 15
+    -- X1: the room that is told of an accepted file is its report's length: with as much or more it is accepted, with less it is 15
     pub room-is : roomOf s ≡ length (bytesFor w ps)
     unfolding roomOf
     room-is = ap roomFor e
 
+    -- X1: with as much it is accepted
     pub enough-room : (room : ℕ) → roomOf s ≤ room → answerOf s room ≡ answer 0 0
     enough-room room h = accepted-zero room (omega (arith, room-is))
 
+    -- X1: with less it is 15
     pub too-little-room : (room : ℕ) → room < roomOf s → answerOf s room ≡ answer 15 (length s)
     too-little-room room h = too-few-bytes room (omega (arith, room-is))
 
-    -- "fills lent bytes with nine numbers [..], then the rows; bytes beyond stay"
+    -- C1: "fills lent bytes with nine numbers [..], then the rows; bytes beyond stay"
     pub filled-with : (out : List ℕ) → length (bytesFor w ps) ≤ length out → filledBy s out ≡ bytesFor w ps ++ drop (length (bytesFor w ps)) out
     unfolding filledBy
     filled-with out h = ap (filled out) e ∙ rw (le-leb (length (bytesFor w ps)) (length out) h)
 
-    -- the numbers are those of the measurement: one call of `feed` with the file's packets, from the fresh state and with just enough row
-    -- numbers lent, is accepted, and the bytes are the nine numbers of its state and the row numbers that it wrote
+    -- C1, C2: the numbers are those of the measurement: one call of `feed` with the file's packets, from the fresh state and with just
+    -- enough row numbers lent, is accepted, and the bytes are the nine numbers of its state and the row numbers that it wrote
     pub file-as-fed : (rows : List ℤ) → length rows ≡ length (numbers (rowsOf (ofParameters w) ps))
         → (state : State) × (written : List ℤ)
         × (feedAll (freshOf (ofParameters w)) rows ps ≡ record { answer = Accepted state; rows = written })
         × (bytesFor w ps ≡ encoded (map pos (summaryOf state) ++ written))
     file-as-fed = file-proved.as-fed s w ps e
 
-    -- "Each number is 8 bytes, signed, big-endian": number k of the report is what its 8 bytes are, read as a signed number
+    -- C3: "Each number is 8 bytes, signed, big-endian": number k of the report is what its 8 bytes are, read as a signed number
     pub reads-back : AllBelow 256 s → (k : ℕ) → k < length (reportOf (ofParameters w) ps)
         → toZ w64 (numberOf (take numberBytes (drop (numberBytes * k) (bytesFor w ps)))) ≡ getD (reportOf (ofParameters w) ps) k (pos 0)
     reads-back b k h = number-back (reportOf (ofParameters w) ps) k (report-fits s w ps (bytes-all s b) e) h
 
--- what `vtiming_write` writes is accepted: the bytes of its file, with the room that is told of them
+-- X4: what `vtiming_write` writes is accepted: the bytes of its file, with the room that is told of them
 pub written-measured : (w : Parameters) (ts ss ms out after : List ℕ) → ParametersHeld w
     → AllBelow 18446744073709551616 ts → AllBelow 4294967296 ss
     → WriteGives w ts ss ms out 0 after → (room : ℕ) → roomOf (take (fileLength (length ts)) after) ≤ room
@@ -111,37 +114,37 @@ written-measured w ts ss ms out after hw ht hs h =
 
 -- ---- set-up and one call over words
 
--- the words that set-up leaves hold the fresh state
+-- X8: the words that set-up leaves hold the fresh state
 pub set-up-holds : (x : StreamNumbers) (words : List ℕ) → ParametersHeld (x .parameters) → setUpOf x ≡ 0 → 32 ≤ length words
     → (wordsNumber x (length words) ≡ 0) × Holds (setUpLeft x words) (freshOf x)
 set-up-holds = call-proved.set-up-holds
 
 module _ (words : List ℕ) (rows : List ℤ) (out ts ss ms : List ℕ) where
-  -- "A refused call [..] state and rows unchanged": whatever number but 0 is returned
+  -- N11, X8: "A refused call [..] state and rows unchanged": whatever number but 0 is returned
   pub refused-changes-nothing : (callOf words rows out ts ss ms .number ≡ 0 → ⊥) → Unchanged words rows out (callOf words rows out ts ss ms)
   refused-changes-nothing = call-proved.refused-changes-nothing words rows out ts ss ms
 
-  -- words that hold no state are 9 at place 0
+  -- X7: words that hold no state are 9 at place 0
   pub no-state-9 : HoldNone words
       → (callOf words rows out ts ss ms .number ≡ 9) × (callOf words rows out ts ss ms .place ≡ 0)
   no-state-9 = call-proved.no-state-9 words rows out ts ss ms
 
   module _ (s : State) (e : Holds words s) (nine : summaryWidth ≤ length out) where
-    -- with room for the summary, number and place are those of `feed` from the state that the words hold
+    -- X8: with room for the summary, number and place are those of `feed` from the state that the words hold
     pub as-fed : (callOf words rows out ts ss ms .number ≡ fedNumber (feedOf s rows ts ss ms .answer))
         × (callOf words rows out ts ss ms .place ≡ fedPlace (feedOf s rows ts ss ms .answer))
     as-fed = call-proved.as-fed words rows out ts ss ms s e nine
 
-    -- and where it accepts: its state's words, its rows, and the nine numbers of that state
+    -- X8: and where it accepts: its state's words, its rows, and the nine numbers of that state
     pub as-accepted : (t : State) (after : List ℤ) → feedOf s rows ts ss ms ≡ record { answer = Accepted t; rows = after }
         → callOf words rows out ts ss ms ≡ accepted words rows out t after
     as-accepted = call-proved.as-accepted words rows out ts ss ms s e nine
 
 -- ---- call after call
 
--- "An accepted list of packets dealt out in order over any calls gives the rows, end state and verdicts of one call with the whole list.":
--- from the words that set-up leaves, each call is accepted, what they write to the rows is the one call's, and the words at the end hold
--- its state
+-- D3a, X8: "An accepted list of packets dealt out in order over any calls gives the rows, end state and verdicts of one call with the whole
+-- list.": from the words that set-up leaves, each call is accepted, what they write to the rows is the one call's, and the words at the end
+-- hold its state
 pub dealt-over-c-calls : (h : AcceptedHistory) → ParametersHeld (h .stream .parameters) → (words : List ℕ) → 32 ≤ length words
     → (cs : List Lent) → AllWhole cs → allOf (map asCall cs) ≡ h .packets → Rooms (freshOf (h .stream)) (map asCall cs)
     → (end : List ℕ) × Dealt (setUpLeft (h .stream) words) cs end (numbers (rowsOfAll h)) × Holds end (reached h)

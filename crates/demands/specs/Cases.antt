@@ -77,7 +77,7 @@ abbrev measured : File → List ℤ
 measured (file s l) = reportOf (ofParameters s) l
 measured (refused number offset) = pos number ∷ pos offset ∷ []
 
--- "parameters 6, 0, 1, height 1080, n 4, 1460, default TRO and five packets (nanoseconds, timestamp,
+-- L5: "parameters 6, 0, 1, height 1080, n 4, 1460, default TRO and five packets (nanoseconds, timestamp,
 -- marker): 19000000 0 1; 20700000 1800 0; 25500000 1800 0; 30300000 1800 0; 35100000 1800 1"
 abbrev the-file : List ℕ
 the-file =
@@ -94,42 +94,43 @@ the-file =
 
 unfoldable pub cases : List Case
 cases =
-    -- 1. "Rate 6: TRO 19,999 accepted, 20,000 refused."
+    -- K1: "Rate 6: TRO 19,999 accepted, 20,000 refused."
     (one (setUpRefusal (given 6 0 1 1080 4320 1460 19999)) gives one 0)
     ∷ (one (setUpRefusal (given 6 0 1 1080 4320 1460 20000)) gives one 7)
-    -- 2. "Rate 7: 16,683 accepted, 16,684 refused."
+    -- K2: "Rate 7: 16,683 accepted, 16,684 refused."
     ∷ (one (setUpRefusal (given 7 0 1 1080 4320 1460 16683)) gives one 0)
     ∷ (one (setUpRefusal (given 7 0 1 1080 4320 1460 16684)) gives one 7)
-    -- 3. "Rate 6 narrow: n 4147 gives C_MAX 4, 4148 gives 5."
+    -- K3: "Rate 6 narrow: n 4147 gives C_MAX 4, 4148 gives 5."
     ∷ (one (cMax (classOf 1) 0 (frameLength 6) 4147) gives one 4)
     ∷ (one (cMax (classOf 1) 0 (frameLength 6) 4148) gives one 5)
-    -- 4. "Rate 6 narrow, 1460: n 4859 gives VRX_FULL 8, 4860 gives 9."
+    -- K4: "Rate 6 narrow, 1460: n 4859 gives VRX_FULL 8, 4860 gives 9."
     ∷ (one (vrxFull (classOf 1) 1460 (frameLength 6) 4859) gives one 8)
     ∷ (one (vrxFull (classOf 1) 1460 (frameLength 6) 4860) gives one 9)
-    -- 5. "Rate 6: t 10,000,000 gives FPT −270,000,000." 6. "t 9,999,999 gives 269,999,973."
+    -- K5, K6: "Rate 6: t 10,000,000 gives FPT −270,000,000." "t 9,999,999 gives 269,999,973."
     ∷ ((firstPacketTime (grains 10000000) (frameLength 6) ∷ []) gives (negℤ (pos 270000000) ∷ []))
     ∷ ((firstPacketTime (grains 9999999) (frameLength 6) ∷ []) gives (pos 269999973 ∷ []))
-    -- 7. "Rate 6, n 4, TRO 700: a first packet 700,000 ns after T_CF is in time, level 1."
+    -- K7: "Rate 6, n 4, TRO 700: a first packet 700,000 ns after T_CF is in time, level 1."
     ∷ (late-then-level (late-by 20700000) 0 gives (pos 0 ∷ pos 1 ∷ []))
-    -- 8. "At 700,001 it is late, level 0, and least −1 with the other three in time."
+    -- K8: "At 700,001 it is late, level 0, and least −1 with the other three in time."
     ∷ (late-then-level (late-by 20700001) 0 gives (pos 1 ∷ pos 0 ∷ []))
     ∷ (others-late (late-by 20700001) gives (pos 0 ∷ pos 0 ∷ pos 0 ∷ []))
     ∷ (rows (rate6 4 700) (late-by 20700001)
     gives (pos 0 ∷ pos 0 ∷ pos 0 ∷ pos 18900027 ∷ pos 0 ∷ pos 18900027 ∷ negℤ (pos 27) ∷ pos 45900027 ∷ pos 1 ∷ negℤ (pos 1) ∷ []))
-    -- 9. "Five packets at one instant, C_MAX 4: burst 0 4."
+    -- K9: "Five packets at one instant, C_MAX 4: burst 0 4."
     ∷ (one (rulesOf (rate6 4 700) .limit) gives one 4)
     ∷ (network (after (rate6 4 700) (packet 5 0 0 ∷ packet 5 0 0 ∷ packet 5 0 0 ∷ packet 5 0 0 ∷ packet 5 0 0 ∷ []))
     gives (pos 1 ∷ pos 0 ∷ pos 4 ∷ []))
-    -- 10. "t 47,721,858,844,445 with timestamp 4,294,967,295: VL −1,288,490,188,499,985."
+    -- K10: "t 47,721,858,844,445 with timestamp 4,294,967,295: VL −1,288,490,188,499,985."
     ∷ ((latency (grains 47721858844445) 4294967295 ∷ []) gives (negℤ (pos 1288490188499985) ∷ []))
-    -- 11. "The file above.": its row, and packets 5, frames 1, peak 2, network pass, buffer pass
+    -- K11: "The file above.": its row, and packets 5, frames 1, peak 2, network pass, buffer pass
     ∷ (measured (fileOf the-file)
     gives (pos 5 ∷ pos 1 ∷ pos 2 ∷ pos 0 ∷ pos 0 ∷ pos 0 ∷ pos 1 ∷ pos 0 ∷ pos 0
     ∷ pos 0 ∷ pos 0 ∷ pos 0 ∷ pos 18900000 ∷ pos 0 ∷ pos 18900000 ∷ pos 1740000 ∷ pos 45900000 ∷ pos 1 ∷ pos 0 ∷ []))
-    -- 12. "The empty file: 20.", at offset 0
+    -- K12: "The empty file: 20.", at offset 0
     ∷ (measured (fileOf []) gives (pos 20 ∷ pos 0 ∷ []))
     ∷ []
 
+-- K1, K2, K3, K4, K5, K6, K7, K8, K9, K10, K11, K12: what the definitions give is what document 01 gives
 pub cases-hold : map (λ c. c .got) cases ≡ map (λ c. c .want) cases
 unfolding cases setUpRefusal firstNo troFits frameLength activeRatio classOf cMax vrxFull int troGrains defaultTro nearest phase encoded
     count fold rulesOf arriveOf markOf stepOf rowsAfter numbers summaryWith B.stepOf F.openedOf F.countedOf F.kindOf F.wholeRow

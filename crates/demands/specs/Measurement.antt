@@ -46,46 +46,50 @@ use Rattle.timing.proofs.Accepting as proved
 -- ---- Demand 1: "Bad input gets the numbered refusal of document 01, exactly when its table says, with the state and lent rows as they
 -- were."
 
--- `feedOf` is the table. A refused call changes nothing.
+-- D1d, N11: `feedOf` is the table. A refused call changes nothing.
 pub refusal-changes-nothing : (s t : State) (rows : List ℤ) (ts ss ms : List ℕ) (number place : ℕ)
     → (feedOf s rows ts ss ms) .answer ≡ Refused number place t → (t ≡ s) × ((feedOf s rows ts ss ms) .rows ≡ rows)
 refusal-changes-nothing = refused-stays
 
--- "Order: 9, 10, then packet by packet 11 to 14, then 15. A refused call [..] returns the number and the packet's place in the history (0
--- for 1 to 10 and 24, the call's first packet's for 15)": both are those of the first refusal in this order
+-- D1c, N4, N6, N7, N8, N10, N12: "Order: 9, 10, then packet by packet 11 to 14, then 15. A refused call [..] returns the number and the
+-- packet's place in the history (0 for 1 to 10 and 24, the call's first packet's for 15)": both are those of the first refusal in this
+-- order
 pub order-of-refusals : (s : State) (rows : List ℤ) (ts ss ms : List ℕ)
     → fedRefusal (feedOf s rows ts ss ms .answer) ≡ firstOf (refusals s rows ts ss ms)
 order-of-refusals = first-refused
 
--- 1 to 7 of set-up, 9 of a verdict, 16 of the graph; 0 where nothing is refused
+-- D1c, N2: 1 to 7 of set-up, 9 of a verdict, 16 of the graph; 0 where nothing is refused
 pub set-up-number : (x : StreamNumbers) → setUpNumber (setUpAs x) ≡ setUpOf x
 set-up-number = set-up-numbered
 
+-- D1c, X9: a verdict by 9
 pub verdict-number : (s : State) → judgedNumber (verdictOf s) ≡ rangeNumber s
 verdict-number = verdict-numbered
 
+-- D1c, N9: the graph by 16
 pub graph-number : (fpt margin latency : ℤ) → drawnNumber (graphOf fpt margin latency) ≡ graphNumber fpt margin latency
 graph-number = graph-numbered
 
--- slices of one length are answered as the packets that they hold; 10 is for any others
+-- P2, N6: slices of one length are answered as the packets that they hold; 10 is for any others
 pub slices-are-packets : (s : State) (rows : List ℤ) (ts ss ms : List ℕ) → OneLength ts ss ms
     → feedOf s rows ts ss ms ≡ feedAll s rows (packets ts ss ms)
 slices-are-packets = feed-slices
 
--- 9 is for no state that set-up gives, and for none that an accepted call gives: "no range is narrower than what accepted calls reach from
--- set-up on"
+-- N5: 9 is for no state that set-up gives, and for none that an accepted call gives: "no range is narrower than what accepted calls reach
+-- from set-up on"
 pub fresh-in-range : (x : StreamNumbers) → setUpOf x ≡ 0 → inRange (freshOf x) ≡ true
 fresh-in-range x e = of-sound (freshOf x) (sound-fresh x e)
 
+-- N5: nor for one that an accepted call gives
 pub accepted-stays-in-range : (s t : State) (rows : List ℤ) (l : List Packet) → (feedAll s rows l) .answer ≡ Accepted t → inRange t ≡ true
 accepted-stays-in-range = stays-in-range
 
--- "A call with no packets and no 9 is accepted and changes nothing."
+-- P3: "A call with no packets and no 9 is accepted and changes nothing."
 pub no-packets : (s : State) (rows : List ℤ) → inRange s ≡ true → feedAll s rows [] ≡ record { answer = Accepted s; rows = rows }
 no-packets = nothing-fed
 
--- "If a list fails at a packet by 11 to 14, the first refused call of any cutting names the same number and place, given room.": the calls
--- before it are accepted, and it leaves state and rows (`Stops`)
+-- N13: "If a list fails at a packet by 11 to 14, the first refused call of any cutting names the same number and place, given room.": the
+-- calls before it are accepted, and it leaves state and rows (`Stops`)
 pub first-refusal : (x : StreamNumbers) → setUpOf x ≡ 0 → (l : List Packet) (r : Refusal) → declared l ≡ Scan-Refused r
     → (calls : List Call) → allOf calls ≡ l → Rooms (freshOf x) calls → Stops (freshOf x) calls (r .number) (r .place)
 first-refusal = all-stop
@@ -93,36 +97,39 @@ first-refusal = all-stop
 -- ---- Of an accepted history h (History), the state that feeding it reaches.
 
 module _ (h : AcceptedHistory) where
-  -- it is the declared state of its history
+  -- B5: it is the declared state of its history
   pub state-of-history : reached h ≡ stateAt (h .stream) (h .packets) (size h)
   state-of-history = state-declared (h .stream) (h .packets)
 
   -- ---- Demand 2: "Frame times, offsets, latency, margin, gap, levels and limits equal the exact fractions; every other row number, the
   -- counts and the buffer answer are document 01's."
 
+  -- D2c: as many packets as the list has
   pub packets-counted : reached h .past .packets ≡ size h
   packets-counted = proved.packets-reached h
 
+  -- D2c: as many frames as it closes
   pub frames-counted : reached h .frames .closed ≡ numberAt (frames h) (size h)
   frames-counted = proved.frames-reached h
 
-  -- the rows written are those of the packets that close a frame, in order
+  -- D2b, V1: the rows written are those of the packets that close a frame, in order
   pub rows-in-order : rowsOfAll h ≡ rowsTo (h .stream) (h .packets) (size h)
   rows-in-order = rows-declared (h .stream) (h .packets)
 
-  -- and each is the row of its frame: FPT, RTP_OFFSET, VL, margin, GAP, peak, least, kind, detail and number
+  -- D2a, D2b, V1, V2, V3, P6, P8, P10, P11, P12, P13, P17, P18: and each is the row of its frame: FPT, RTP_OFFSET, VL, margin, GAP, peak,
+  -- least, kind, detail and number
   pub row-of-frame : (i : ℕ) → i < size h → closesAt (frames h) i ≡ true
       → (r : Row) × (rowsAt (plan h) (frames h) i ≡ r ∷ []) × RowIs (plan h) (frames h) i r
   row-of-frame = proved.row-at h
 
-  -- its ten numbers stand at 10·k to 10·k + 9 of the lent ones, k being the frame's number
+  -- D2b, V1: its ten numbers stand at 10·k to 10·k + 9 of the lent ones, k being the frame's number
   pub numbers-of-row : (i : ℕ) (r : Row) (lent : List ℤ) → i < size h → rowsAt (plan h) (frames h) i ≡ r ∷ []
       → length (numbers (rowsTo (h .stream) (h .packets) (size h))) ≤ length lent
       → take rowWidth (drop (rowWidth * numberAt (frames h) i) (sets lent 0 (numbers (rowsTo (h .stream) (h .packets) (size h))))) ≡ numbersOf r
   numbers-of-row i r lent = numbers-of-frame (h .stream) (h .packets) i (size h) r lent
 
-  -- C_MAX and VRX_FULL are the largest whole numbers not greater than the paper's fractions, a TRO is as given or all of its fraction, and
-  -- the reads lie exactly R·F/n apart
+  -- D2a, S6, S7, S9, S10, P14: C_MAX and VRX_FULL are the largest whole numbers not greater than the paper's fractions, a TRO is as given
+  -- or all of its fraction, and the reads lie exactly R·F/n apart
   pub limits-are : let p = h .stream .parameters in
       let F = frameOf (h .stream) in
       CMaxIs (classOf (p .class)) (p .schedule) F (p .n) (limit h)
@@ -131,57 +138,60 @@ module _ (h : AcceptedHistory) where
       × Same (record { num = plan h .reads .num; den = plan h .reads .den }) (readSpacing (p .schedule) F (p .n))
   limits-are = (proved.limit-exact h, proved.full-exact h, proved.tro-exact h, proved.spacing-exact h)
 
-  -- "Drain instants lie k·10F/(11n) grains after the first packet of the history, k = 1, 2, and so on (β = 1.10).": k of them are up to
-  -- packet i's arrival exactly when the k-th is; and those of a run, counted one by one among any number of instants that reaches its
+  -- D2a, B1: "Drain instants lie k·10F/(11n) grains after the first packet of the history, k = 1, 2, and so on (β = 1.10).": k of them are
+  -- up to packet i's arrival exactly when the k-th is; and those of a run, counted one by one among any number of instants that reaches its
   -- end, are a difference of two such counts
   pub drains-exact : (k i : ℕ) → k ≤ drains (arrivals h) i
       ↔ InstantBy (10 * frameOf (h .stream)) (11 * h .stream .parameters .n) k (elapsed (arrivals h) i)
   drains-exact = proved.drains-are h
 
+  -- B1, D3b: the drain instants of one run
   pub drains-counted : (a b most : ℕ) → IsRun (arrivals h) a b → drains (arrivals h) b ≤ most
       → count (λ k. drainsRun (arrivals h) a b (suc k)) most ≡ drains (arrivals h) b - drains (arrivals h) a
   drains-counted = proved.drains-in-run h
 
+  -- D2c, V7, V8: the buffer answer is that of the history
   pub buffer-answer : BufferIs (plan h) (frames h) (reached h .frames .buffer)
   buffer-answer = proved.buffer-reached h
 
   -- ---- Demand 3: "An accepted list of packets dealt out in order over any calls gives the rows, end state and verdicts of one call with
   -- the whole list."
 
-  -- the one call: accepted, with `reached` as its state and the numbers of all the rows laid from the front of its own
+  -- D3a: the one call: accepted, with `reached` as its state and the numbers of all the rows laid from the front of its own
   pub one-call : (rows : List ℤ) → length (numbers (rowsOfAll h)) ≤ length rows
       → Accepts (freshOf (h .stream)) (record { packets = h .packets; rows = rows }) (reached h)
   one-call = proved.whole-call h
 
-  -- any calls with room: each is accepted and lays what it writes from the front of its own rows (`Deals`, `Accepts`), the last state is
-  -- `reached`, and what they write, one after the other, is what the one call writes
+  -- D3a: any calls with room: each is accepted and lays what it writes from the front of its own rows (`Deals`, `Accepts`), the last state
+  -- is `reached`, and what they write, one after the other, is what the one call writes
   pub dealt-over-calls : (calls : List Call) → allOf calls ≡ h .packets → Rooms (freshOf (h .stream)) calls
       → Deals (freshOf (h .stream)) calls (reached h) (numbers (rowsOfAll h))
   dealt-over-calls = proved.dealt h
 
-  -- the verdict of `reached` is its two answers
+  -- V5: the verdict of `reached` is its two answers
   pub verdict-given : verdictOf (reached h) ≡ Given (answersOf (reached h))
   verdict-given = proved.verdict-reached h
 
-  -- "The peak is the greatest excess of any unbroken run": its packets less "the drain instants after its first arrival up to its last"
+  -- D3b: "The peak is the greatest excess of any unbroken run": its packets less "the drain instants after its first arrival up to its
+  -- last"
   pub peak : GreatestExcess (arrivals h) (reached h .bucket .peak)
   peak = proved.peak-reached h
 
-  -- "the network verdict passes exactly when no run's excess is above the class limit, else it names the failing run that ends first and,
-  -- of those, starts last."
+  -- D3c, D3d, V6: "the network verdict passes exactly when no run's excess is above the class limit, else it names the failing run that
+  -- ends first and, of those, starts last."
   pub network-answer : NetworkIs (arrivals h) (limit h) (reached h .bucket .network)
   network-answer = proved.network-reached h
 
-  -- "A whole frame runs dry exactly when one of its packets comes after its read time.": of the frame that packet i closes
+  -- D3e, P19: "A whole frame runs dry exactly when one of its packets comes after its read time.": of the frame that packet i closes
   pub dry-exactly : (i : ℕ) → i < size h → kindAt (plan h) (frames h) i ≡ 0
       → Dry (plan h) (frames h) (since (frames h) i) ↔ SomeLate (plan h) (frames h) (since (frames h) i)
   dry-exactly = proved.dry-if-late h
 
-  -- "Packets accepted equal drains that found a packet, counted instant by instant up to the last arrival, plus the level then."
+  -- B6: "Packets accepted equal drains that found a packet, counted instant by instant up to the last arrival, plus the level then."
   pub conservation : (last : ℕ) → size h ≡ suc last
       → size h ≡ found (arrivals h) (drains (arrivals h) last) + reached h .bucket .level
   conservation = proved.conserved h
 
--- "Unused row numbers stay untouched.": what a call writes, and behind it what stood there
+-- V4: "Unused row numbers stay untouched.": what a call writes, and behind it what stood there
 pub rows-behind-stay : (out rows : List ℤ) → length out ≤ length rows → sets rows 0 out ≡ out ++ drop (length out) rows
 rows-behind-stay out rows room = sets-front out rows room

@@ -26,12 +26,12 @@ use Rattle.pump.proofs.Running as running
 
 -- ---- the last line
 
--- "one last line: packets, frames closed, peak, verdicts", the state's own
+-- L3: "one last line: packets, frames closed, peak, verdicts", the state's own
 pub last-line : (s : State) → Sound s → sumLine s
     ≡ summaryLine (s .past .packets) (s .frames .closed) (s .bucket .peak) (answersOf s .network) (answersOf s .buffer)
 last-line = proved.last-line
 
--- "or, after the rows closed before a refusal, `refused`, number, offset": where the start of a file is refused, that is all that is
+-- L4: "or, after the rows closed before a refusal, `refused`, number, offset": where the start of a file is refused, that is all that is
 -- printed, whatever follows
 pub start-refused : (w v : List ℕ) (last : Bool) → (last ≡ true → v ≡ []) → 0 < openedNumber (beginOf w last)
     → outputOf (w ++ v) ≡ refusalLine (openedNumber (beginOf w last)) (openedOffset (beginOf w last))
@@ -39,38 +39,40 @@ start-refused = proved.start-refused
 
 -- ---- a file in pieces, through calls
 
--- however a file is cut into pieces and whatever room each call has, the lines put together are its output
+-- L1, X5: however a file is cut into pieces and whatever room each call has, the lines put together are its output
 pub prints-output : {file text : List ℕ} → Prints file text → text ≡ outputOf file
 prints-output = proved.prints-output
 
--- and every file comes to that
+-- L1, D1b: and every file comes to that
 pub file-printed : (file : List ℕ) → Prints file (outputOf file)
 file-printed = proved.file-printed
 
--- a call with room for a line goes on, at the end of the file or with a window of 65,537 bytes; one that does not had no room for a line or
--- wanted more bytes
+-- X5: a call with room for a line goes on, at the end of the file or with a window of 65,537 bytes; one that does not had no room for a
+-- line or wanted more bytes
 pub moves-last : (walk : Walk) (w : List ℕ) (room : ℕ) → lineRoom ≤ room → takeOf walk w true room .ended ≡ false
     → 0 < takeOf walk w true room .used
 moves-last = proved.moves-last
 
+-- X5: or where its window has 65,537 bytes
 pub moves-full : (walk : Walk) (w : List ℕ) (last : Bool) (room : ℕ) → lineRoom ≤ room → AllBelow 256 w → 65537 ≤ length w
     → takeOf walk w last room .ended ≡ false → 0 < takeOf walk w last room .used
 moves-full = proved.moves-full
 
+-- X5: a call that does not had no room for a line, or wanted more bytes
 pub stuck-why : (walk : Walk) (w : List ℕ) (last : Bool) (room : ℕ) → takeOf walk w last room .ended ≡ false
     → takeOf walk w last room .used ≡ 0 → (room < lineRoom) ⊎ (nextPiece (walk .at .at) w last ≡ More)
 stuck-why = proved.stuck-why
 
 -- ---- any run of the program
 
--- whatever the reads brought, what was handed over is a front of the output of the file
+-- X10: whatever the reads brought, what was handed over is a front of the output of the file
 pub ran-front : {room : ℕ} {last : Bool} {file text : List ℕ} {end : End} → RunEnds room last file text end → Front last file text
 ran-front = running.ran-front
 
--- and all of it where the last line is out
+-- X10: and all of it where the last line is out
 pub ran-whole : {room : ℕ} {last : Bool} {file text : List ℕ} → RunEnds room last file text Whole → Whole-output last file text
 ran-whole = running.ran-whole
 
--- and where the file had ended no read has failed: the last line is out, or a write failed, or the turns were over
+-- X10: and where the file had ended no read has failed: the last line is out, or a write failed, or the turns were over
 pub ran-ended : {room : ℕ} {last : Bool} {file text : List ℕ} {end : End} → RunEnds room last file text end → last ≡ true → end ≡ Unread → ⊥
 ran-ended = running.ran-ended

@@ -30,12 +30,12 @@ use Rattle.record.proofs.Waiting as waiting
 
 -- ---- Demand 2: "A record file written and read back gives the same records"
 
--- for all accepted stream numbers and packets, reading what was written gives the same stream numbers and packets
+-- D2d: for all accepted stream numbers and packets, reading what was written gives the same stream numbers and packets
 pub reading-written : (s : Parameters) (ps : List Packet) (closed : ℕ) → ParametersHeld s → PacketsHeld ps
     → setUpRefusal s ≡ 0 → declared ps ≡ Fine closed → fileOf (bytesIn s ps) ≡ file s ps
 reading-written s ps closed hs hp e f = ap asFile (file-written s ps closed hs hp e (scan-declared ps ∙ f))
 
--- what the writer writes is accepted, and reads as what it was given
+-- D2d: what the writer writes is accepted, and reads as what it was given
 pub written-accepted : (s : Parameters) (ts ss ms out after : List ℕ) (n : ℕ) → ParametersHeld s
     → AllBelow 18446744073709551616 ts → AllBelow 4294967296 ss
     → WriteGives s ts ss ms out (Done n) after → fileOf (take n after) ≡ file s (packets ts ss ms)
@@ -43,12 +43,12 @@ written-accepted = written-reads
 
 -- ---- "an accepted file, read and written, gives the same bytes."
 
--- for every accepted file, writing what was read gives the same bytes
+-- D2e: for every accepted file, writing what was read gives the same bytes
 pub writing-read : (bytes : List ℕ) → AllBelow 256 bytes → (s : Parameters) (ps : List Packet) → fileOf bytes ≡ file s ps
     → bytesIn s ps ≡ bytes
 writing-read bytes b = file-again bytes (bytes-all bytes b)
 
--- and the writer, given what an accepted file reads as and room for it, writes that file
+-- D2e: and the writer, given what an accepted file reads as and room for it, writes that file
 pub writer-repeats : (bytes : List ℕ) → AllBelow 256 bytes → (s : Parameters) (ts ss ms out after : List ℕ) (r : Written)
     → OneLength ts ss ms → fileOf bytes ≡ file s (packets ts ss ms) → length bytes ≤ length out → WriteGives s ts ss ms out r after
     → (r ≡ Done (length bytes)) × (take (length bytes) after ≡ bytes)
@@ -56,48 +56,52 @@ writer-repeats bytes b = writer-again bytes (bytes-all bytes b)
 
 -- ---- What a file reads as is what the reader gives.
 
--- Of any bytes: the head, and the records up to the first refusal, which has its number and offset, or all of them and the end. A refusal
--- by 20 to 23 is the reader's own answer; one of set-up or of a packet is of the record that it gives.
+-- F6: Of any bytes: the head, and the records up to the first refusal, which has its number and offset, or all of them and the end. A
+-- refusal by 20 to 23 is the reader's own answer; one of set-up or of a packet is of the record that it gives.
 pub read-by-cursor : (bytes : List ℕ) (calls : ℕ) → length bytes < 2 ^ 64 → length bytes < calls
     → Answered (readingOf bytes) (allCalls calls bytes)
 read-by-cursor = reader-answers
 
--- so an accepted file is answered as its head with the parameters, each packet in order, end
+-- F6: so an accepted file is answered as its head with the parameters, each packet in order, end
 pub file-by-cursor : (bytes : List ℕ) (calls : ℕ) → length bytes < 2 ^ 64 → length bytes < calls
     → (s : Parameters) (ps : List Packet) → fileOf bytes ≡ file s ps → allCalls calls bytes ≡ told s ps
 file-by-cursor bytes calls w h s ps e = answered-file (readingOf bytes) _ s ps e (reader-answers bytes calls w h)
 
 -- ---- A file may come in pieces.
 
--- whatever the pieces, the head, the records, the refusal and its offset are the whole file's
+-- X5: whatever the pieces, the head, the records, the refusal and its offset are the whole file's
 pub pieces-joined : (pieces : List (List ℕ)) (k j : ℕ) → length (flatten pieces) + length pieces < k → length (flatten pieces) < j
     → allInPieces k [] pieces ≡ allAnswers j (flatten pieces)
 pieces-joined = proved.pieces-joined
 
--- the answer to the last window is the whole file's by definition (`nextRead`, `headRead`), and never More
+-- X5: the answer to the last window is the whole file's by definition (`nextRead`, `headRead`), and never More
 pub last-answers : (at : ℕ) (w : List ℕ) → wantsMore (nextPiece at w true) ≡ false
 last-answers = proved.last-answers
 
+-- X5: and so is the head
 pub last-head : (w : List ℕ) → headWaits (headPiece w true) ≡ false
 last-head = proved.last-head
 
--- the answer to any other window is More, or the whole file's, whatever bytes follow
+-- X5: the answer to any other window is More, or the whole file's, whatever bytes follow
 pub piece-answers : (at : ℕ) (w rest : List ℕ) → wantsMore (nextPiece at w false) ≡ false → nextPiece at w false ≡ nextRead at (w ++ rest)
 piece-answers = proved.piece-answers
 
+-- X5: and so is the head
 pub piece-head : (w rest : List ℕ) → headWaits (headPiece w false) ≡ false → headPiece w false ≡ headRead (w ++ rest)
 piece-head = proved.piece-head
 
--- More is answered only where two continuations of the window are answered differently
+-- X5: More is answered only where two continuations of the window are answered differently
 pub more-needed : (at : ℕ) (w : List ℕ) → wantsMore (nextPiece at w false) ≡ true → Depends at w
 more-needed = waiting.more-needed
 
+-- X5: and so of the head
 pub head-needed : (w : List ℕ) → headWaits (headPiece w false) ≡ true → HeadDepends w
 head-needed = waiting.head-needed
 
--- a window of 65,537 bytes is never answered More, nor a head of one byte more
+-- X5: a window of 65,537 bytes is never answered More, nor a head of one byte more
 pub window-suffices : (at : ℕ) (w : List ℕ) (last : Bool) → AllBelow 256 w → 65537 ≤ length w → wantsMore (nextPiece at w last) ≡ false
 window-suffices = proved.window-suffices
 
+-- X5: nor a head of 65,538
 pub head-suffices : (w : List ℕ) (last : Bool) → AllBelow 256 w → 65538 ≤ length w → headWaits (headPiece w last) ≡ false
 head-suffices = proved.head-suffices
