@@ -1,4 +1,5 @@
--- The buffer answer is that of the first whole frame that fails: each frame's own answer first, then their joining, place by place.
+-- The buffer answer is that of the first whole frame that fails. What was kept of a frame is its lack and its top over its arrivals, which
+-- decide the frame's own answer; the answers are then joined place by place.
 use mathlib.Core.Path.{_≡_, refl, sym, ap, _∙_, subst}
 use mathlib.Core.Bool.{Bool, true, false}
 use Prim.Native.Nat.{ℕ, zero, suc, _+_, _≤_, _<_}
@@ -14,17 +15,18 @@ use Rattle.laws.specs.Climb.{Climbs}
 use Rattle.laws.specs.Seek.{seek, seek-is, seek-same, Lowest, lowest-unique}
 use Rattle.laws.specs.Differ.{differ-sub, differ-lt, lt-differ}
 use Rattle.frame.specs.declared.Plan.{Plan}
+use Rattle.frame.specs.declared.Frame.{Frame}
 use Rattle.frame.specs.declared.Place.{Place}
 use Rattle.frame.specs.declared.Buffer.{Buffer}
 use Rattle.frame.specs.declared.Buffer.the-variants.{None, Pass, Under, Over}
-use Rattle.frame.specs.Paper.{History, closesAt, numberAt, since, kindAt, arrival, firstRead, readsTo, arrivedBy, PeakIs}
+use Rattle.frame.specs.Paper.{History, closesAt, numberAt, since, kindAt, readsTo, arrivedBy, PeakIs}
 use Rattle.frame.specs.Paper.{late, Dry, Overfull, Whole, PassIs, OverIs, AnswerIs, BufferIs}
 use Rattle.frame.specs.Paper.{hasFailed, isNone, Fails, FirstDecides, failed, passed, unjudged}
 use Rattle.frame.specs.Step.{answerOf, joined}
 use Rattle.frame.specs.ByPlace.{closedAt, answerAt, bufferAt}
 use Rattle.frame.specs.Range.{Planned}
 use Rattle.frame.proofs.FrameKinds.{answer-broken, answer-under, answer-over, answer-pass}
-use Rattle.frame.proofs.RowOfFrame.{peak-unique, kind-is, up, top-is, deficit-is, peak-is, least-is, late-is}
+use Rattle.frame.proofs.RowOfFrame.{peak-unique, kind-is, WholeFrame, frame, top-is, deficit-is, peak-is, least-is, late-is}
 use Rattle.frame.proofs.Duality as D
 
 -- ---- the first that fails decides, whatever each place answers by itself, if it has one answer
@@ -149,119 +151,106 @@ module _ (plan : Plan) (p : Planned plan) (h : History) (ordered : Climbs (h .ti
   -- ---- one frame, closed by packet i
 
   module _ (i : ℕ) (inside : i < h .packets) (whole : kindAt plan h i ≡ 0) where
+    -- where the frame begins, what was kept of it, and its arrivals
+    abbrev s : ℕ
+    s = since h i
+
+    abbrev kept : Frame
+    kept = closedAt plan h i
+
+    abbrev w : WholeFrame plan h i
+    w = record { planned = p; ordered = ordered; inside = inside; whole = whole }
+
     -- the lack and the top that were kept, over the frame's arrivals
-    lacks : (j : ℕ) → j < plan .packets → suc j ≤ arrivedBy plan h (since h i) j + (closedAt plan h i) .deficit
-    lacks j l = rw (deficit-is plan h ordered i inside p whole)
-        (D.lack-bound (plan .packets) (firstRead plan h (since h i)) (plan .reads .num) (plan .reads .den) (arrival plan h (since h i))
-        (up plan h ordered i inside p whole) j l)
+    lacks : (j : ℕ) → j < plan .packets → suc j ≤ arrivedBy plan h s j + kept .deficit
+    lacks j l = rw (deficit-is w) (D.lack-bound (frame w) j l)
 
-    tops : (j : ℕ) → j < plan .packets → suc j ≤ (closedAt plan h i) .top + readsTo plan h (since h i) j
-    tops j l = rw (top-is plan h ordered i inside p whole)
-        (D.top-bound (plan .packets) (firstRead plan h (since h i)) (plan .reads .num) (plan .reads .den) (arrival plan h (since h i))
-        (up plan h ordered i inside p whole) j l)
+    tops : (j : ℕ) → j < plan .packets → suc j ≤ kept .top + readsTo plan h s j
+    tops j l = rw (top-is w) (D.top-bound (frame w) j l)
 
-    -- P19: "The buffer runs dry where least is below 0.": where there was a lack
-    pub is-dry : 0 < (closedAt plan h i) .deficit → Dry plan h (since h i)
+    -- "The buffer runs dry where least is below 0.": where there was a lack
+    pub is-dry : 0 < kept .deficit → Dry plan h s
     is-dry l = (
-      subℕ 0 ((closedAt plan h i) .deficit),
-      least-is plan h ordered i inside p whole,
-      differ-lt (subℕ 0 ((closedAt plan h i) .deficit)) (pos 0) 0 ((closedAt plan h i) .deficit) 0 0
-          (differ-sub 0 ((closedAt plan h i) .deficit)) (omega arith) (omega arith),
+      subℕ 0 (kept .deficit),
+      least-is w,
+      differ-lt (subℕ 0 (kept .deficit)) (pos 0) 0 (kept .deficit) 0 0 (differ-sub 0 (kept .deficit)) (omega arith) (omega arith),
     )
 
-    pub not-dry : (closedAt plan h i) .deficit ≤ 0 → ¬ Dry plan h (since h i)
+    pub not-dry : kept .deficit ≤ 0 → ¬ Dry plan h s
     not-dry none d =
         let m = d .1 .met in
-        let low = lt-differ (subℕ (arrivedBy plan h (since h i) (m .0)) (suc (m .0))) (pos 0) (arrivedBy plan h (since h i) (m .0))
-        (suc (m .0)) 0 0
-        (differ-sub (arrivedBy plan h (since h i) (m .0)) (suc (m .0))) (omega arith) (subst (λ (z : ℤ). z <ℤ pos 0) (m .2) (d .2)) in
+        let there = arrivedBy plan h s (m .0) in
+        let low = lt-differ (subℕ there (suc (m .0))) (pos 0) there (suc (m .0)) 0 0 (differ-sub there (suc (m .0))) (omega arith)
+        (rw (m .2) at (d .2)) in
         omega (arith, lacks (m .0) (m .1))
 
     -- and one of its packets comes after its read time exactly then; the lowest such is the one kept
-    pub late-lowest : Lowest (late plan h (since h i)) (plan .packets) ((closedAt plan h i) .late)
+    pub late-lowest : Lowest (late plan h s) (plan .packets) (kept .late)
     late-lowest =
-        rw (late-is plan h ordered i inside p whole, sym same) (seek-is (late plan h (since h i)) (plan .packets))
-      where
-        same : seek (late plan h (since h i)) (plan .packets) ≡ seek (λ j. ltb j (readsTo plan h (since h i) j)) (plan .packets)
-        same = seek-same (late plan h (since h i)) (λ j. ltb j (readsTo plan h (since h i) j)) (plan .packets)
-            (D.late-is (plan .packets) (firstRead plan h (since h i)) (plan .reads .num) (plan .reads .den) (arrival plan h (since h i))
-            (up plan h ordered i inside p whole))
+        let same = seek-same (late plan h s) (λ j. ltb j (readsTo plan h s j)) (plan .packets) (D.late-is (frame w)) in
+        rw (late-is w, sym same) (seek-is (late plan h s) (plan .packets))
 
-    pub not-overfull : (closedAt plan h i) .top ≤ plan .full → ¬ Overfull plan h (since h i)
+    pub not-overfull : kept .top ≤ plan .full → ¬ Overfull plan h s
     not-overfull few o =
         let m = o .1 .met in
-        let high = lt-differ (pos (plan .full)) (subℕ (suc (m .0)) (readsTo plan h (since h i) (m .0))) (plan .full) 0 (suc (m .0))
-        (readsTo plan h (since h i) (m .0))
-        (omega arith) (differ-sub (suc (m .0)) (readsTo plan h (since h i) (m .0)))
-        (subst (λ (z : ℤ). pos (plan .full) <ℤ z) (m .2) (o .2)) in
+        let read = readsTo plan h s (m .0) in
+        let high = lt-differ (pos (plan .full)) (subℕ (suc (m .0)) read) (plan .full) 0 (suc (m .0)) read (omega arith)
+        (differ-sub (suc (m .0)) read) (rw (m .2) at (o .2)) in
         omega (arith, tops (m .0) (m .1))
 
     -- "A whole frame runs dry exactly when one of its packets comes after its read time."
-    pub dry-late : Dry plan h (since h i) → (j : ℕ) × (j < plan .packets) × (late plan h (since h i) j ≡ true)
-    dry-late d = go (decLt 0 ((closedAt plan h i) .deficit))
+    pub dry-late : Dry plan h s → (j : ℕ) × (j < plan .packets) × (late plan h s j ≡ true)
+    dry-late d = go (decLt 0 (kept .deficit))
       where
-        go : Dec (0 < (closedAt plan h i) .deficit) → (j : ℕ) × (j < plan .packets) × (late plan h (since h i) j ≡ true)
+        go : Dec (0 < kept .deficit) → (j : ℕ) × (j < plan .packets) × (late plan h s j ≡ true)
         go (yes l) =
-            let u = up plan h ordered i inside p whole in
-            let w = D.dry-late (plan .packets) (firstRead plan h (since h i)) (plan .reads .num) (plan .reads .den) (arrival plan h (since h i)) u
-            (omega (arith, deficit-is plan h ordered i inside p whole)) in (
-              w .0,
-              w .1,
-              D.late-is (plan .packets) (firstRead plan h (since h i)) (plan .reads .num) (plan .reads .den) (arrival plan h (since h i)) u (w .0) (w .1)
-                  ∙ lt-ltb (w .0) (readsTo plan h (since h i) (w .0)) (w .2),
-            )
+            let q = D.dry-late (frame w) (omega (arith, deficit-is w)) in
+            (q .0, q .1, D.late-is (frame w) (q .0) (q .1) ∙ lt-ltb (q .0) (readsTo plan h s (q .0)) (q .2))
         go (no g) = absurd (not-dry (omega arith) d)
 
-    pub late-dry : (j : ℕ) → j < plan .packets → late plan h (since h i) j ≡ true → Dry plan h (since h i)
+    pub late-dry : (j : ℕ) → j < plan .packets → late plan h s j ≡ true → Dry plan h s
     late-dry j l e =
-        let u = up plan h ordered i inside p whole in
-        let more = ltb-true j (readsTo plan h (since h i) j)
-        (sym (D.late-is (plan .packets) (firstRead plan h (since h i)) (plan .reads .num) (plan .reads .den) (arrival plan h (since h i)) u j l) ∙ e) in
-        is-dry (omega (
-          arith,
-          deficit-is plan h ordered i inside p whole,
-          D.late-dry (plan .packets) (firstRead plan h (since h i)) (plan .reads .num) (plan .reads .den) (arrival plan h (since h i)) u j l more,
-        ))
+        let more = ltb-true j (readsTo plan h s j) (sym (D.late-is (frame w) j l) ∙ e) in
+        is-dry (omega (arith, deficit-is w, D.late-dry (frame w) j l more))
 
-  judged : (i : ℕ) → i < h .packets → closesAt h i ≡ true → AnswerIs plan h i (answerOf plan (numberAt h i) (closedAt plan h i))
-  judged i inside closing = go (eqb (kindAt plan h i) 0) refl
-    where
-      over : kindAt plan h i ≡ 0 → (closedAt plan h i) .deficit ≤ 0 → Dec (plan .full < (closedAt plan h i) .top)
-          → AnswerIs plan h i (answerOf plan (numberAt h i) (closedAt plan h i))
-      over k d (yes l) =
-          subst (AnswerIs plan h i) (answer-over plan (numberAt h i) (closedAt plan h i) (kind-is plan h ordered i inside ∙ k) d l)
-          (record {
-            whole = record { closing = closing; whole = k };
-            frame = refl;
-            not-dry = not-dry i inside k d;
-            peak = peak-is plan h ordered i inside p k;
-            over = l;
-          })
-      over k d (no g) =
-          subst (AnswerIs plan h i) (answer-pass plan (numberAt h i) (closedAt plan h i) (kind-is plan h ordered i inside ∙ k) d (omega arith))
-          (record {
-            whole = record { closing = closing; whole = k };
-            not-dry = not-dry i inside k d;
-            not-over = not-overfull i inside k (omega arith);
-          })
+  -- ---- what packet i answers, if it closes a frame
 
-      under : kindAt plan h i ≡ 0 → Dec (0 < (closedAt plan h i) .deficit) → AnswerIs plan h i (answerOf plan (numberAt h i) (closedAt plan h i))
-      under k (yes l) =
-          subst (AnswerIs plan h i) (answer-under plan (numberAt h i) (closedAt plan h i) (kind-is plan h ordered i inside ∙ k) l)
-          (record {
-            whole = record { closing = closing; whole = k };
-            frame = refl;
-            dry = is-dry i inside k l;
-            place = late-lowest i inside k;
-          })
-      under k (no g) = over k (omega arith) (decLt (plan .full) ((closedAt plan h i) .top))
+  module _ (i : ℕ) (inside : i < h .packets) (closing : closesAt h i ≡ true) where
+    abbrev answer : Buffer
+    answer = answerOf plan (numberAt h i) (closedAt plan h i)
 
-      go : (t : Bool) → eqb (kindAt plan h i) 0 ≡ t → AnswerIs plan h i (answerOf plan (numberAt h i) (closedAt plan h i))
-      go true e = under (eqb-true (kindAt plan h i) 0 e) (decLt 0 ((closedAt plan h i) .deficit))
-      go false e =
-          subst (AnswerIs plan h i) (answer-broken plan (numberAt h i) (closedAt plan h i)
-          (λ z. eqb-false (kindAt plan h i) 0 e (sym (kind-is plan h ordered i inside) ∙ z)))
-          (λ w. eqb-false (kindAt plan h i) 0 e (w .whole))
+    judged-whole : kindAt plan h i ≡ 0 → Dec (0 < (closedAt plan h i) .deficit) → Dec (plan .full < (closedAt plan h i) .top)
+        → AnswerIs plan h i answer
+    judged-whole k (yes l) over = subst (AnswerIs plan h i) (answer-under plan _ _ (kind-is plan h i ∙ k) l) (record {
+      whole = record { closing = closing; whole = k };
+      frame = refl;
+      dry = is-dry i inside k l;
+      place = late-lowest i inside k;
+    })
+    judged-whole k (no g) (yes l) = subst (AnswerIs plan h i) (answer-over plan _ _ (kind-is plan h i ∙ k) (omega arith) l) (record {
+      whole = record { closing = closing; whole = k };
+      frame = refl;
+      not-dry = not-dry i inside k (omega arith);
+      peak = peak-is (w i inside k);
+      over = l;
+    })
+    judged-whole k (no g) (no f) =
+        subst (AnswerIs plan h i) (answer-pass plan _ _ (kind-is plan h i ∙ k) (omega arith) (omega arith)) (record {
+          whole = record { closing = closing; whole = k };
+          not-dry = not-dry i inside k (omega arith);
+          not-over = not-overfull i inside k (omega arith);
+        })
+
+    judged : AnswerIs plan h i answer
+    judged = go (eqb (kindAt plan h i) 0) refl
+      where
+        go : (t : Bool) → eqb (kindAt plan h i) 0 ≡ t → AnswerIs plan h i answer
+        go true e =
+            let k = eqb-true (kindAt plan h i) 0 e in
+            judged-whole k (decLt 0 ((closedAt plan h i) .deficit)) (decLt (plan .full) ((closedAt plan h i) .top))
+        go false e =
+            let k = eqb-false (kindAt plan h i) 0 e in
+            subst (AnswerIs plan h i) (answer-broken plan _ _ (λ z. k (sym (kind-is plan h i) ∙ z))) (λ z. k (z .whole))
 
   answered : (i : ℕ) → i < h .packets → AnswerIs plan h i (answerAt plan h i)
   answered i inside = go (closesAt h i) refl

@@ -15,7 +15,18 @@ use Rattle.laws.specs.Count.{count, count-le, UpTo, falls-up-to}
 use Rattle.laws.specs.Differ.{differ-sub, differ-le, differ-same}
 use Rattle.grain.specs.Paper.{readBefore, readsBefore}
 
-module _ (n base num den : ℕ) (a : ℕ → ℕ) (up : (i j : ℕ) → i ≤ j → j < n → a i ≤ a j) where
+-- n packets that come in order, packet i at a i; read j is num / den times j after base
+pub record Arrivals : Type 0 where
+  pub n : ℕ
+  pub base : ℕ
+  pub num : ℕ
+  pub den : ℕ
+  pub a : ℕ → ℕ
+  pub up : (i j : ℕ) → i ≤ j → j < n → a i ≤ a j
+
+module _ (f : Arrivals) where
+  open Arrivals f using (n, base, num, den, a, up)
+
   -- the reads before packet i, and the packets there by read j
   abbrev R : ℕ → ℕ
   R i = readsBefore n base num den (a i)

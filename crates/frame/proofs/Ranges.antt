@@ -17,7 +17,7 @@ use Rattle.frame.specs.declared.Buffer.{Buffer}
 use Rattle.frame.specs.declared.Buffer.the-variants.{None, Pass}
 use Rattle.frame.specs.Paper.{hasFailed, isNone}
 use Rattle.frame.specs.Step.{lower, kindOf, openedOf, countedOf, readsOf, pushOf, answerOf, joined, noFrames, arriveOf}
-use Rattle.frame.specs.Step.{closeOf}
+use Rattle.frame.specs.Step.{closeOf, emptyOf}
 use Rattle.frame.specs.Range.{Planned, PushAsks, RowAsks, ranges, Answered, Kept}
 use Rattle.frame.proofs.Opening.{Timed, timed}
 
@@ -49,14 +49,17 @@ module _ (plan : Plan) (s : Frames) (first last packets : ℕ) where
       (k .closed and k .begun and k .marked-from and k .marked-to and k .held and k .first-from and k .first-to and k .phased and k .read
       and k .differs and k .top and k .late and k .deficit and k .answered .frame and k .answered .place and tt)
 
-pub kept-none : (plan : Plan) → Kept plan noFrames 0 0 0
-kept-none plan = record {
-  begun = λ e. absurd (false-true e);
-  closed = omega arith;
-  marked-from = λ e. omega arith;
-  marked-to = λ e. omega arith;
+-- with no packet in the open frame, what is known of the frames is enough
+kept-empty : (plan : Plan) {begun : Bool} {closed marked first last packets : ℕ} {buffer : Buffer} → (begun ≡ true → 0 < packets)
+    → closed ≤ packets → (begun ≡ true → first ≤ marked) → (begun ≡ true → marked ≤ last) → Answered buffer packets
+    → Kept plan (record { begun = begun; closed = closed; marked = marked; current = emptyOf; buffer = buffer }) first last packets
+kept-empty plan b c from to a = record {
+  begun = b;
+  closed = c;
+  marked-from = from;
+  marked-to = to;
   held = omega arith;
-  first-from = λ l. omega arith;
+  first-from = λ l. absurd (omega arith);
   first-to = λ l. omega arith;
   phased = omega arith;
   read = omega arith;
@@ -64,8 +67,12 @@ kept-none plan = record {
   top = omega arith;
   deficit = omega arith;
   late = omega arith;
-  answered = record { frame = omega arith; place = omega arith };
+  answered = a;
 }
+
+pub kept-none : (plan : Plan) → Kept plan noFrames 0 0 0
+kept-none plan = kept-empty plan (λ e. absurd (false-true e)) (omega arith) (λ e. omega arith) (λ e. omega arith)
+    (record { frame = omega arith; place = omega arith })
 
 -- the next packet arrives at t, in order and in time
 pub record Next (first last packets t : ℕ) : Type 0 where
@@ -249,19 +256,6 @@ module _ (plan : Plan) (a : Frames) (first t packets : ℕ) (k : Kept plan a fir
 
   pub kept-close : Kept plan (closeOf plan a t) first t packets
   unfolding closeOf
-  kept-close = record {
-    begun = λ e. omega arith;
-    closed = pick-either (λ x. a .closed + x ≤ packets) (a .begun) (λ e. omega arith) (λ e. omega arith);
-    marked-from = λ e. since;
-    marked-to = λ e. omega arith;
-    held = omega arith;
-    first-from = λ l. absurd (omega arith);
-    first-to = λ l. omega arith;
-    phased = omega arith;
-    read = omega arith;
-    differs = omega arith;
-    top = omega arith;
-    deficit = omega arith;
-    late = omega arith;
-    answered = answers (a .begun);
-  }
+  kept-close = kept-empty plan (λ e. omega arith)
+      (pick-either (λ x. a .closed + x ≤ packets) (a .begun) (λ e. omega arith) (λ e. omega arith)) (λ e. since) (λ e. omega arith)
+      (answers (a .begun))

@@ -1,13 +1,12 @@
--- A closed frame's row is the row of its stretch of the history: what was
--- kept, packet by packet, in the paper's words; and one row only is so.
+-- A closed frame's row is the row of its stretch of the history, and one row only is so: each number that was kept, packet by packet, is
+-- the paper's number over the frame's arrivals (Duality).
 use mathlib.Core.Path.{_≡_, refl, sym, ap, _∙_, subst}
 use mathlib.Core.Bool.{Bool, true, false, _&&_}
-use Prim.Native.Nat.{ℕ, suc, pred, _+_, _-_, _*_, _≤_, _<_}
+use Prim.Native.Nat.{ℕ, suc, pred, _+_, _-_, _≤_, _<_}
 use native.Mathlib.Omega.{arith}
 use native.Mathlib.Nat.{add-zero}
 use lib.Dec.{ltb, eqb}
 use lib.IntN.{ℤ, pos, subℕ}
-use lib.Signed.{_≤ℤ_}
 use borrow.Author.Tests.{ltb-false, eqb-true, eqb-false}
 use Rattle.laws.specs.Choose.{pick, false-true}
 use Rattle.laws.specs.Climb.{Climbs, climbs-le}
@@ -22,7 +21,7 @@ use Rattle.frame.specs.declared.Frame.{Frame}
 use Rattle.frame.specs.declared.Row.{Row}
 use Rattle.frame.specs.Paper.{History, begunAt, closesAt, numberAt, since, heldAt, differsAt, kindAt, arrival, firstRead}
 use Rattle.frame.specs.Paper.{readsTo, PeakIs, LeastIs, Times, Levels, RowIs}
-use Rattle.frame.specs.Step.{kindOf, detailOf, wholeRow, brokenRow, rowOf}
+use Rattle.frame.specs.Step.{kindOf, detailOf, wholeRow, rowOf}
 use Rattle.frame.specs.ByPlace.{readsFrom, keptOf, frameFrom, closedAt, markedTime}
 use Rattle.frame.specs.Range.{Planned}
 use Rattle.frame.proofs.Stretches.{since-is, one-more, begun-since, marked-time}
@@ -36,15 +35,13 @@ pub peak-unique : (plan : Plan) (h : History) (s : ℕ) (z w : ℤ) → PeakIs p
 peak-unique plan h s z w x y =
     let v = x .met in
     let u = y .met in
-    both-ways z w (subst (λ (a : ℤ). a ≤ℤ w) (sym (v .2)) (y .bound (v .0) (v .1)))
-    (subst (λ (a : ℤ). a ≤ℤ z) (sym (u .2)) (x .bound (u .0) (u .1)))
+    both-ways z w (rw (v .2) (y .bound (v .0) (v .1))) (rw (u .2) (x .bound (u .0) (u .1)))
 
 pub least-unique : (plan : Plan) (h : History) (s : ℕ) (z w : ℤ) → LeastIs plan h s z → LeastIs plan h s w → z ≡ w
 least-unique plan h s z w x y =
     let v = x .met in
     let u = y .met in
-    both-ways z w (subst (λ (a : ℤ). z ≤ℤ a) (sym (u .2)) (x .bound (u .0) (u .1)))
-    (subst (λ (a : ℤ). w ≤ℤ a) (sym (v .2)) (y .bound (v .0) (v .1)))
+    both-ways z w (rw (u .2) (x .bound (u .0) (u .1))) (rw (v .2) (y .bound (v .0) (v .1)))
 
 closing-begun : (m b : Bool) → (m && b) ≡ true → b ≡ true
 closing-begun true b e = e
@@ -52,7 +49,7 @@ closing-begun false b e = absurd (false-true e)
 
 -- ---- the frame's packets, in order
 
-module _ (plan : Plan) (h : History) (ordered : Climbs (h .time) (h .packets)) (i : ℕ) (inside : i < h .packets) where
+module _ (plan : Plan) (h : History) (i : ℕ) where
   held-is : closedAt plan h i ≡ frameFrom plan h (since h i) (suc (i - since h i))
   held-is = rw (one-more h i)
 
@@ -75,146 +72,139 @@ module _ (plan : Plan) (h : History) (ordered : Climbs (h .time) (h .packets)) (
       go false e true f k = absurd (omega arith)
       go false e false f k = omega (arith, ltb-false (heldAt h i) (plan .packets) e, ltb-false (plan .packets) (heldAt h i) f)
 
-  module _ (p : Planned plan) (whole : kindAt plan h i ≡ 0) where
-    -- each packet of the frame comes no earlier than those before it
-    pub up : (j k : ℕ) → j ≤ k → k < plan .packets → arrival plan h (since h i) j ≤ arrival plan h (since h i) k
-    up j k l g =
-        let t = climbs-le (h .time) (h .packets) ordered (since h i + j) (since h i + k) (omega arith)
-        (omega (arith, whole-held whole, since-is h i .within)) in
-        omega arith
+-- packet i closes a frame of kind 0
+pub record WholeFrame (plan : Plan) (h : History) (i : ℕ) : Type 0 where
+  pub planned : Planned plan
+  pub ordered : Climbs (h .time) (h .packets)
+  pub inside : i < h .packets
+  pub whole : kindAt plan h i ≡ 0
 
-    -- what was kept of the reads is what the paper counts
-    reads-same : (j : ℕ) → j < plan .packets
-        → readsFrom plan (λ k. h .time (since h i + k)) (λ k. h .stamp (since h i + k)) j ≡ readsTo plan h (since h i) j
-    reads-same j l =
-        reads-are plan (λ k. h .time (since h i + k)) (λ k. h .stamp (since h i + k)) j (omega (arith, p .long))
-        (climbs-le (h .time) (h .packets) ordered (since h i + 0) (since h i + j) (omega arith)
-        (omega (arith, whole-held whole, since-is h i .within)))
+module _ {plan : Plan} {h : History} {i : ℕ} (w : WholeFrame plan h i) where
+  -- where the frame begins, and what was kept of it
+  abbrev s : ℕ
+  s = since h i
 
-    packets-are : suc (i - since h i) ≡ plan .packets
-    packets-are = sym (one-more h i) ∙ whole-held whole
+  abbrev kept : Frame
+  kept = closedAt plan h i
 
-    pub top-is : (closedAt plan h i) .top
-        ≡ D.top (plan .packets) (firstRead plan h (since h i)) (plan .reads .num) (plan .reads .den) (arrival plan h (since h i)) up
-    unfolding keptOf
-    top-is =
-        ap (λ (f : Frame). f .top) held-is
-        ∙ ap (most (λ j. suc j - readsFrom plan (λ k. h .time (since h i + k)) (λ k. h .stamp (since h i + k)) j)) packets-are
-        ∙ most-same (λ j. suc j - readsFrom plan (λ k. h .time (since h i + k)) (λ k. h .stamp (since h i + k)) j)
-        (λ j. suc j - readsTo plan h (since h i) j) (plan .packets) (λ j l. ap (λ (r : ℕ). suc j - r) (reads-same j l))
+  -- no packet of the frame comes before those before it
+  pub in-order : (j k : ℕ) → j ≤ k → k < plan .packets → h .time (s + j) ≤ h .time (s + k)
+  in-order j k l g = climbs-le (h .time) (h .packets) (w .ordered) (s + j) (s + k) (omega arith)
+      (omega (arith, whole-held plan h i (w .whole), since-is h i .within, w .inside))
 
-    pub deficit-is : (closedAt plan h i) .deficit
-        ≡ D.lack (plan .packets) (firstRead plan h (since h i)) (plan .reads .num) (plan .reads .den) (arrival plan h (since h i)) up
-    unfolding keptOf
-    deficit-is =
-        ap (λ (f : Frame). f .deficit) held-is
-        ∙ ap (most (λ j. readsFrom plan (λ k. h .time (since h i + k)) (λ k. h .stamp (since h i + k)) j - j)) packets-are
-        ∙ most-same (λ j. readsFrom plan (λ k. h .time (since h i + k)) (λ k. h .stamp (since h i + k)) j - j)
-        (λ j. readsTo plan h (since h i) j - j) (plan .packets) (λ j l. ap (λ (r : ℕ). r - j) (reads-same j l))
+  abbrev pub frame : D.Arrivals
+  frame = record {
+    n = plan .packets;
+    base = firstRead plan h s;
+    num = plan .reads .num;
+    den = plan .reads .den;
+    a = arrival plan h s;
+    up = λ j k l g. omega (arith, in-order j k l g);
+  }
 
-    -- P17: the greatest level that is kept is the frame's peak
-    pub peak-is : PeakIs plan h (since h i) (pos ((closedAt plan h i) .top))
-    peak-is = rw top-is (record {
-      bound = D.peak-bound (plan .packets) (firstRead plan h (since h i)) (plan .reads .num) (plan .reads .den) (arrival plan h (since h i)) up;
-      met = D.peak-met (plan .packets) (firstRead plan h (since h i)) (plan .reads .num) (plan .reads .den) (arrival plan h (since h i)) up (p .some);
-    })
+  -- what was kept of the reads is what the paper counts
+  abbrev reads : ℕ → ℕ
+  reads = readsFrom plan (λ k. h .time (s + k)) (λ k. h .stamp (s + k))
 
-    -- P15, P18: the greatest lack that is kept, below 0, is the frame's least
-    pub least-is : LeastIs plan h (since h i) (subℕ 0 ((closedAt plan h i) .deficit))
-    least-is = rw deficit-is (record {
-      bound = D.least-bound (plan .packets) (firstRead plan h (since h i)) (plan .reads .num) (plan .reads .den) (arrival plan h (since h i)) up;
-      met = D.least-met (plan .packets) (firstRead plan h (since h i)) (plan .reads .num) (plan .reads .den) (arrival plan h (since h i)) up (p .some);
-    })
+  reads-same : (j : ℕ) → j < plan .packets → reads j ≡ readsTo plan h s j
+  reads-same j l = reads-are plan (λ k. h .time (s + k)) (λ k. h .stamp (s + k)) j (omega (arith, w .planned .long))
+      (in-order 0 j (omega arith) l)
 
-    pub late-is : (closedAt plan h i) .late ≡ seek (λ j. ltb j (readsTo plan h (since h i) j)) (plan .packets)
-    unfolding keptOf
-    late-is =
-        ap (λ (f : Frame). f .late) held-is
-        ∙ ap (seek (λ j. ltb j (readsFrom plan (λ k. h .time (since h i + k)) (λ k. h .stamp (since h i + k)) j))) packets-are
-        ∙ seek-same (λ j. ltb j (readsFrom plan (λ k. h .time (since h i + k)) (λ k. h .stamp (since h i + k)) j))
-        (λ j. ltb j (readsTo plan h (since h i) j)) (plan .packets) (λ j l. ap (ltb j) (reads-same j l))
+  packets-are : suc (i - s) ≡ plan .packets
+  packets-are = sym (one-more h i) ∙ whole-held plan h i (w .whole)
 
-    -- of the frame's first packet
-    first-is : (closedAt plan h i) .first ≡ h .time (since h i + 0)
-    unfolding keptOf
-    first-is = ap (λ (f : Frame). f .first) held-is
+  most-kept : (g : ℕ → ℕ → ℕ) → most (λ j. g j (reads j)) (suc (i - s)) ≡ most (λ j. g j (readsTo plan h s j)) (plan .packets)
+  most-kept g = rw packets-are (most-same _ _ _ (λ j l. ap (g j) (reads-same j l)))
 
-    stamp-is : (closedAt plan h i) .stamp ≡ h .stamp (since h i)
-    unfolding keptOf
-    stamp-is = ap (λ (f : Frame). f .stamp) held-is ∙ ap (h .stamp) (add-zero (since h i))
+  pub top-is : kept .top ≡ D.top frame
+  unfolding keptOf
+  top-is = ap (λ (f : Frame). f .top) (held-is plan h i) ∙ most-kept (λ j r. suc j - r)
 
-    phase-is : (closedAt plan h i) .phase ≡ phase (arrival plan h (since h i) 0) (plan .period)
-    unfolding keptOf
-    phase-is = ap (λ (f : Frame). f .phase) held-is
+  pub deficit-is : kept .deficit ≡ D.lack frame
+  unfolding keptOf
+  deficit-is = ap (λ (f : Frame). f .deficit) (held-is plan h i) ∙ most-kept (λ j r. r - j)
 
-    fpt-is : subℕ ((closedAt plan h i) .phase) (plan .period) ≡ firstPacketTime (arrival plan h (since h i) 0) (plan .period)
-    fpt-is = rw phase-is (phase-less (arrival plan h (since h i) 0) (plan .period) (omega (arith, p .long)))
+  pub peak-is : PeakIs plan h s (pos (kept .top))
+  peak-is = rw top-is (record { bound = D.peak-bound frame; met = D.peak-met frame (w .planned .some) })
 
-    latency-is : latency (grains ((closedAt plan h i) .first)) ((closedAt plan h i) .stamp)
-        ≡ latency (arrival plan h (since h i) 0) (h .stamp (since h i))
-    latency-is = rw (first-is, stamp-is)
+  pub least-is : LeastIs plan h s (subℕ 0 (kept .deficit))
+  least-is = rw deficit-is (record { bound = D.least-bound frame; met = D.least-met frame (w .planned .some) })
 
-    -- the marker packet before the frame comes no later than its first
-    gap-is : closesAt h i ≡ true → pos (grains ((closedAt plan h i) .first - markedTime plan h i))
-        ≡ subℕ (arrival plan h (since h i) 0) (grains (h .time (pred (since h i))))
-    gap-is e =
-        let began = begun-since h i (closing-begun (h .marked i) (begunAt h i) e) in
-        let order = climbs-le (h .time) (h .packets) ordered (pred (since h i)) (since h i + 0) (omega arith)
-        (omega (arith, since-is h i .within)) in
-        let from = h .time (since h i + 0) in
-        let to = h .time (pred (since h i)) in
-        rw (first-is, marked-time h plan i began)
-        (differ-same (pos (grains (from - to))) (subℕ (grains from) (grains to)) (grains (from - to)) 0 (grains from) (grains to)
-        (omega arith) (differ-sub (grains from) (grains to)) (omega arith))
+  pub late-is : kept .late ≡ seek (λ j. ltb j (readsTo plan h s j)) (plan .packets)
+  unfolding keptOf
+  late-is = ap (λ (f : Frame). f .late) (held-is plan h i) ∙ ap (seek (λ j. ltb j (reads j))) packets-are
+      ∙ seek-same (λ j. ltb j (reads j)) (λ j. ltb j (readsTo plan h s j)) (plan .packets) (λ j l. ap (ltb j) (reads-same j l))
 
-    -- P8, P10, P11, P12, P13: the five times of the row are the frame's
-    pub times-are : closesAt h i ≡ true → Times plan h (since h i) (wholeRow plan (numberAt h i) (markedTime plan h i) (closedAt plan h i))
-    unfolding wholeRow
-    times-are e = record {
-      fpt = fpt-is;
-      offset = rw (fpt-is, latency-is) (sym (offset-is (arrival plan h (since h i) 0) (h .stamp (since h i)) (plan .period)));
-      latency = latency-is;
-      margin = rw phase-is (margin-is (arrival plan h (since h i) 0) (plan .tro) (plan .period) (omega (arith, p .long)));
-      gap = gap-is e;
-    }
+  -- of the frame's first packet
+  first-is : kept .first ≡ h .time (s + 0)
+  unfolding keptOf
+  first-is = ap (λ (f : Frame). f .first) (held-is plan h i)
 
-    pub levels-are : Levels plan h (since h i) (wholeRow plan (numberAt h i) (markedTime plan h i) (closedAt plan h i))
-    unfolding wholeRow
-    levels-are = record { peak = peak-is; least = least-is }
+  stamp-is : kept .stamp ≡ h .stamp s
+  unfolding keptOf
+  stamp-is = ap (λ (f : Frame). f .stamp) (held-is plan h i) ∙ ap (h .stamp) (add-zero s)
 
-  -- "A closed frame writes ten numbers": the row that the code makes of the frame it kept is the row of that stretch
+  phase-is : kept .phase ≡ phase (arrival plan h s 0) (plan .period)
+  unfolding keptOf
+  phase-is = ap (λ (f : Frame). f .phase) (held-is plan h i)
+
+  fpt-is : subℕ (kept .phase) (plan .period) ≡ firstPacketTime (arrival plan h s 0) (plan .period)
+  fpt-is = rw phase-is (phase-less (arrival plan h s 0) (plan .period) (omega (arith, w .planned .long)))
+
+  latency-is : latency (grains (kept .first)) (kept .stamp) ≡ latency (arrival plan h s 0) (h .stamp s)
+  latency-is = rw (first-is, stamp-is)
+
+  -- the marker packet before the frame comes no later than its first
+  gap-is : closesAt h i ≡ true → pos (grains (kept .first - markedTime plan h i)) ≡ subℕ (arrival plan h s 0) (grains (h .time (pred s)))
+  gap-is e =
+      let began = begun-since h i (closing-begun (h .marked i) (begunAt h i) e) in
+      let order = climbs-le (h .time) (h .packets) (w .ordered) (pred s) (s + 0) (omega arith)
+      (omega (arith, since-is h i .within, w .inside)) in
+      let from = h .time (s + 0) in
+      let to = h .time (pred s) in
+      rw (first-is, marked-time h plan i began)
+      (differ-same (pos (grains (from - to))) (subℕ (grains from) (grains to)) (grains (from - to)) 0 (grains from) (grains to)
+      (omega arith) (differ-sub (grains from) (grains to)) (omega arith))
+
+  pub times-are : closesAt h i ≡ true → Times plan h s (wholeRow plan (numberAt h i) (markedTime plan h i) kept)
+  unfolding wholeRow
+  times-are e = record {
+    fpt = fpt-is;
+    offset = rw (fpt-is, latency-is) (sym (offset-is (arrival plan h s 0) (h .stamp s) (plan .period)));
+    latency = latency-is;
+    margin = rw phase-is (margin-is (arrival plan h s 0) (plan .tro) (plan .period) (omega (arith, w .planned .long)));
+    gap = gap-is e;
+  }
+
+  pub levels-are : Levels plan h s (wholeRow plan (numberAt h i) (markedTime plan h i) kept)
+  unfolding wholeRow
+  levels-are = record { peak = peak-is; least = least-is }
+
+-- "A closed frame writes ten numbers": the row that the code makes of the frame it kept is the row of that stretch
+module _ (plan : Plan) (h : History) (ordered : Climbs (h .time) (h .packets)) (i : ℕ) (inside : i < h .packets) where
   pub row-is : Planned plan → closesAt h i ≡ true → RowIs plan h i (rowOf plan (numberAt h i) (markedTime plan h i) (closedAt plan h i))
   unfolding wholeRow
   row-is p closing = go (eqb (kindAt plan h i) 0) refl
     where
-      row : Row
-      row = rowOf plan (numberAt h i) (markedTime plan h i) (closedAt plan h i)
-
-      is-whole : kindAt plan h i ≡ 0 → wholeRow plan (numberAt h i) (markedTime plan h i) (closedAt plan h i)
-          ≡ rowOf plan (numberAt h i) (markedTime plan h i) (closedAt plan h i)
-      is-whole k = row-whole plan (numberAt h i) (closedAt plan h i) (markedTime plan h i) (kind-is ∙ k)
-
-      is-broken : (kindAt plan h i ≡ 0 → ⊥) → brokenRow (numberAt h i) (kindAt plan h i) (detailOf (closedAt plan h i) (kindAt plan h i))
-          ≡ rowOf plan (numberAt h i) (markedTime plan h i) (closedAt plan h i)
-      is-broken k = row-broken plan (numberAt h i) (closedAt plan h i) (markedTime plan h i) (kindAt plan h i) (sym kind-is) k
-
       go : (t : Bool) → eqb (kindAt plan h i) 0 ≡ t → RowIs plan h i (rowOf plan (numberAt h i) (markedTime plan h i) (closedAt plan h i))
       go true e =
           let k = eqb-true (kindAt plan h i) 0 e in
-          subst (RowIs plan h i) (is-whole k) (record {
+          let w : WholeFrame plan h i = record { planned = p; ordered = ordered; inside = inside; whole = k } in
+          subst (RowIs plan h i) (row-whole plan (numberAt h i) (closedAt plan h i) (markedTime plan h i) (kind-is plan h i ∙ k)) (record {
             number = refl;
             kind = ap pos (sym k);
             detail = ap pos (rw k);
-            times = λ z. times-are p k closing;
-            levels = λ z. levels-are p k;
+            times = λ z. times-are w closing;
+            levels = λ z. levels-are w;
             broken = λ z. absurd (z k);
           })
       go false e =
           let k = eqb-false (kindAt plan h i) 0 e in
-          subst (RowIs plan h i) (is-broken k) (record {
+          subst (RowIs plan h i)
+          (row-broken plan (numberAt h i) (closedAt plan h i) (markedTime plan h i) (kindAt plan h i) (sym (kind-is plan h i)) k) (record {
             number = refl;
             kind = refl;
-            detail = ap pos (detail-is (kindAt plan h i));
+            detail = ap pos (detail-is plan h i (kindAt plan h i));
             times = λ z. absurd (k z);
             levels = λ z. absurd (k z);
             broken = λ z. record { fpt = refl; offset = refl; latency = refl; margin = refl; gap = refl; peak = refl; least = refl };
@@ -244,13 +234,10 @@ row-unique plan h i r q x y = go (eqb (kindAt plan h i) 0) refl
         let k = eqb-true (kindAt plan h i) 0 e in
         let a = x .times k in
         let b = y .times k in
-        same-row (x .number ∙ sym (y .number)) (x .kind ∙ sym (y .kind)) (x .detail ∙ sym (y .detail)) (a .fpt ∙ sym (b .fpt))
-        (a .offset ∙ sym (b .offset)) (a .latency ∙ sym (b .latency)) (a .margin ∙ sym (b .margin)) (a .gap ∙ sym (b .gap))
+        same-row (cc) (cc) (cc) (cc) (cc) (cc) (cc) (cc)
         (peak-unique plan h (since h i) (r .peak) (q .peak) (x .levels k .peak) (y .levels k .peak))
         (least-unique plan h (since h i) (r .least) (q .least) (x .levels k .least) (y .levels k .least))
     go false e =
         let a = x .broken (eqb-false (kindAt plan h i) 0 e) in
         let b = y .broken (eqb-false (kindAt plan h i) 0 e) in
-        same-row (x .number ∙ sym (y .number)) (x .kind ∙ sym (y .kind)) (x .detail ∙ sym (y .detail)) (a .fpt ∙ sym (b .fpt))
-        (a .offset ∙ sym (b .offset)) (a .latency ∙ sym (b .latency)) (a .margin ∙ sym (b .margin)) (a .gap ∙ sym (b .gap))
-        (a .peak ∙ sym (b .peak)) (a .least ∙ sym (b .least))
+        same-row (cc) (cc) (cc) (cc) (cc) (cc) (cc) (cc) (cc) (cc)

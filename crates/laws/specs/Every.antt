@@ -123,8 +123,8 @@ fact [] x k = refl
 fact (t ∷ ts) x zero = x .0
 fact (t ∷ ts) x (suc k) = fact ts (x .1) k
 
--- two lists of tests pass together where each does
-after-all : (b : Bool) (us : List Test) → after b us ≡ (b && every us)
+-- a list of tests is one test, alone or before others
+pub after-all : (b : Bool) (us : List Test) → after b us ≡ (b && every us)
 unfolding after
 after-all true us = refl
 after-all false us = none us
@@ -133,13 +133,13 @@ after-all false us = none us
     none [] = refl
     none (t ∷ us) = none us
 
-after-append : (b : Bool) (ts us : List Test) → after b (ts ++ us) ≡ after (after b ts) us
+pub after-front : (b : Bool) (ts us : List Test) → after b (ts ++ us) ≡ after (b && every ts) us
 unfolding after
-after-append b [] us = refl
-after-append b (t ∷ ts) us = after-append (b && passes t) ts us
-
-pub every-append : (ts us : List Test) → every (ts ++ us) ≡ (every ts && every us)
-every-append ts us = after-append true ts us ∙ after-all (every ts) us
+after-front b ts us = go b ts ∙ ap (λ (c : Bool). after c us) (after-all b ts)
+  where
+    go : (b : Bool) (ts : List Test) → after b (ts ++ us) ≡ after (after b ts) us
+    go b [] = refl
+    go b (t ∷ ts) = go (b && passes t) ts
 
 pub tests-append : (a b : List Entry) → tests (a ++ b) ≡ tests a ++ tests b
 tests-append [] b = refl

@@ -1,14 +1,14 @@
 -- Elements put into a list from a place on, which is the kit's `sets`: some and then more behind them, a loop that puts one a turn, and a
 -- loop that has put some of a whole and has the rest to put.
 use mathlib.Core.Path.{_≡_, refl, sym, ap, _∙_}
-use mathlib.Core.List.{List, [], _∷_, _++_}
+use mathlib.Core.List.{List, [], _∷_, _++_, append-assoc}
 use Prim.Native.Nat.{ℕ, suc, _+_, _≤_, _<_}
 use native.Mathlib.Omega.{arith}
 use native.Mathlib.Nat.{add-zero, zero-add}
 use native.Mathlib.Numerals.{add-one}
-use lib.ListN.{length, drop, set, getD, length-append}
+use lib.ListN.{length, take, drop, set, getD, length-append}
 use Rattle.laws.specs.Unique.{one-answer}
-use lib.Seq.{drop-cons, drop-length, sets, sets-eq, length-sets}
+use lib.Seq.{drop-cons, drop-length, drop-at, take-at, sets, sets-eq, length-sets}
 
 -- some put at a place: where the next go, and what stands there then
 pub record Put {A : Type 0} (xs : List A) (at : ℕ) (before : List A) (then : ℕ) (after : List A) : Type 0 where
@@ -32,6 +32,14 @@ module _ {A : Type 0} where
   -- from the front, where they fit: they, and what stood behind
   pub sets-front : (xs l : List A) → length xs ≤ length l → sets l 0 xs ≡ xs ++ drop (length xs) l
   sets-front xs l h = sets-eq xs l 0 (rw (zero-add (length xs)) h) ∙ ap (λ (n : ℕ). xs ++ drop n l) (zero-add (length xs))
+
+  -- and a part of them stands behind those before it
+  pub part-stands : (xs ys zs l : List A) → length (xs ++ (ys ++ zs)) ≤ length l
+      → take (length ys) (drop (length xs) (sets l 0 (xs ++ (ys ++ zs)))) ≡ ys
+  part-stands xs ys zs l h =
+      let behind = drop (length (xs ++ (ys ++ zs))) l in
+      rw (sets-front (xs ++ (ys ++ zs)) l h, append-assoc xs (ys ++ zs) behind, append-assoc ys zs behind)
+      (ap (take (length ys)) (drop-at xs (ys ++ (zs ++ behind)) (length xs) refl) ∙ take-at ys (zs ++ behind) (length ys) refl)
 
   -- one turn of a loop that puts the elements of a list from k on
   pub sets-turn : (at k : ℕ) (xs l : List A) (d : A) → k < length xs

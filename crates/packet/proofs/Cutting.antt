@@ -1,4 +1,5 @@
--- A scan of l ++ m is a scan of l, then of m from where l ended. By the list.
+-- A scan of l ++ m is a scan of l, then of m from where l ended; and frames that closed before only add. By the list: both facts go from
+-- the scan behind a packet to the scan from it on by one law (`scan-under`).
 use mathlib.Core.Path.{_≡_, refl, sym, ap, _∙_}
 use mathlib.Core.Bool.{Bool, _||_}
 use mathlib.Core.List.{List, [], _∷_, _++_}

@@ -1,11 +1,11 @@
--- One turn of a call, by what stands at the walk: a packet goes through the measurement's one loop (timing's Running) with rows as lines,
--- or the call stops. What is left of the window, from the walk and the lines so far, does what the whole call does.
+-- One turn of a call: what is left of the window, from the walk and the lines so far, does what the whole call does (Loop). A packet that
+-- is taken (Here) is a turn of the measurement's one loop (timing's Running) with rows as lines; at all else the call stops.
 use mathlib.Core.Path.{_≡_, refl, sym, ap, subst, _∙_}
 use mathlib.Core.Bool.{Bool, true, false}
 use mathlib.Core.List.{List, [], _∷_, _++_}
 use Prim.Native.Nat.{ℕ, suc, _+_, _-_, _/_, _≤_, _<_}
 use native.Mathlib.Omega.{arith}
-use lib.ListN.{length, drop, length-drop}
+use lib.ListN.{length, take, drop, length-drop}
 use lib.Seq.{length-sets, drop-drop}
 use borrow.Author.Tests.{ne-eqb, lt-ltb, le-ltb}
 use types.Run.{OneOf, miss}
@@ -26,15 +26,16 @@ use Rattle.record.proofs.Window.{read-within}
 use Rattle.record.proofs.InPieces.{piece-alone}
 use Rattle.timing.specs.declared.Rules.{Rules}
 use Rattle.timing.specs.declared.State.{State}
-use Rattle.timing.specs.Step.{rulesOf}
+use Rattle.timing.specs.Step.{rulesOf, arriveOf}
 use Rattle.timing.specs.Range.{inRange}
-use Rattle.timing.specs.Feed.{Going}
+use Rattle.timing.specs.Feed.{ArriveAsks, Going}
 use Rattle.timing.proofs.Sink.{Sink}
-use Rattle.timing.proofs.Running.{going-next, Turn}
+use Rattle.timing.proofs.Running.{going-arrives, going-makes, going-closed, going-next, Turn}
+use Rattle.printer.proofs.Answers.{read-rest}
 use Rattle.printer.specs.declared.Walk.{Walk}
 use Rattle.printer.specs.declared.TakeAnswer.{TakeAnswer}
 use Rattle.printer.specs.Paper.{rowLines}
-use Rattle.printer.specs.Step.{TakeOutcome, stays, stopsAt, andThen, stepped, linesAt, itemBy, walkBy, walkOf, takeOf, TakeGives}
+use Rattle.printer.specs.Step.{TakeOutcome, stays, stopsAt, andThen, stepped, linesAt, itemBy, walkBy, walkOf, takeOf, CloseAsks, TakeGives}
 
 -- ---- what a window's answer says of the window
 
@@ -48,7 +49,7 @@ piece-sixteen at w last e =
 -- ---- one turn, by the definition
 
 module _ (rules : Rules) (walk : Walk) (w : List ℕ) (last : Bool) (room : ℕ) where
-  pub walk-full : room < lineRoom → walkOf rules walk w last room ≡ stays walk
+  walk-full : room < lineRoom → walkOf rules walk w last room ≡ stays walk
   unfolding walkBy
   walk-full h = rw (lt-ltb room lineRoom h)
 
@@ -60,25 +61,22 @@ module _ (rules : Rules) (walk : Walk) (w : List ℕ) (last : Bool) (room : ℕ)
     unfolding walkBy onward
     walk-item r e = rw (le-ltb room lineRoom h, e)
 
-    pub walk-stops : (r : Next) → OneOf (1 ∷ 2 ∷ 3 ∷ []) (tagOf the-type r) → nextPiece (walk .at .at) w last ≡ r
+    walk-stops : (r : Next) → OneOf (1 ∷ 2 ∷ 3 ∷ []) (tagOf the-type r) → nextPiece (walk .at .at) w last ≡ r
         → walkOf rules walk w last room ≡ stopsAt r walk
-    walk-stops r k e = walk-item r e ∙ go r k
-      where
-        go : (r : Next) → OneOf (1 ∷ 2 ∷ 3 ∷ []) (tagOf the-type r) → itemBy rules walk room onward r ≡ stopsAt r walk
-        go (Packet p c) k = absurd (miss (1 ∷ 2 ∷ 3 ∷ []) 0 tt k)
-        go End k = refl
-        go More k = refl
-        go (Refused n o size) k = refl
+    walk-stops (Packet p c) k e = absurd (miss (1 ∷ 2 ∷ 3 ∷ []) 0 tt k)
+    walk-stops End k e = walk-item End e
+    walk-stops More k e = walk-item More e
+    walk-stops (Refused n o size) k e = walk-item (Refused n o size) e
 
     module _ {p : packet.Packet} {c : Cursor} (e : nextPiece (walk .at .at) w last ≡ Packet p c) where
-      pub walk-refuses : (n : ℕ) → n ≡ numberOf (walk .state .past) p → (n ≡ 0 → ⊥)
+      walk-refuses : (n : ℕ) → n ≡ numberOf (walk .state .past) p → (n ≡ 0 → ⊥)
           → walkOf rules walk w last room ≡ stopsAt (Refused n (walk .at .at) packetBytes) walk
       walk-refuses n f some = walk-item _ e ∙ rw (← f, ne-eqb n 0 some)
 
       fuel : length w / packetBytes ≡ suc (length (drop packetBytes w) / packetBytes)
       fuel = let s = piece-sixteen (walk .at .at) w last e in omega (arith, length-drop packetBytes w)
 
-      pub walk-goes : 0 ≡ numberOf (walk .state .past) p
+      walk-goes : 0 ≡ numberOf (walk .state .past) p
           → walkOf rules walk w last room
           ≡ andThen packetBytes (linesAt rules walk p)
           (walkOf rules (stepped rules walk p c) (drop packetBytes w) last
@@ -117,41 +115,26 @@ pub takes-length : {k : TakeOutcome} {used written : ℕ} {out after : List ℕ}
     → length after ≡ length out
 takes-length {k} {written = written} {out} t = ap length (t .bytes) ∙ length-sets out written (k .text)
 
--- ---- the loop: what is left of the window, from the walk and the lines so far, does what the whole call does
+-- ---- what is left of a call, from the bytes and lines so far, does what the whole call does
 
-pub record Loop (k₀ : TakeOutcome) (out₀ : List ℕ) (k : TakeOutcome) (used written : ℕ) (out : List ℕ) : Type 0 where
+pub record Rest (k₀ : TakeOutcome) (out₀ : List ℕ) (k : TakeOutcome) (used written : ℕ) (out : List ℕ) : Type 0 where
   pub walk-same : k .walk ≡ k₀ .walk
   pub used-same : used + k .used ≡ k₀ .used
   pub ended-same : k .ended ≡ k₀ .ended
   pub putting : Putting (k₀ .text) 0 out₀ (k .text) written out
 
-same-loop : (k₀ : TakeOutcome) (out₀ : List ℕ) → Loop k₀ out₀ k₀ 0 0 out₀
-same-loop k₀ out₀ = record {
-  walk-same = refl;
-  used-same = omega arith;
-  ended-same = refl;
-  putting = putting-begins (k₀ .text) 0 out₀;
-}
-
-pub loop-begins : (rules : Rules) (walk : Walk) (w : List ℕ) (last : Bool) (out : List ℕ)
-    → Loop (walkOf rules walk w last (length out)) out (walkOf rules walk (drop 0 w) last (length out - 0)) 0 0 out
-loop-begins rules walk w last out =
-    let all : length out - 0 ≡ length out = omega arith in
-    rw all (same-loop (walkOf rules walk w last (length out)) out)
-
-module _ {k₀ : TakeOutcome} {out₀ : List ℕ} {used written : ℕ} {out : List ℕ} where
-  loop-on : {lines : List ℕ} {k : TakeOutcome} {written′ : ℕ} {out′ : List ℕ} → Loop k₀ out₀ (andThen packetBytes lines k) used written out
-      → Put lines written out written′ out′ → Loop k₀ out₀ k (used + packetBytes) written′ out′
-  loop-on l p = record {
+module _ {k₀ k : TakeOutcome} {out₀ : List ℕ} {used written : ℕ} {out : List ℕ} where
+  rest-on : {lines : List ℕ} {written′ : ℕ} {out′ : List ℕ} → Rest k₀ out₀ (andThen packetBytes lines k) used written out
+      → Put lines written out written′ out′ → Rest k₀ out₀ k (used + packetBytes) written′ out′
+  rest-on l p = record {
     walk-same = l .walk-same;
     used-same = omega (arith, l .used-same);
     ended-same = l .ended-same;
     putting = putting-on (l .putting) p;
   }
 
-  pub loop-ends : {k : TakeOutcome} {r : TakeAnswer} {after : List ℕ} → Loop k₀ out₀ k used written out → TakeGives k used written out r after
-      → TakeGives k₀ 0 0 out₀ r after
-  loop-ends l t = record {
+  rest-ends : {r : TakeAnswer} {after : List ℕ} → Rest k₀ out₀ k used written out → TakeGives k used written out r after → TakeGives k₀ 0 0 out₀ r after
+  rest-ends l t = record {
     walk-is = t .walk-is ∙ l .walk-same;
     used-is = omega (arith, t .used-is, l .used-same);
     written-is = omega (arith, t .written-is, l .putting .place);
@@ -160,56 +143,109 @@ module _ {k₀ : TakeOutcome} {out₀ : List ℕ} {used written : ℕ} {out : Li
     fits = omega (arith, t .fits, l .putting .same-length);
   }
 
-  -- the call stops: at what is no packet, at a packet that is refused, or for want of room
-  pub loop-stops : {k k′ : TakeOutcome} {r : TakeAnswer} {after : List ℕ} → Loop k₀ out₀ k used written out → k ≡ k′ → TakeGives k′ used written out r after
-      → TakeGives k₀ 0 0 out₀ r after
-  loop-stops {r = r} {after} l e t = loop-ends l (subst (λ x. TakeGives x used written out r after) (sym e) t)
+-- ---- the loop
+
+pub record Loop (rules : Rules) (walk₀ : Walk) (w : List ℕ) (last : Bool) (out₀ : List ℕ) (walk : Walk) (used written : ℕ)
+    (out : List ℕ) : Type 0 where
+  pub rest : Rest (walkOf rules walk₀ w last (length out₀)) out₀ (walkOf rules walk (drop used w) last (length out - written))
+      used written out
+  pub going : Going rules (walk .state)
+  pub inside : used ≤ length w
+  pub fits : written ≤ length out
+
+pub loop-begins : {rules : Rules} (walk : Walk) (w : List ℕ) (last : Bool) (out : List ℕ) → Going rules (walk .state)
+    → Loop rules walk w last out walk 0 0 out
+loop-begins walk w last out g =
+    let all : length out - 0 ≡ length out = omega arith in
+    record {
+      rest = rw all (record { walk-same = refl; used-same = omega arith; ended-same = refl; putting = putting-begins _ 0 out });
+      going = g;
+      inside = omega arith;
+      fits = omega arith;
+    }
+
+module _ {rules : Rules} {walk₀ : Walk} {w : List ℕ} {last : Bool} {out₀ : List ℕ} {walk : Walk} {used written : ℕ} {out : List ℕ} where
+  module _ (l : Loop rules walk₀ w last out₀ walk used written out) where
+    -- a turn at a packet that is taken
+    pub record Here (p : packet.Packet) (c : Cursor) : Type 0 where
+      pub room : lineRoom ≤ length out - written
+      pub stands : nextPiece (walk .at .at) (drop used w) last ≡ Packet p c
+      pub passed : numberOf (walk .state .past) p ≡ 0
+
+    -- the code reads the same in the window that it lends
+    pub as-read : {item : Next} → item ≡ nextPiece (walk .at .at) (take (length w - used) (drop used w)) last
+        → nextPiece (walk .at .at) (drop used w) last ≡ item
+    as-read e = read-rest w last (walk .at .at) used e
+
+    -- the call stops: for want of room, at what is no packet, or at a packet that is refused
+    abbrev Ended : TakeAnswer → List ℕ → Type 0
+    Ended r after = TakeGives (walkOf rules walk₀ w last (length out₀)) 0 0 out₀ r after
+
+    module _ {r : TakeAnswer} {after : List ℕ} where
+      stops : {k : TakeOutcome} → walkOf rules walk (drop used w) last (length out - written) ≡ k → TakeGives k used written out r after
+          → Ended r after
+      stops e t = rest-ends (l .rest) (subst (λ x. TakeGives x used written out r after) (sym e) t)
+
+      pub stops-full : length out - written < lineRoom → TakeGives (stays walk) used written out r after → Ended r after
+      stops-full h = stops (walk-full rules walk (drop used w) last _ h)
+
+      module _ {item : Next} (h : lineRoom ≤ length out - written) (e : nextPiece (walk .at .at) (drop used w) last ≡ item) where
+        pub stops-item : OneOf (1 ∷ 2 ∷ 3 ∷ []) (tagOf the-type item) → TakeGives (stopsAt item walk) used written out r after
+            → Ended r after
+        stops-item k = stops (walk-stops rules walk (drop used w) last _ h item k e)
+
+        pub stops-refused : {p : packet.Packet} {c : Cursor} {n : ℕ} {named : Next} → item ≡ Packet p c
+            → n ≡ numberOf (walk .state .past) p → (n ≡ 0 → ⊥) → named ≡ Refused n (walk .at .at) packetBytes
+            → TakeGives (stopsAt named walk) used written out r after → Ended r after
+        stops-refused i f some g =
+            let refuses = walk-refuses rules walk (drop used w) last _ h (e ∙ i) _ f some in
+            stops (refuses ∙ ap (λ (x : Next). stopsAt x walk) (sym g))
 
   -- a packet goes on
-  module _ (rules : Rules) (walk : Walk) (w : List ℕ) (last : Bool) {p : packet.Packet} {c : Cursor}
-      (l : Loop k₀ out₀ (walkOf rules walk (drop used w) last (length out - written)) used written out)
-      (h : lineRoom ≤ length out - written) (e : nextPiece (walk .at .at) (drop used w) last ≡ Packet p c)
-      (f : 0 ≡ numberOf (walk .state .past) p) where
-    pub next-inside : used ≤ length w → used + packetBytes ≤ length w
-    next-inside u = omega (arith, piece-sixteen _ _ _ e, length-drop used w)
+  module _ {l : Loop rules walk₀ w last out₀ walk used written out} {p : packet.Packet} {c : Cursor} (h : Here l p c) where
+    pub packet-inside : used + packetBytes ≤ length w
+    packet-inside = omega (arith, piece-sixteen _ _ _ (h .stands), length-drop used w, l .inside)
 
-    loop-next : {s′ : State} {written′ : ℕ} {out′ : List ℕ} → Turn as-lines rules (walk .state) p written out s′ written′ out′
-        → Loop k₀ out₀ (walkOf rules (record { at = c; state = s′ }) (drop (used + packetBytes) w) last (length out′ - written′))
-        (used + packetBytes) written′ out′
-    loop-next {s′} {written′} {out′} q =
-        let lines = linesAt rules walk p in
-        let left : length out - written - length lines ≡ length out′ - written′ = omega (arith, put-length (q .put), q .put .next) in
-        let m = loop-on (subst (λ x. Loop k₀ out₀ x used written out) (walk-goes rules walk (drop used w) last _ h e f) l) (q .put) in
-        rw (q .state, ← left, ← drop-drop packetBytes used w) m
+    pub packet-arrives : ArriveAsks rules (walk .state) (p .time)
+    packet-arrives = going-arrives (l .going) p (h .passed)
 
-    -- and all that a turn leaves to the next
-    pub next-turn : {s′ : State} {written′ : ℕ} {out′ : List ℕ} → Going rules (walk .state) → used ≤ length w
+    module _ {a : State} (ea : a ≡ arriveOf rules (walk .state) (p .time) (p .stamp)) where
+      pub packet-closes : CloseAsks rules a written (length out)
+      packet-closes = rw ea (record { makes = going-makes (l .going) p (h .passed); fits = omega (arith, h .room, l .fits) })
+
+      pub packet-closed : a .frames .closed ≤ 1000000000
+      packet-closed = rw ea (going-closed (l .going) p (h .passed))
+
+    pub packet-next : {s′ : State} {written′ : ℕ} {out′ : List ℕ}
         → Turn as-lines rules (walk .state) p written out s′ written′ out′ × (written′ ≤ length out)
-        → Loop k₀ out₀ (walkOf rules (record { at = c; state = s′ }) (drop (used + packetBytes) w) last (length out′ - written′))
-        (used + packetBytes) written′ out′ × Going rules s′ × (used + packetBytes ≤ length w) × (written′ ≤ length out′)
-    next-turn g u q =
-        let t = q .0 in (
-          loop-next t,
-          subst (Going rules) (sym (t .state)) (going-next g p (sym f)),
-          next-inside u,
-          omega (arith, q .1, put-length (t .put)),
-        )
+        → Loop rules walk₀ w last out₀ (record { at = c; state = s′ }) (used + packetBytes) written′ out′
+    packet-next {s′} {written′} {out′} q =
+        let t = q .0 in
+        let left : length out - written - length (linesAt rules walk p) ≡ length out′ - written′ =
+        omega (arith, put-length (t .put), t .put .next) in
+        let goes = walk-goes rules walk (drop used w) last _ (h .room) (h .stands) (sym (h .passed)) in
+        let m = rest-on (subst (λ x. Rest (walkOf rules walk₀ w last (length out₀)) out₀ x used written out) goes (l .rest)) (t .put) in
+        record {
+          rest = rw (t .state, ← left, ← drop-drop packetBytes used w) m;
+          going = subst (Going rules) (sym (t .state)) (going-next (l .going) p (h .passed));
+          inside = packet-inside;
+          fits = omega (arith, q .1, put-length (t .put));
+        }
 
 -- ---- the whole call: no room for a line, 9, or record by record
 
-module _ (walk : Walk) (w : List ℕ) (last : Bool) (out : List ℕ) where
-  pub take-full : {r : TakeAnswer} {after : List ℕ} → length out < lineRoom → TakeGives (stays walk) 0 0 out r after
-      → TakeGives (takeOf walk w last (length out)) 0 0 out r after
+module _ (walk : Walk) (w : List ℕ) (last : Bool) (out : List ℕ) {r : TakeAnswer} {after : List ℕ} where
+  pub take-full : length out < lineRoom → TakeGives (stays walk) 0 0 out r after → TakeGives (takeOf walk w last (length out)) 0 0 out r after
   unfolding takeOf
   take-full h t = rw (lt-ltb (length out) lineRoom h) t
 
   module _ (h : lineRoom ≤ length out) where
-    pub take-9 : {r : TakeAnswer} {after : List ℕ} → inRange (walk .state) ≡ false → TakeGives (stopsAt (Refused 9 0 0) walk) 0 0 out r after
+    pub take-9 : inRange (walk .state) ≡ false → TakeGives (stopsAt (Refused 9 0 0) walk) 0 0 out r after
         → TakeGives (takeOf walk w last (length out)) 0 0 out r after
     unfolding takeOf
     take-9 e t = rw (le-ltb (length out) lineRoom h, e) t
 
-    pub take-runs : {r : TakeAnswer} {after : List ℕ} {rules : Rules} → inRange (walk .state) ≡ true → rules ≡ rulesOf (walk .state .numbers)
+    pub take-runs : {rules : Rules} → inRange (walk .state) ≡ true → rules ≡ rulesOf (walk .state .numbers)
         → TakeGives (walkOf rules walk w last (length out)) 0 0 out r after → TakeGives (takeOf walk w last (length out)) 0 0 out r after
     unfolding takeOf
     take-runs e f t = rw (le-ltb (length out) lineRoom h, e, ← f) t

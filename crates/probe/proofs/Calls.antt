@@ -5,10 +5,8 @@ use Prim.Native.Nat.{ℕ, _≤_, _<_}
 use native.Mathlib.Omega.{arith}
 use lib.IntN.{ℤ}
 use lib.ListN.{length, take, length-take}
-use lib.Dec.{leb}
 use lib.Seq.{sets}
-use borrow.Author.Tests.{eq-eqb, ne-eqb, le-leb, lt-leb}
-use Rattle.laws.specs.Choose.{pick, orElse}
+use borrow.Author.Tests.{ne-eqb, le-leb, lt-leb}
 use Rattle.timing.specs.declared.StreamNumbers.{StreamNumbers}
 use Rattle.timing.specs.declared.State.{State}
 use Rattle.timing.specs.declared.Fed.{Fed}
@@ -16,7 +14,7 @@ use Rattle.timing.specs.declared.Fed.the-variants.{Accepted, Refused}
 use Rattle.timing.specs.Step.{setUpOf, freshOf}
 use Rattle.timing.specs.Answers.{summaryWidth, summaryOf}
 use Rattle.timing.specs.Feed.{feedOf, FeedGives}
-use Rattle.timing.proofs.Answering.{set-up-then}
+use Rattle.timing.proofs.Answering.{set-up-first, room-short, room-there}
 use Rattle.timing.proofs.Feeding.{refused-stays}
 use Rattle.probe.specs.declared.Answer.{Answer}
 use Rattle.probe.specs.declared.Held.{Held}
@@ -29,26 +27,23 @@ use Rattle.probe.proofs.Asking.{by-lengths}
 -- ---- set-up
 
 module _ (x : StreamNumbers) (words : List ℕ) where
-  -- 1 to 7 of set-up, then the room
-  in-order : wordsNumber x (length words) ≡ orElse (setUpOf x) (pick (leb 32 (length words)) 0 15)
-  unfolding wordsNumber
-  in-order = set-up-then x (pick (leb 32 (length words)) 0 15)
-
   by-number : (n : ℕ) → wordsNumber x (length words) ≡ n → 0 < n → SetUpGives x words n words
   unfolding setUpLeft
   by-number n e p = record { number-is = sym e; words-are = sym (rw (e, ne-eqb n 0 (λ z. omega arith))) }
 
   pub not-set-up : (n : ℕ) → setUpOf x ≡ n → 0 < n → SetUpGives x words n words
-  not-set-up n e p = by-number n (in-order ∙ rw (e, ne-eqb n 0 (λ z. omega arith))) p
+  unfolding wordsNumber
+  not-set-up n e p = by-number n (set-up-first x 32 (length words) e p) p
 
   pub no-room : setUpOf x ≡ 0 → length words < 32 → SetUpGives x words 15 words
-  no-room e h = by-number 15 (in-order ∙ rw (eq-eqb (setUpOf x) 0 e, lt-leb 32 (length words) h)) (omega arith)
+  unfolding wordsNumber
+  no-room e h = by-number 15 (room-short x 32 (length words) e h) (omega arith)
 
   pub set-up : {s : State} {after : List ℕ} → setUpOf x ≡ 0 → 32 ≤ length words → s ≡ freshOf x → after ≡ sets words 0 (wordsOf s)
       → SetUpGives x words 0 after
-  unfolding setUpLeft
+  unfolding wordsNumber setUpLeft
   set-up e h f g =
-      let fine : wordsNumber x (length words) ≡ 0 = in-order ∙ rw (eq-eqb (setUpOf x) 0 e, le-leb 32 (length words) h) in
+      let fine : wordsNumber x (length words) ≡ 0 = room-there x 32 (length words) e h in
       record { number-is = sym fine; words-are = g ∙ ap (λ (t : State). sets words 0 (wordsOf t)) f ∙ sym (rw fine) }
 
 -- ---- a call
@@ -118,7 +113,8 @@ module _ (words : List ℕ) (rows : List ℤ) (out ts ss ms : List ℕ) where
         → out′ ≡ sets out 0 (summaryOf t) → CallGives (callOf words rows out ts ss ms) 0 words′ after out′
     call-accepted {t} q room w o =
         let now = accepted words rows out t (feedOf s rows ts ss ms .rows) in
-        let enough : byFed words rows out s (Accepted t) (feedOf s rows ts ss ms .rows) ≡ now = rw (le-leb summaryWidth (length out) room) in
+        let enough : byFed words rows out s (Accepted t) (feedOf s rows ts ss ms .rows) ≡ now =
+        rw (le-leb summaryWidth (length out) room) in
         let told = sym enough ∙ ap (λ (z : Fed). byFed words rows out s z (feedOf s rows ts ss ms .rows)) (sym q) ∙ by-fed in
         let r = is now told in
         record {

@@ -8,7 +8,7 @@ use lib.Dec.{leb}
 use lib.IntN.{ℤ}
 use lib.ListN.{length, take}
 use lib.Seq.{sets}
-use borrow.Author.Tests.{eq-eqb, le-leb}
+use borrow.Author.Tests.{le-leb}
 use Rattle.laws.specs.Choose.{pick}
 use Rattle.packet.specs.declared.Packet.{Packet}
 use Rattle.packet.specs.Paper.{OneLength, packets}
@@ -21,7 +21,7 @@ use Rattle.timing.specs.Step.{setUpOf, rulesOf, freshOf, numbers}
 use Rattle.timing.specs.History.{AcceptedHistory, reached, rowsOfAll}
 use Rattle.timing.specs.Answers.{summaryWidth, fedNumber, fedPlace}
 use Rattle.timing.specs.Feed.{Outcome, feedOf, Call, allOf, writes, Deals, none, call, Rooms}
-use Rattle.timing.proofs.Answering.{set-up-then}
+use Rattle.timing.proofs.Answering.{room-there}
 use Rattle.timing.proofs.Feeding.{accepted-from, feed-slices}
 use Rattle.timing.proofs.Accepting.{dealt}
 use Rattle.probe.specs.declared.Held.{Held}
@@ -40,8 +40,7 @@ pub set-up-holds : (x : StreamNumbers) (words : List ℕ) → ParametersHeld (x 
     → (wordsNumber x (length words) ≡ 0) × Holds (setUpLeft x words) (freshOf x)
 unfolding wordsNumber setUpLeft
 set-up-holds x words f e h =
-    let fine : wordsNumber x (length words) ≡ 0 =
-    set-up-then x (pick (leb 32 (length words)) 0 15) ∙ rw (eq-eqb (setUpOf x) 0 e, le-leb 32 (length words) h) in
+    let fine : wordsNumber x (length words) ≡ 0 = room-there x 32 (length words) e h in
     let fresh = laid-hold words (freshOf x) h (record { numbers = f; stamp = omega arith }) in
     (fine, rw fine fresh)
 

@@ -1,5 +1,5 @@
--- A window that shows enough answers as the whole file does, whatever bytes follow it, and a window of 65,537 bytes shows enough. By what
--- stands in front: all that is looked at lies within the window.
+-- A window that shows enough answers as the whole file does, whatever bytes follow it, and a window of 65,537 bytes shows enough: all
+-- that is looked at lies within the window. The next record and the head both answer by the framing in front (`shown`).
 use mathlib.Core.Path.{_≡_, refl, sym, ap, _∙_}
 use mathlib.Core.Bool.{Bool, true, false}
 use mathlib.Core.List.{List, [], _∷_, _++_}
@@ -27,6 +27,13 @@ use Rattle.record.proofs.Format.{parameter-room, packet-room}
 use Rattle.record.proofs.Ways.{head-waits, head-cons}
 use Rattle.record.proofs.Reading.{packet-here}
 use Rattle.record.proofs.Saying.{Says, next-says, SaysHead, head-says}
+
+-- two answers by the length and the kind of what stands in front, each part alike where it is picked
+alike : {A : Type 0} (t p : Bool) (x y z : List ℕ → A) (l m : List ℕ) → (t ≡ true → p ≡ true → x l ≡ x m)
+    → (t ≡ true → p ≡ false → y l ≡ y m) → z l ≡ z m → pick t (pick p (x l) (y l)) (z l) ≡ pick t (pick p (x m) (y m)) (z m)
+alike true true x y z l m e f g = e refl refl
+alike true false x y z l m e f g = f refl refl
+alike false p x y z l m e f g = g
 
 module _ (w v : List ℕ) where
   pub number-front : (k at : ℕ) → at + k ≤ length w → numberAt k (w ++ v) at ≡ numberAt k w at
@@ -69,90 +76,60 @@ module _ (w v : List ℕ) where
 
     next-front : (at : ℕ) → wholeOf at body kind (w ++ v) ≡ wholeOf at body kind w
     unfolding wholeOf
-    next-front at = go (eqb body (kindLength kind)) refl (isParameters kind) refl
-      where
-        r : Bool → Bool → List ℕ → Next
-        r t p l = pick t (pick p (Refused 23 at (2 + body)) (packetOf l (after at packetBytes))) (Refused 22 at (2 + body))
-
-        go : (t : Bool) → eqb body (kindLength kind) ≡ t → (p : Bool) → isParameters kind ≡ p → r t p (w ++ v) ≡ r t p w
-        go true e true p = refl
-        go true e false p =
-            ap (λ q. Packet q (after at packetBytes))
-            (packet-front (omega (arith, packet-room a (eqb-true body (kindLength kind) e) p .inside)))
-        go false e b p = refl
+    next-front at = alike (eqb body (kindLength kind)) (isParameters kind) (λ l. Refused 23 at (2 + body))
+        (λ l. packetOf l (after at packetBytes)) (λ l. Refused 22 at (2 + body)) (w ++ v) w (λ t p. refl)
+        (λ t p. ap (λ q. Packet q (after at packetBytes))
+        (packet-front (omega (arith, packet-room a (eqb-true body (kindLength kind) t) p .inside)))) refl
 
     first-front : (version : ℕ) → firstOf version body kind (w ++ v) ≡ firstOf version body kind w
     unfolding firstOf
-    first-front version = go (eqb body (kindLength kind)) refl (isParameters kind) refl
-      where
-        r : Bool → Bool → List ℕ → Head
-        r t p l = pick t (pick p (head.Ready version kind (parametersAt l) (cursor headBytes)) (head.Refused 23 1)) (head.Refused 22 1)
-
-        go : (t : Bool) → eqb body (kindLength kind) ≡ t → (p : Bool) → isParameters kind ≡ p → r t p (w ++ v) ≡ r t p w
-        go true e true p =
-            ap (λ x. head.Ready version kind x (cursor headBytes))
-            (parameters-front (omega (arith, parameter-room a (eqb-true body (kindLength kind) e) p .inside)))
-        go true e false p = refl
-        go false e b p = refl
+    first-front version = alike (eqb body (kindLength kind)) (isParameters kind)
+        (λ l. head.Ready version kind (parametersAt l) (cursor headBytes)) (λ l. head.Refused 23 1) (λ l. head.Refused 22 1) (w ++ v) w
+        (λ t p. ap (λ x. head.Ready version kind x (cursor headBytes))
+        (parameters-front (omega (arith, parameter-room a (eqb-true body (kindLength kind) t) p .inside)))) (λ t p. refl) refl
 
 -- ---- more is answered where the framing wants more, and nowhere else
 
-whole-known : (at body kind : ℕ) (l : List ℕ) → wantsMore (wholeOf at body kind l) ≡ false
-unfolding wholeOf
-whole-known at body kind l =
-    let P : Next → Type 0 = λ r. wantsMore r ≡ false in
-    pick-either P (eqb body (kindLength kind)) (λ e. pick-either P (isParameters kind) (λ p. refl) (λ p. refl)) (λ e. refl)
+one-of-three : {A : Type 0} (P : A → Type 0) (t p : Bool) {x y z : A} → P x → P y → P z → P (pick t (pick p x y) z)
+one-of-three P t p x y z = pick-either P t (λ e. pick-either P p (λ f. x) (λ f. y)) (λ e. z)
+
+unless-more : (P : Framed → Type 0) → P framed.Nothing → P framed.Cut → ((body kind : ℕ) → P (framed.Whole body kind)) → (f : Framed)
+    → (f ≡ framed.More → ⊥) → P f
+unless-more P none cut all framed.Nothing n = none
+unless-more P none cut all framed.Cut n = cut
+unless-more P none cut all (framed.Whole body kind) n = all body kind
+unless-more P none cut all framed.More n = absurd (n refl)
 
 pub next-known : (at : ℕ) (l : List ℕ) (f : Framed) → (f ≡ framed.More → ⊥) → wantsMore (nextBy at l f) ≡ false
-next-known at l framed.Nothing n = refl
-next-known at l framed.Cut n = refl
-next-known at l (framed.Whole body kind) n = whole-known at body kind l
-next-known at l framed.More n = absurd (n refl)
-
-first-known : (version body kind : ℕ) (l : List ℕ) → headWaits (firstOf version body kind l) ≡ false
-unfolding firstOf
-first-known version body kind l =
-    let P : Head → Type 0 = λ r. headWaits r ≡ false in
-    pick-either P (eqb body (kindLength kind)) (λ e. pick-either P (isParameters kind) (λ p. refl) (λ p. refl)) (λ e. refl)
+unfolding wholeOf
+next-known at l = unless-more (λ f. wantsMore (nextBy at l f) ≡ false) refl refl
+    (λ body kind. one-of-three (λ r. wantsMore r ≡ false) (eqb body (kindLength kind)) (isParameters kind) refl refl refl)
 
 pub head-known : (version : ℕ) (l : List ℕ) (f : Framed) → (f ≡ framed.More → ⊥) → headWaits (headBy version l f) ≡ false
-head-known version l framed.Nothing n = refl
-head-known version l framed.Cut n = refl
-head-known version l (framed.Whole body kind) n = first-known version body kind l
-head-known version l framed.More n = absurd (n refl)
+unfolding firstOf
+head-known version l = unless-more (λ f. headWaits (headBy version l f) ≡ false) refl refl
+    (λ body kind. one-of-three (λ r. headWaits r ≡ false) (eqb body (kindLength kind)) (isParameters kind) refl refl refl)
 
 -- ---- whatever follows a window that shows enough
 
-scrap-waits : (w : List ℕ) → length w < 2 → framedOf w false ≡ framed.More
+-- what answers by the framing in front, alike at a length of 0 and at a whole record
+shown : {A : Type 0} (by : List ℕ → Framed → A) (w v : List ℕ) (last : Bool) → by (w ++ v) framed.Cut ≡ by w framed.Cut
+    → ((body kind : ℕ) → Whole body kind w → by (w ++ v) (framed.Whole body kind) ≡ by w (framed.Whole body kind))
+    → (framedOf w false ≡ framed.More → ⊥) → by (w ++ v) (framedOf (w ++ v) last) ≡ by w (framedOf w false)
 unfolding scrapOf
-scrap-waits w h = framed-scrap w false h
+shown by w v last cut whole-same enough = go (front w)
+  where
+    go : Front w → by (w ++ v) (framedOf (w ++ v) last) ≡ by w (framedOf w false)
+    go (scrap h) = absurd (enough (framed-scrap w false h))
+    go (zero-length t e) = rw (zero-longer w v last t e, framed-zero w false t e) cut
+    go (short t b k) = absurd (enough (framed-short w false t b k))
+    go (whole a) = rw (framed-whole (w ++ v) last (whole-longer w v a), framed-whole w false a) (whole-same _ _ a)
 
 pub next-same : (at : ℕ) (w v : List ℕ) (last : Bool) → wantsMore (nextPiece at w false) ≡ false
     → nextPiece at (w ++ v) last ≡ nextPiece at w false
 unfolding nextPiece
-next-same at w v last m = go (front w)
-  where
-    waits : framedOf w false ≡ framed.More → ⊥
-    waits e = false-true (sym m ∙ ap (λ f. wantsMore (nextBy at w f)) e)
-
-    go : Front w → nextBy at (w ++ v) (framedOf (w ++ v) last) ≡ nextBy at w (framedOf w false)
-    go (scrap h) = absurd (waits (scrap-waits w h))
-    go (zero-length t e) = rw (zero-longer w v last t e, framed-zero w false t e)
-    go (short t b k) = absurd (waits (framed-short w false t b k))
-    go (whole a) = rw (framed-whole (w ++ v) last (whole-longer w v a), framed-whole w false a) (next-front w v a at)
-
-first-same : (b : ℕ) (l v : List ℕ) (last : Bool) → headWaits (headBy b l (framedOf l false)) ≡ false
-    → headBy b (l ++ v) (framedOf (l ++ v) last) ≡ headBy b l (framedOf l false)
-first-same version l v last m = go (front l)
-  where
-    waits : framedOf l false ≡ framed.More → ⊥
-    waits e = false-true (sym m ∙ ap (λ f. headWaits (headBy version l f)) e)
-
-    go : Front l → headBy version (l ++ v) (framedOf (l ++ v) last) ≡ headBy version l (framedOf l false)
-    go (scrap h) = absurd (waits (scrap-waits l h))
-    go (zero-length t e) = rw (zero-longer l v last t e, framed-zero l false t e)
-    go (short t b k) = absurd (waits (framed-short l false t b k))
-    go (whole a) = rw (framed-whole (l ++ v) last (whole-longer l v a), framed-whole l false a) (first-front l v a version)
+next-same at w v last m = shown (nextBy at) w v last refl (λ body kind a. next-front w v a at)
+    (λ e. false-true (sym m ∙ ap (λ f. wantsMore (nextBy at w f)) e))
 
 pub head-same : (w v : List ℕ) (last : Bool) → headWaits (headPiece w false) ≡ false → headPiece (w ++ v) last ≡ headPiece w false
 head-same [] v last m = absurd (false-true (sym m ∙ ap headWaits (head-waits [] false refl refl)))
@@ -165,7 +142,8 @@ head-same (b ∷ l) v last m = head-cons b (l ++ v) last ∙ go (eqb b 1) refl �
     go false e = refl
     go true e =
         let same : headPiece (b ∷ l) false ≡ headBy b l (framedOf l false) = head-cons b l false ∙ rw e in
-        first-same b l v last (sym (ap headWaits same) ∙ m)
+        shown (headBy b) l v last refl (λ body kind a. first-front l v a b)
+        (λ q. false-true (sym m ∙ ap headWaits same ∙ ap (λ f. headWaits (headBy b l f)) q))
 
 -- ---- a window of 65,537 bytes, and one more with the version byte, is never answered More: a body has at most 65,535
 

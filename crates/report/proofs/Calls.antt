@@ -12,8 +12,8 @@ use lib.Seq.{sets, sets-eq}
 use mir.Syntax.{w64}
 use mir.Val.{SFits, toZ, ofZ}
 use mir.Facts.{toZ-ofZ}
-use borrow.Author.Tests.{eq-eqb, ne-eqb, eqb-false, le-leb, lt-leb}
-use Rattle.laws.specs.Choose.{pick, pick-either, orElse}
+use borrow.Author.Tests.{ne-eqb, eqb-false, le-leb, lt-leb}
+use Rattle.laws.specs.Choose.{pick-either}
 use Rattle.packet.specs.declared.Scanned.{Scanned}
 use Rattle.packet.specs.declared.Scanned.the-variants as scan
 use Rattle.packet.specs.Paper.{packets}
@@ -25,7 +25,7 @@ use Rattle.timing.specs.declared.Drawn.{Drawn}
 use Rattle.timing.specs.declared.Drawn.the-variants.{Figures, Refused as Not-Drawn}
 use Rattle.timing.specs.Step.{setUpOf}
 use Rattle.timing.specs.Answers.{graphOf}
-use Rattle.timing.proofs.Answering.{set-up-then}
+use Rattle.timing.proofs.Answering.{set-up-first, room-short, room-there}
 use Rattle.limits.specs.declared.Parameters.{Parameters}
 use Rattle.record.specs.declared.Written.{Written}
 use Rattle.record.specs.declared.Written.the-variants.{Done}
@@ -35,8 +35,8 @@ use Rattle.record.specs.Write as record-write
 use Rattle.report.specs.Paper.{limitsOf, limitsNumber, limitsLeft}
 use Rattle.report.specs.Step.{WriteGives, LimitsGives, drawNumber, drawLeft, DrawGives}
 
-pub writes-as : (s : Parameters) (ts ss ms out : List ℕ) {w v : Written} {after : List ℕ} → record-write.WriteGives s ts ss ms out w after → w ≡ v
-    → WriteGives s ts ss ms out (record-write.writtenNumber v) after
+pub writes-as : (s : Parameters) (ts ss ms out : List ℕ) {w v : Written} {after : List ℕ} → record-write.WriteGives s ts ss ms out w after
+    → w ≡ v → WriteGives s ts ss ms out (record-write.writtenNumber v) after
 writes-as s ts ss ms out h e = record {
   number-is = ap record-write.writtenNumber (sym e ∙ h .answered);
   bytes-are = h .left ∙ ap (λ (w : Written). record-write.leftBy w (bytesIn s (packets ts ss ms)) out) (h .answered);
@@ -72,25 +72,22 @@ written-whole s ts ss ms out h =
 -- ---- the limits
 
 module _ (x : StreamNumbers) (out : List ℕ) where
-  -- 1 to 7 of set-up, then the room
-  in-order : limitsNumber x (length out) ≡ orElse (setUpOf x) (pick (leb 4 (length out)) 0 15)
-  unfolding limitsNumber
-  in-order = set-up-then x (pick (leb 4 (length out)) 0 15)
-
   by-number : (n : ℕ) → limitsNumber x (length out) ≡ n → 0 < n → LimitsGives x out n out
   unfolding limitsLeft
   by-number n e p = record { number-is = sym e; numbers-are = sym (rw (e, ne-eqb n 0 (λ z. omega arith))) }
 
   pub limits-refused : (n : ℕ) → setUpOf x ≡ n → 0 < n → LimitsGives x out n out
-  limits-refused n e p = by-number n (in-order ∙ rw (e, ne-eqb n 0 (λ z. omega arith))) p
+  unfolding limitsNumber
+  limits-refused n e p = by-number n (set-up-first x 4 (length out) e p) p
 
   pub limits-short : setUpOf x ≡ 0 → length out < 4 → LimitsGives x out 15 out
-  limits-short e h = by-number 15 (in-order ∙ rw (eq-eqb (setUpOf x) 0 e, lt-leb 4 (length out) h)) (omega arith)
+  unfolding limitsNumber
+  limits-short e h = by-number 15 (room-short x 4 (length out) e h) (omega arith)
 
   pub limits-done : {after : List ℕ} → setUpOf x ≡ 0 → 4 ≤ length out → after ≡ sets out 0 (limitsOf x) → LimitsGives x out 0 after
-  unfolding limitsLeft
+  unfolding limitsNumber limitsLeft
   limits-done e h f =
-      let fine : limitsNumber x (length out) ≡ 0 = in-order ∙ rw (eq-eqb (setUpOf x) 0 e, le-leb 4 (length out) h) in
+      let fine : limitsNumber x (length out) ≡ 0 = room-there x 4 (length out) e h in
       record {
         number-is = sym fine;
         numbers-are = f ∙ sets-eq (limitsOf x) out 0 (omega arith) ∙ sym (rw (fine));

@@ -1,8 +1,8 @@
--- The packets of a file measured one by one: the measurement's one loop (timing's Running) with rows as bytes, over what is left of the
--- file. A packet's record is read where it stands, and behind it the rest is read.
+-- The packets of a file, measured one by one: what is left of the file, from the state and the bytes so far, gives what the whole gives.
+-- It is the measurement's one loop (timing's Running) with rows as bytes; a packet that is read (Here) is the first of what is left.
 use mathlib.Core.Path.{_≡_, refl, sym, ap, subst, _∙_}
 use mathlib.Core.Bool.{true, false}
-use mathlib.Core.List.{List, [], _∷_}
+use mathlib.Core.List.{List, _∷_}
 use Prim.Native.Nat.{ℕ, _+_, _-_, _≤_, _<_}
 use native.Mathlib.Omega.{arith}
 use lib.ListN.{length, take, drop, length-drop}
@@ -13,7 +13,7 @@ use Rattle.timing.specs.declared.StreamNumbers.{StreamNumbers}
 use Rattle.timing.specs.declared.Rules.{Rules}
 use Rattle.timing.specs.declared.State.{State}
 use Rattle.timing.specs.Step.{rulesOf, freshOf, arriveOf}
-use Rattle.timing.specs.Feed.{ArriveAsks, LayAsks, RunGives}
+use Rattle.timing.specs.Feed.{ArriveAsks, LayAsks, Passes, RunGives}
 use Rattle.timing.specs.Range.{inRange, Sound}
 use Rattle.timing.proofs.InRange.{sound-fresh, of-sound}
 use Rattle.timing.proofs.Dealing.{sound-after}
@@ -39,95 +39,88 @@ pub record Loop (x : StreamNumbers) (file out₀ : List ℕ) (rules : Rules) (s 
   pub loop : R.Loop as-bytes rules (freshOf x) (packetsOf file) summaryBytes out₀ s (rest file s from .accepted) at out
   pub ends : rest file s from .ending ≡ done
 
+-- the packets of a file that can be measured pass
+passes : {x : StreamNumbers} {file : List ℕ} {room : ℕ} → MeasureAsks x file room → Passes ((freshOf x) .past) (packetsOf file)
+passes {x} {file} m =
+    let scans = packets-scan (length (drop headBytes file)) nothing false 0 headBytes (drop headBytes file) (omega arith) (m .whole) in
+    scan-runs (packetsOf file) (rulesOf x) (freshOf x) 0 (scans .0) (scans .1) .0
+
 pub loop-begins : (x : StreamNumbers) (file out : List ℕ) {rules : Rules} {s : State} → MeasureAsks x file (length out) → rules ≡ rulesOf x
     → s ≡ freshOf x → Loop x file out rules s headBytes summaryBytes out
-loop-begins x file out m er es =
-    let scans = packets-scan (length (drop headBytes file)) nothing false 0 headBytes (drop headBytes file) (omega arith) (m .whole) in
-    let passes = scan-runs (packetsOf file) (rulesOf x) (freshOf x) 0 (scans .0) (scans .1) .0 in
-    rw (er, es) (record {
-      rules-are = refl;
-      loop = R.loop-begins as-bytes out (record {
-        going = record { rules-are = refl; sound = sound-fresh x (m .set-up) };
-        passes = passes;
-        fits = m .fits;
-      });
-      ends = m .whole;
-    })
+loop-begins x file out m er es = rw (er, es) (record {
+  rules-are = refl;
+  loop = R.loop-begins as-bytes out (record {
+    going = record { rules-are = refl; sound = sound-fresh x (m .set-up) };
+    passes = passes m;
+    fits = m .fits;
+  });
+  ends = m .whole;
+})
 
-module _ {x : StreamNumbers} {file out₀ : List ℕ} {rules : Rules} {s : State} {from at : ℕ} {out : List ℕ}
-    (k : Loop x file out₀ rules s from at out) where
-  module _ (some : from < length file) where
-    abbrev l : List ℕ
-    l = drop from file
+module _ {x : StreamNumbers} {file out₀ : List ℕ} {rules : Rules} {s : State} {from at : ℕ} {out : List ℕ} where
+  module _ (k : Loop x file out₀ rules s from at out) where
+    -- a packet is read in what is left, as the code lends it
+    pub record Here (q : Packet) : Type 0 where
+      pub some : from < length file
+      pub read : q ≡ packetAt (take (length file - from) (drop from file))
 
-    abbrev p : Packet
-    p = packetAt l
+    module _ (some : from < length file) where
+      fine : packetRefusal (s .past) (drop from file) ≡ 0
+      fine = packets-accepted (s .past) from (drop from file) (omega (arith, length-drop from file, some)) (k .ends)
 
-    fine : packetRefusal (s .past) l ≡ 0
-    fine = packets-accepted (s .past) from l (omega (arith, length-drop from file, some)) (k .ends)
+      pub sixteen : from + packetBytes ≤ length file
+      sixteen =
+          let here = packet-here (drop from file) (neither _ _ fine .0) in
+          omega (arith, here .sixteen, length-drop from file)
 
-    pub sixteen : from + packetBytes ≤ length file
-    sixteen =
-        let here = packet-here l (neither _ _ fine .0) in
-        omega (arith, here .sixteen, length-drop from file)
+      pub there : packetBytes ≤ length (take (length file - from) (drop from file))
+      there = rw (rest-all file from) (omega (arith, sixteen, length-drop from file))
 
+    -- nothing is left
+    pub loop-ends : length file ≤ from → MeasureGives x file out₀ s out
+    loop-ends h =
+        let none = packets-end (s .past) from (drop from file) (omega (arith, length-drop from file)) in
+        let ran = R.loop-ends as-bytes (ap (λ (r : Packets). r .accepted) none) (k .loop) in
+        subst (λ (q : Rules). RunGives rowBytes q (freshOf x) (packetsOf file) summaryBytes out₀ s out) (k .rules-are) ran
+
+  module _ {k : Loop x file out₀ rules s from at out} {q : Packet} (h : Here k q) where
+    -- what is left behind its record
     abbrev next : Packets
-    next = packetsIn (nextOf (s .past) (p .time)) (from + packetBytes) (drop packetBytes l)
+    next = packetsIn (nextOf (s .past) (q .time)) (from + packetBytes) (drop packetBytes (drop from file))
 
-    goes : rest file s from ≡ record { accepted = p ∷ next .accepted; ending = next .ending }
-    goes = packets-go (s .past) from l fine
+    goes : rest file s from ≡ record { accepted = q ∷ next .accepted; ending = next .ending }
+    goes = rw (h .read ∙ ap packetAt (rest-all file from)) (packets-go (s .past) from (drop from file) (fine k (h .some)))
 
-    -- the window that the code reads, and the packet as it reads it
-    pub there : packetBytes ≤ length (take (length file - from) l)
-    there = rw (rest-all file from) (omega (arith, sixteen, length-drop from file))
+    these : rest file s from .accepted ≡ q ∷ next .accepted
+    these = ap (λ (r : Packets). r .accepted) goes
 
-    module _ {q : Packet} (read : q ≡ packetAt (take (length file - from) l)) where
-      these : rest file s from .accepted ≡ q ∷ next .accepted
-      these = ap (λ (r : Packets). r .accepted) goes ∙ ap (λ (y : Packet). y ∷ next .accepted) (sym e)
-        where
-          e : q ≡ p
-          e = read ∙ ap packetAt (rest-all file from)
+    pub packet-arrives : ArriveAsks rules s (q .time)
+    packet-arrives = R.loop-arrives as-bytes these (k .loop)
 
-      pub packet-arrives : ArriveAsks rules s (q .time)
-      packet-arrives = R.loop-arrives as-bytes these (k .loop)
+    module _ {a : State} (ea : a ≡ arriveOf rules s (q .time) (q .stamp)) where
+      pub packet-lays : q .marker ≡ 1 → LayAsks rowBytes rules a at (length out)
+      packet-lays m = rw ea (R.loop-lays as-bytes these (k .loop) m)
 
-      module _ {a : State} (ea : a ≡ arriveOf rules s (q .time) (q .stamp)) where
-        pub packet-lays : q .marker ≡ 1 → LayAsks rowBytes rules a at (length out)
-        packet-lays m = rw ea (R.loop-lays as-bytes these (k .loop) m)
+      pub packet-closed : a .frames .closed ≤ 1000000000
+      packet-closed = rw ea (R.loop-closed as-bytes these (k .loop))
 
-        pub packet-closed : a .frames .closed ≤ 1000000000
-        packet-closed = rw ea (R.loop-closed as-bytes these (k .loop))
-
-      -- its turn: what is left is the file behind its record
-      pub packet-next : {s′ : State} {at′ : ℕ} {out′ : List ℕ} → R.Turn as-bytes rules s q at out s′ at′ out′
-          → Loop x file out₀ rules s′ (from + packetBytes) at′ out′
-      packet-next {s′} {at′} {out′} t =
-          let e : q .time ≡ p .time = ap (λ (y : Packet). y .time) (read ∙ ap packetAt (rest-all file from)) in
-          let past : s′ .past ≡ nextOf (s .past) (p .time) =
-          ap (λ (z : State). z .past) (t .state) ∙ step-past rules s q ∙ ap (nextOf (s .past)) e in
-          let behind : rest file s′ (from + packetBytes) ≡ next = rw (past, drop-drop packetBytes from file) in
-          record {
-            rules-are = k .rules-are;
-            loop = subst
-                (λ (r : Packets). R.Loop as-bytes rules (freshOf x) (packetsOf file) summaryBytes out₀ s′ (r .accepted) at′ out′)
-                (sym behind) (R.loop-next as-bytes these (k .loop) t);
-            ends = ap (λ (r : Packets). r .ending) behind ∙ sym (ap (λ (r : Packets). r .ending) goes) ∙ k .ends;
-          }
-
-  -- nothing is left
-  pub loop-ends : length file ≤ from → MeasureGives x file out₀ s out
-  loop-ends h =
-      let none = packets-end (s .past) from (drop from file) (omega (arith, length-drop from file)) in
-      let ran = R.loop-ends as-bytes (ap (λ (r : Packets). r .accepted) none) (k .loop) in
-      subst (λ (q : Rules). RunGives rowBytes q (freshOf x) (packetsOf file) summaryBytes out₀ s out) (k .rules-are) ran
+    pub packet-next : {s′ : State} {at′ : ℕ} {out′ : List ℕ} → R.Turn as-bytes rules s q at out s′ at′ out′
+        → Loop x file out₀ rules s′ (from + packetBytes) at′ out′
+    packet-next {s′} {at′} {out′} t =
+        let past : s′ .past ≡ nextOf (s .past) (q .time) = ap (λ (z : State). z .past) (t .state) ∙ step-past rules s q in
+        let behind : rest file s′ (from + packetBytes) ≡ next = rw (past, drop-drop packetBytes from file) in
+        record {
+          rules-are = k .rules-are;
+          loop = subst (λ (r : Packets). R.Loop as-bytes rules (freshOf x) (packetsOf file) summaryBytes out₀ s′ (r .accepted) at′ out′)
+              (sym behind) (R.loop-next as-bytes these (k .loop) t);
+          ends = ap (λ (r : Packets). r .ending) behind ∙ sym (ap (λ (r : Packets). r .ending) goes) ∙ k .ends;
+        }
 
 -- the state of a file that can be measured is in range
 pub measured-in-range : {x : StreamNumbers} {file before after : List ℕ} {room : ℕ} {s : State} → MeasureAsks x file room
     → MeasureGives x file before s after → inRange s ≡ true
 measured-in-range {x} {file} {s = s} m d =
-    let scans = packets-scan (length (drop headBytes file)) nothing false 0 headBytes (drop headBytes file) (omega arith) (m .whole) in
-    let passes = scan-runs (packetsOf file) (rulesOf x) (freshOf x) 0 (scans .0) (scans .1) .0 in
-    of-sound s (subst Sound (sym (d .state-is)) (sound-after (packetsOf file) (freshOf x) (sound-fresh x (m .set-up)) passes))
+    of-sound s (subst Sound (sym (d .state-is)) (sound-after (packetsOf file) (freshOf x) (sound-fresh x (m .set-up)) (passes m)))
 
 -- of the stream that the fresh state is of
 pub measured-from : {x : StreamNumbers} (file : List ℕ) {out₀ out : List ℕ} {s₀ s : State} → s₀ ≡ freshOf x

@@ -1,14 +1,12 @@
--- Two last lines that are alike print the same numbers and answers, and no line is of two kinds: the numbers and words are told off
--- the line one after the other.
-use mathlib.Core.Path.{_≡_, refl, sym, ap, _∙_}
+-- Two last lines that are alike print the same numbers and answers, and no line is of two kinds. By reading both from the left: behind
+-- the same words a number ends at the same stop (`told`), and each answer and each line begins with a letter of its own.
+use mathlib.Core.Path.{_≡_, refl, sym, _∙_}
 use mathlib.Core.List.{List, _++_, append-assoc}
 use Prim.Native.Nat.{ℕ, _<_, _^_}
 use native.Mathlib.Omega.{arith}
-use Rattle.bucket.specs.declared.Run.{Run}
 use Rattle.bucket.specs.declared.Network.{Network}
 use Rattle.bucket.specs.declared.Network.the-variants.{Pass as Passes, Burst}
 use Rattle.frame.specs.declared.Row.{Row}
-use Rattle.frame.specs.declared.Place.{Place}
 use Rattle.frame.specs.declared.Buffer.{Buffer}
 use Rattle.frame.specs.declared.Buffer.the-variants.{None, Pass, Under, Over}
 use Rattle.text.specs.Decimal.{codes, digits}
@@ -22,16 +20,17 @@ pair-right w f l r = go w (digits f) (codes " ") (digits l) r
     go : (a b c d e : List ℕ) → a ++ b ++ c ++ d ++ e ≡ a ++ (b ++ (c ++ (d ++ e)))
     go a b c d e = simp append-assoc
 
+-- the same word before both, and a number
+told : (w : List ℕ) (f g : ℕ) (r s : List ℕ) → f < 10 ^ 20 → g < 10 ^ 20 → Stops r → Stops s → w ++ (digits f ++ r) ≡ w ++ (digits g ++ s)
+    → (f ≡ g) × (r ≡ s)
+told w f g r s h k u v e = number-same f g r s h k u v (after w (digits f ++ r) (digits g ++ s) e)
+
 pair-same : (w : List ℕ) (f l g m : ℕ) (r s : List ℕ) → (f < 10 ^ 20) × (l < 10 ^ 20) → (g < 10 ^ 20) × (m < 10 ^ 20) → Stops r → Stops s
     → pairWords w f l ++ r ≡ pairWords w g m ++ s → (f ≡ g) × (l ≡ m) × (r ≡ s)
 pair-same w f l g m r s h k u v e =
-    let whole = sym (pair-right w f l r) ∙ e ∙ pair-right w g m s in
-    let fs = digits f ++ (codes " " ++ (digits l ++ r)) in
-    let gs = digits g ++ (codes " " ++ (digits m ++ s)) in
-    let first =
-    number-same f g (codes " " ++ (digits l ++ r)) (codes " " ++ (digits m ++ s)) (h .0) (k .0) (omega arith) (omega arith)
-    (after w fs gs whole) in
-    let second = number-same l m r s (h .1) (k .1) u v (after (codes " ") (digits l ++ r) (digits m ++ s) (first .1)) in
+    let first = told w f g (codes " " ++ (digits l ++ r)) (codes " " ++ (digits m ++ s)) (h .0) (k .0) (omega arith) (omega arith)
+    (sym (pair-right w f l r) ∙ e ∙ pair-right w g m s) in
+    let second = told (codes " ") l m r s (h .1) (k .1) u v (first .1) in
     (first .0, second .0, second .1)
 
 pub refusals-differ : (n o m p : ℕ) → (n < 10 ^ 20) × (o < 10 ^ 20) → (m < 10 ^ 20) × (p < 10 ^ 20) → refusalLine n o ≡ refusalLine m p
@@ -51,44 +50,37 @@ BufferSized Pass = Unit
 BufferSized (Under p) = (p .frame < 10 ^ 20) × (p .place < 10 ^ 20)
 BufferSized (Over p) = (p .frame < 10 ^ 20) × (p .place < 10 ^ 20)
 
-run-same : (x y : Run) → x .first ≡ y .first → x .last ≡ y .last → x ≡ y
-run-same x y e f = λ j. record { first = e j; last = f j }
-
-place-same : (x y : Place) → x .frame ≡ y .frame → x .place ≡ y .place → x ≡ y
-place-same x y e f = λ j. record { frame = e j; place = f j }
-
 -- each answer begins with a letter of its own
-network-same : (x y : Network) (r s : List ℕ) → NetworkSized x → NetworkSized y → Stops r → Stops s
-    → networkWords x ++ r ≡ networkWords y ++ s → (x ≡ y) × (r ≡ s)
-network-same Passes Passes r s h k u v e = (refl, after (codes "pass") r s e)
-network-same Passes (Burst y) r s h k u v e = absurd (omega (arith, head-same e))
-network-same (Burst x) Passes r s h k u v e = absurd (omega (arith, head-same e))
-network-same (Burst x) (Burst y) r s h k u v e =
-    let both = pair-same (codes "burst ") (x .first) (x .last) (y .first) (y .last) r s h k u v e in
-    (ap Burst (run-same x y (both .0) (both .1)), both .2)
+module _ (r s : List ℕ) (u : Stops r) (v : Stops s) where
+  network-same : (x y : Network) → NetworkSized x → NetworkSized y → networkWords x ++ r ≡ networkWords y ++ s → (x ≡ y) × (r ≡ s)
+  network-same Passes Passes h k e = (refl, after (codes "pass") r s e)
+  network-same Passes (Burst y) h k e = absurd (omega (arith, head-same e))
+  network-same (Burst x) Passes h k e = absurd (omega (arith, head-same e))
+  network-same (Burst x) (Burst y) h k e =
+      let b = pair-same (codes "burst ") (x .first) (x .last) (y .first) (y .last) r s h k u v e in
+      (λ j. Burst (record { first = b .0 j; last = b .1 j }), b .2)
 
-buffer-same : (x y : Buffer) (r s : List ℕ) → BufferSized x → BufferSized y → Stops r → Stops s
-    → bufferWords x ++ r ≡ bufferWords y ++ s → (x ≡ y) × (r ≡ s)
-buffer-same None None r s h k u v e = (refl, after (codes "none") r s e)
-buffer-same None Pass r s h k u v e = absurd (omega (arith, head-same e))
-buffer-same None (Under y) r s h k u v e = absurd (omega (arith, head-same e))
-buffer-same None (Over y) r s h k u v e = absurd (omega (arith, head-same e))
-buffer-same Pass None r s h k u v e = absurd (omega (arith, head-same e))
-buffer-same Pass Pass r s h k u v e = (refl, after (codes "pass") r s e)
-buffer-same Pass (Under y) r s h k u v e = absurd (omega (arith, head-same e))
-buffer-same Pass (Over y) r s h k u v e = absurd (omega (arith, head-same e))
-buffer-same (Under x) None r s h k u v e = absurd (omega (arith, head-same e))
-buffer-same (Under x) Pass r s h k u v e = absurd (omega (arith, head-same e))
-buffer-same (Under x) (Under y) r s h k u v e =
-    let both = pair-same (codes "under ") (x .frame) (x .place) (y .frame) (y .place) r s h k u v e in
-    (ap Under (place-same x y (both .0) (both .1)), both .2)
-buffer-same (Under x) (Over y) r s h k u v e = absurd (omega (arith, head-same e))
-buffer-same (Over x) None r s h k u v e = absurd (omega (arith, head-same e))
-buffer-same (Over x) Pass r s h k u v e = absurd (omega (arith, head-same e))
-buffer-same (Over x) (Under y) r s h k u v e = absurd (omega (arith, head-same e))
-buffer-same (Over x) (Over y) r s h k u v e =
-    let both = pair-same (codes "over ") (x .frame) (x .place) (y .frame) (y .place) r s h k u v e in
-    (ap Over (place-same x y (both .0) (both .1)), both .2)
+  buffer-same : (x y : Buffer) → BufferSized x → BufferSized y → bufferWords x ++ r ≡ bufferWords y ++ s → (x ≡ y) × (r ≡ s)
+  buffer-same None None h k e = (refl, after (codes "none") r s e)
+  buffer-same None Pass h k e = absurd (omega (arith, head-same e))
+  buffer-same None (Under y) h k e = absurd (omega (arith, head-same e))
+  buffer-same None (Over y) h k e = absurd (omega (arith, head-same e))
+  buffer-same Pass None h k e = absurd (omega (arith, head-same e))
+  buffer-same Pass Pass h k e = (refl, after (codes "pass") r s e)
+  buffer-same Pass (Under y) h k e = absurd (omega (arith, head-same e))
+  buffer-same Pass (Over y) h k e = absurd (omega (arith, head-same e))
+  buffer-same (Under x) None h k e = absurd (omega (arith, head-same e))
+  buffer-same (Under x) Pass h k e = absurd (omega (arith, head-same e))
+  buffer-same (Under x) (Under y) h k e =
+      let b = pair-same (codes "under ") (x .frame) (x .place) (y .frame) (y .place) r s h k u v e in
+      (λ j. Under (record { frame = b .0 j; place = b .1 j }), b .2)
+  buffer-same (Under x) (Over y) h k e = absurd (omega (arith, head-same e))
+  buffer-same (Over x) None h k e = absurd (omega (arith, head-same e))
+  buffer-same (Over x) Pass h k e = absurd (omega (arith, head-same e))
+  buffer-same (Over x) (Under y) h k e = absurd (omega (arith, head-same e))
+  buffer-same (Over x) (Over y) h k e =
+      let b = pair-same (codes "over ") (x .frame) (x .place) (y .frame) (y .place) r s h k u v e in
+      (λ j. Over (record { frame = b .0 j; place = b .1 j }), b .2)
 
 -- what a summary prints
 pub record Summed : Type 0 where
@@ -135,19 +127,18 @@ pub summaries-differ : (x y : Summed) → SummedSized x → SummedSized y
 summaries-differ x y h k e =
     let whole = sym (summary-right x) ∙ e ∙ summary-right y in
     let packets =
-    number-same (x .packets) (y .packets) (behind-packets x) (behind-packets y) (h .packets) (k .packets) (omega arith) (omega arith)
-    (after (codes "packets ") _ _ whole) in
+    told (codes "packets ") (x .packets) (y .packets) (behind-packets x) (behind-packets y) (h .packets) (k .packets) (omega arith)
+    (omega arith) whole in
     let closed =
-    number-same (x .closed) (y .closed) (behind-closed x) (behind-closed y) (h .closed) (k .closed) (omega arith) (omega arith)
-    (after (codes " frames ") _ _ (packets .1)) in
+    told (codes " frames ") (x .closed) (y .closed) (behind-closed x) (behind-closed y) (h .closed) (k .closed) (omega arith) (omega arith)
+    (packets .1) in
     let peak =
-    number-same (x .peak) (y .peak) (behind-peak x) (behind-peak y) (h .peak) (k .peak) (omega arith) (omega arith)
-    (after (codes " peak ") _ _ (closed .1)) in
+    told (codes " peak ") (x .peak) (y .peak) (behind-peak x) (behind-peak y) (h .peak) (k .peak) (omega arith) (omega arith) (closed .1) in
     let network =
-    network-same (x .network) (y .network) (behind-network x) (behind-network y) (h .network) (k .network) (omega arith) (omega arith)
+    network-same (behind-network x) (behind-network y) (omega arith) (omega arith) (x .network) (y .network) (h .network) (k .network)
     (after (codes " network ") _ _ (peak .1)) in
     let buffer =
-    buffer-same (x .buffer) (y .buffer) (codes "\n") (codes "\n") (h .buffer) (k .buffer) (omega arith) (omega arith)
+    buffer-same (codes "\n") (codes "\n") (omega arith) (omega arith) (x .buffer) (y .buffer) (h .buffer) (k .buffer)
     (after (codes " buffer ") _ _ (network .1)) in
     λ j. record { packets = packets .0 j; closed = closed .0 j; peak = peak .0 j; network = network .0 j; buffer = buffer .0 j }
 

@@ -1,19 +1,18 @@
 -- The numbers that the answers stand for: by the tests that each answer goes by.
-use mathlib.Core.Path.{_≡_, refl, sym, ap, _∙_}
+use mathlib.Core.Path.{_≡_, refl, sym, _∙_}
 use mathlib.Core.Bool.{Bool, true, false, _&&_}
 use mathlib.Core.List.{List}
-use Prim.Native.Nat.{ℕ, _*_}
+use Prim.Native.Nat.{ℕ, _*_, _≤_, _<_}
 use native.Mathlib.Omega.{arith}
 use lib.Dec.{eqb, leb}
 use lib.Ieee.{binary64, inFloat}
 use lib.IntN.{ℤ}
 use lib.ListN.{length}
-use borrow.Author.Tests.{eqb-true, ne-eqb}
+use borrow.Author.Tests.{eqb-true, eq-eqb, ne-eqb, le-leb, lt-leb}
 use Rattle.laws.specs.Choose.{pick, pick-either, orElse}
 use Rattle.packet.specs.declared.Scanned.{Scanned}
 use Rattle.packet.specs.declared.Scanned.the-variants.{Fine, Refused as Scan-Refused}
 use Rattle.packet.specs.declared.Refusal.{Refusal}
-use Rattle.packet.specs.declared.Packet.{Packet}
 use Rattle.packet.specs.Paper.{packets}
 use Rattle.packet.specs.Step.{scannedOf, scannedNumber, scannedPlace, scannedClosed}
 use Rattle.packet.proofs.Turn.{scanned-some}
@@ -35,9 +34,19 @@ unfolding setUpAs
 set-up-numbered x =
     pick-either (λ (a : SetUp). setUpNumber a ≡ setUpOf x) (eqb (setUpOf x) 0) (λ e. sym (eqb-true (setUpOf x) 0 e)) (λ e. refl)
 
--- set-up's number, and then another
-pub set-up-then : (x : StreamNumbers) (n : ℕ) → orElse (setUpNumber (setUpAs x)) n ≡ orElse (setUpOf x) n
-set-up-then x n = ap (λ (k : ℕ). orElse k n) (set-up-numbered x)
+-- set-up's number, and then 15 where there is less room than is needed
+module _ (x : StreamNumbers) (need room : ℕ) where
+  abbrev pub roomNumber : ℕ
+  roomNumber = orElse (setUpNumber (setUpAs x)) (pick (leb need room) 0 15)
+
+  pub set-up-first : {n : ℕ} → setUpOf x ≡ n → 0 < n → roomNumber ≡ n
+  set-up-first {n} e p = rw (set-up-numbered x, e, ne-eqb n 0 (λ z. omega arith))
+
+  pub room-short : setUpOf x ≡ 0 → room < need → roomNumber ≡ 15
+  room-short e h = rw (set-up-numbered x, eq-eqb (setUpOf x) 0 e, lt-leb need room h)
+
+  pub room-there : setUpOf x ≡ 0 → need ≤ room → roomNumber ≡ 0
+  room-there e h = rw (set-up-numbered x, eq-eqb (setUpOf x) 0 e, le-leb need room h)
 
 -- a state in range has a verdict, and it is the state's own
 pub verdict-is : (s : State) (v : Verdict) → inRange s ≡ true → verdictOf s ≡ Given v → v ≡ answersOf s

@@ -1,10 +1,11 @@
 -- A state is in range, by the tests of the code, exactly when each of its numbers is, as a fact; the fresh state of accepted numbers is.
-use mathlib.Core.Path.{_≡_, refl, sym, ap, _∙_}
-use mathlib.Core.Bool.{Bool, true, false, _&&_}
+-- Each part's table is one test (`by-parts`), which is the part's own fact (its Ranging).
+use mathlib.Core.Path.{_≡_, sym, _∙_}
+use mathlib.Core.Bool.{true, _&&_}
 use mathlib.Core.List.{List, [], _∷_, _++_}
 use native.Mathlib.Omega.{arith}
 use lib.Dec.{eqb, leb}
-use Rattle.laws.specs.Every.{Test, at-most, same, is, after, every, All, facts, of-facts, _and_, tests, every-append}
+use Rattle.laws.specs.Every.{Test, at-most, same, is, after, every, All, facts, of-facts, _and_, tests, after-front, after-all}
 use Rattle.packet.specs.Range as P
 use Rattle.packet.proofs.Ranging as PR
 use Rattle.bucket.specs.Range as B
@@ -13,7 +14,7 @@ use Rattle.frame.proofs.Ranges as FR
 use Rattle.timing.specs.declared.State.{State}
 use Rattle.timing.specs.declared.StreamNumbers.{StreamNumbers}
 use Rattle.timing.specs.Step.{setUpOf, rulesOf, freshOf}
-use Rattle.timing.specs.Range.{streamTable, drainedTable, framesTable, inRange, Sound}
+use Rattle.timing.specs.Range.{drainedTable, framesTable, inRange, Sound}
 
 module _ (s : State) where
   -- the table's tests, part by part, as the code asks them
@@ -31,19 +32,11 @@ module _ (s : State) where
   by-parts =
       let past = P.ranges (s .past) in
       let bucket = B.ranges (s .bucket) (s .past .packets) in
-      let last = tests (drainedTable s) ++ tests (framesTable s) in
-      every-append (tests (streamTable s)) (past ++ (bucket ++ last))
-      ∙ ap (λ (b : Bool). eqb (setUpOf (s .numbers)) 0 && b)
-      (every-append past (bucket ++ last)
-      ∙ ap (λ (b : Bool). every past && b)
-      (every-append bucket last ∙ ap (λ (b : Bool). every bucket && b) (every-append (tests (drainedTable s)) (tests (framesTable s)))))
-      ∙ five (eqb (setUpOf (s .numbers)) 0) (every past) (every bucket) (leb (s .drained) 1000000000) (every (tests (framesTable s)))
-    where
-      five : (a b c d e : Bool) → (a && (b && (c && (d && e)))) ≡ ((((a && b) && c) && d) && e)
-      five true true true d e = refl
-      five true true false d e = refl
-      five true false c d e = refl
-      five false b c d e = refl
+      let frames = tests (framesTable s) in
+      let a = eqb (setUpOf (s .numbers)) 0 in
+      after-front a past (bucket ++ (tests (drainedTable s) ++ frames))
+      ∙ after-front (a && every past) bucket (tests (drainedTable s) ++ frames)
+      ∙ after-all (((a && every past) && every bucket) && leb (s .drained) 1000000000) frames
 
   pub sound-of : inRange s ≡ true → Sound s
   sound-of e =

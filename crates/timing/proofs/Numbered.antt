@@ -1,4 +1,5 @@
--- Where each frame's numbers stand among all that are written: the rows before it are as many as frames closed before. By place.
+-- Where each frame's numbers stand among all that are written: the rows before it are as many as frames closed before, so all that is
+-- written is cut before its row and behind it. By place.
 use mathlib.Core.Path.{_≡_, refl, sym, ap, _∙_}
 use mathlib.Core.Bool.{Bool, true, false}
 use mathlib.Core.Logic.{_⊎_, inl, inr}
@@ -8,10 +9,10 @@ use native.Mathlib.Omega.{arith}
 use native.Mathlib.Nat.{le-suc-iff}
 use lib.IntN.{ℤ}
 use lib.ListN.{length, take, drop, length-append}
-use lib.Seq.{sets, take-at, drop-at}
+use lib.Seq.{sets}
 use Rattle.laws.specs.Choose.{pick}
 use Rattle.laws.specs.Count.{count}
-use Rattle.laws.specs.Lay.{sets-front}
+use Rattle.laws.specs.Lay.{part-stands}
 use Rattle.packet.specs.declared.Packet.{Packet}
 use Rattle.frame.specs.declared.Row.{Row}
 use Rattle.frame.specs.Paper.{closesAt, numberAt}
@@ -66,15 +67,7 @@ module _ (x : StreamNumbers) (l : List Packet) where
   numbers-of-frame i m r lent h e room =
       let w = rows-from i m h in
       let before = numbers (rowsTo x l i) in
-      let out = numbers (rowsTo x l m) in
-      let behind = numbers (w .0) ++ drop (length out) lent in
-      let cut : out ≡ before ++ (numbersOf r ++ numbers (w .0)) =
+      let cut : numbers (rowsTo x l m) ≡ before ++ (numbersOf r ++ numbers (w .0)) =
       ap numbers (w .1 ∙ ap (λ (q : List Row). rowsTo x l i ++ (q ++ w .0)) e) ∙ both as-numbers (rowsTo x l i) (r ∷ w .0) in
-      let all : sets lent 0 out ≡ before ++ (numbersOf r ++ behind) =
-      sets-front out lent room ∙ ap (λ (o : List ℤ). o ++ drop (length out) lent) cut
-      ∙ append-assoc before (numbersOf r ++ numbers (w .0)) (drop (length out) lent)
-      ∙ ap (λ (o : List ℤ). before ++ o) (append-assoc (numbersOf r) (numbers (w .0)) (drop (length out) lent)) in
-      let size : length before ≡ rowWidth * numberAt (frameHistory x l) i = omega (arith, numbers-length (rowsTo x l i), rows-counted i) in
-      ap (λ (o : List ℤ). take rowWidth (drop (rowWidth * numberAt (frameHistory x l) i) o)) all
-      ∙ ap (take rowWidth) (drop-at before (numbersOf r ++ behind) (rowWidth * numberAt (frameHistory x l) i) size)
-      ∙ take-at (numbersOf r) behind rowWidth refl
+      let size : rowWidth * numberAt (frameHistory x l) i ≡ length before = omega (arith, numbers-length (rowsTo x l i), rows-counted i) in
+      rw (size, cut) (part-stands before (numbersOf r) (numbers (w .0)) lent (rw cut at room))

@@ -1,13 +1,13 @@
 -- The one loop over packets, however rows are written (Sink): the code's turn is one step, its row is put behind those before, and what
 -- the rest of the run needs still holds. Each loop of the code adds how it reads its packets.
 use mathlib.Core.Path.{_≡_, refl, sym, ap, _∙_, subst}
-use mathlib.Core.Bool.{Bool, true, false}
+use mathlib.Core.Bool.{true, false}
 use mathlib.Core.List.{List, [], _∷_, _++_}
 use Prim.Native.Nat.{ℕ, _+_, _≤_}
 use native.Mathlib.Omega.{arith}
 use lib.ListN.{length, length-append}
 use borrow.Author.Tests.{eq-eqb, ne-eqb}
-use Rattle.laws.specs.Choose.{pick}
+use Rattle.laws.specs.Choose.{pick-either}
 use Rattle.laws.specs.Fold.{fold}
 use Rattle.laws.specs.Lay.{Put, put-none, Putting, putting-begins, putting-on, putting-ends}
 use Rattle.packet.specs.declared.Packet.{Packet}
@@ -15,7 +15,6 @@ use Rattle.packet.specs.Paper.{marked}
 use Rattle.packet.specs.Step.{numberOf, nextOf}
 use Rattle.frame.specs.declared.Row.{Row}
 use Rattle.frame.specs.Step as F
-use Rattle.frame.specs.Range.{Planned, RowAsks}
 use Rattle.timing.specs.declared.Rules.{Rules}
 use Rattle.timing.specs.declared.State.{State}
 use Rattle.timing.specs.Step.{rulesOf, arriveOf, markOf, stepOf, rowsOf, stateAfter, rowsAfter}
@@ -28,21 +27,11 @@ use Rattle.timing.proofs.Staying.{arrives, few-closed, sound-step, rows
 -- a step leaves the stream numbers and goes on to the next past
 pub step-numbers : (rules : Rules) (s : State) (p : Packet) → (stepOf rules s p) .numbers ≡ s .numbers
 unfolding stepOf arriveOf markOf
-step-numbers rules s p = go (marked p)
-  where
-    go : (t : Bool) → (pick t (markOf rules (arriveOf rules s (p .time) (p .stamp)) (p .time)) (arriveOf rules s (p .time) (p .stamp)))
-        .numbers ≡ s .numbers
-    go true = refl
-    go false = refl
+step-numbers rules s p = pick-either (λ (z : State). z .numbers ≡ s .numbers) (marked p) (λ e. refl) (λ e. refl)
 
 pub step-past : (rules : Rules) (s : State) (p : Packet) → (stepOf rules s p) .past ≡ nextOf (s .past) (p .time)
 unfolding stepOf arriveOf markOf
-step-past rules s p = go (marked p)
-  where
-    go : (t : Bool) → (pick t (markOf rules (arriveOf rules s (p .time) (p .stamp)) (p .time)) (arriveOf rules s (p .time) (p .stamp)))
-        .past ≡ nextOf (s .past) (p .time)
-    go true = refl
-    go false = refl
+step-past rules s p = pick-either (λ (z : State). z .past ≡ nextOf (s .past) (p .time)) (marked p) (λ e. refl) (λ e. refl)
 
 -- what a marker closes after the packet has arrived is what the packet writes
 pub closes-rows : (rules : Rules) (s : State) (p : Packet) → marked p ≡ true → closing rules (arriveOf rules s (p .time) (p .stamp))
@@ -119,14 +108,18 @@ module _ {A : Type 0} (w : Sink A) where
       passed = these .runs .passes .0
 
       -- the rows that the packet writes, and then the rest
-      cut : w .write (rowsAfter rules s (p ∷ ps)) ≡ w .write (rowsOf rules s p) ++ w .write (rowsAfter rules (stepOf rules s p) ps)
+      abbrev first : List A
+      first = w .write (rowsOf rules s p)
+
+      abbrev others : List A
+      others = w .write (rowsAfter rules (stepOf rules s p) ps)
+
+      cut : w .write (rowsAfter rules s (p ∷ ps)) ≡ first ++ others
       unfolding rowsAfter
       cut = both w (rowsOf rules s p) (rowsAfter rules (stepOf rules s p) ps)
 
-      rest-fits : at + (length (w .write (rowsOf rules s p)) + length (w .write (rowsAfter rules (stepOf rules s p) ps))) ≤ length out
-      rest-fits =
-          let parts = length-append (w .write (rowsOf rules s p)) (w .write (rowsAfter rules (stepOf rules s p) ps)) in
-          omega (arith, these .runs .fits, ap length cut, parts)
+      rest-fits : at + (length first + length others) ≤ length out
+      rest-fits = omega (arith, these .runs .fits, ap length cut, length-append first others)
 
       pub loop-arrives : ArriveAsks rules s (p .time)
       loop-arrives = going-arrives (these .runs .going) p passed

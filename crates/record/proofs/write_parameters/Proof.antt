@@ -1,8 +1,12 @@
--- The version byte and the parameters, field by field: their stores are the head of the file, stored.
-use mathlib.Core.Path.{ap}
+-- The version byte and the parameters, field by field: their stores are the head of the file, stored. Each store leaves the length, which
+-- is said once for each call.
+use mathlib.Core.Path.{_≡_, ap, _∙_}
+use mathlib.Core.List.{List}
+use Prim.Native.Nat.{ℕ}
 use native.Mathlib.Omega.{arith}
 use lib.ListN.{length, length-set}
 use lib.Seq.{length-sets}
+use denote.Ref.{now}
 use borrow.Author.Needs.{needs}
 use Rattle.record.proofs.Stores.{head-stored}
 use Rattle.record.proofs.write_parameters.Statement.{statement}
@@ -32,55 +36,33 @@ slice-write-out-7 c = simp length-set (omega arith)
 write16-requires : tie.Need-write16-requires
 write16-requires c κs = record { inside = simp length-set (omega arith) }
 
+-- the bytes that were lent
+abbrev lent : tie.After-write16 → List ℕ
+lent c = now (c .before .before .before .args .out)
+
+long16 : (c : tie.After-write16) → length (c .write16 .last .0) ≡ length (lent c)
+long16 c = simp (length-sets, length-set) at (ap length (c .write16 .ensures))
+
+long32 : (c : tie.After-write32) → length (c .write32 .last .0) ≡ length (lent c.before.before.before.before)
+long32 c = (simp length-sets at (ap length (c .write32 .ensures))) ∙ long16 (c .before .before .before .before)
+
+long162 : (c : tie.After-write162)
+    → length (c .write162 .last .0) ≡ length (lent c.before.before.before.before.before.before.before.before)
+long162 c = (simp length-sets at (ap length (c .write162 .ensures))) ∙ long32 (c .before .before .before .before)
+
 write32-requires : tie.Need-write32-requires
-write32-requires c κs =
-    let after16 = c .before .before .before in
-    record {
-      inside = omega (
-        arith,
-        simp (length-sets, length-set) at (ap length (after16 .write16 .ensures)),
-      );
-    }
+write32-requires c κs = record { inside = omega (arith, long16 (c .before .before .before)) }
 
 write16-requires-2 : tie.Need-write16-requires-2
-write16-requires-2 c κs =
-    let after32 = c .before .before .before in
-    let after16 = after32 .before .before .before .before in
-    record {
-      inside = omega (
-        arith,
-        simp (length-sets, length-set) at (ap length (after16 .write16 .ensures)),
-        simp length-sets at (ap length (after32 .write32 .ensures)),
-      );
-    }
+write16-requires-2 c κs = record { inside = omega (arith, long32 (c .before .before .before)) }
 
 write32-requires-2 : tie.Need-write32-requires-2
-write32-requires-2 c κs =
-    let after162 = c .before .before .before in
-    let after32 = after162 .before .before .before .before in
-    let after16 = after32 .before .before .before .before in
-    record {
-      inside = omega (
-        arith,
-        simp (length-sets, length-set) at (ap length (after16 .write16 .ensures)),
-        simp length-sets at (ap length (after32 .write32 .ensures)),
-        simp length-sets at (ap length (after162 .write162 .ensures)),
-      );
-    }
+write32-requires-2 c κs = record { inside = omega (arith, long162 (c .before .before .before)) }
 
 same-length : tie.Need-same-length
 same-length c =
-    let after322 = c .before .before in
-    let after162 = after322 .before .before .before .before in
-    let after32 = after162 .before .before .before .before in
-    let after16 = after32 .before .before .before .before in
-    omega (
-      arith,
-      simp (length-sets, length-set) at (ap length (after16 .write16 .ensures)),
-      simp length-sets at (ap length (after32 .write32 .ensures)),
-      simp length-sets at (ap length (after162 .write162 .ensures)),
-      simp length-sets at (ap length (after322 .write322 .ensures)),
-    )
+    let stored = c .before .before in
+    (simp length-sets at (ap length (stored .write322 .ensures))) ∙ long162 (stored .before .before .before .before)
 
 returns : tie.Need-returns
 returns c = cc (head-stored _ _)

@@ -1,4 +1,5 @@
--- What is left of the file, from the state and the bytes so far, gives what the whole gives (Measuring); a record is 16 bytes.
+-- What is left of the file, from the state and the bytes so far, gives what the whole gives (Loop of Measuring): each need is one law of
+-- it. What is known where a packet was read stands once, in `here`.
 use Prim.Native.Nat.{_-_}
 use mathlib.Core.Path.{refl}
 use mathlib.Core.Logic.{⊎-elim}
@@ -7,8 +8,8 @@ use lib.ListN.{length}
 use borrow.Author.Needs.{needs}
 use Rattle.timing.proofs.Running.{turn-marked, turn-plain}
 use Rattle.report.proofs.Bytes.{as-bytes}
-use Rattle.report.proofs.Measuring.{Loop, loop-begins, sixteen, there, packet-arrives, packet-lays, packet-closed, packet-next}
-use Rattle.report.proofs.Measuring.{loop-ends, measured-from}
+use Rattle.report.proofs.Measuring.{Loop, loop-begins, loop-ends, measured-from, sixteen, there}
+use Rattle.report.proofs.Measuring.{Here, packet-arrives, packet-lays, packet-closed, packet-next}
 use Rattle.report.proofs.measure.Statement.{statement}
 use Rattle.report.proofs.measure.Tie as tie
 
@@ -44,26 +45,21 @@ packet-at-requires c κs =
     let turn = c .before in
     record { inside = omega (arith, there (turn .before .loop .inv) (turn .loop-test .taken)) }
 
+here : (c : tie.After-packet-at Inv-loop μ-loop) → Here (c .before .before .before .loop .inv) (c .packet-at .result)
+here c = record { some = c .before .before .loop-test .taken; read = c .packet-at .ensures }
+
 arrive-requires : tie.Need-arrive-requires Inv-loop μ-loop
-arrive-requires c κs =
-    let turn = c .before .before in
-    packet-arrives (turn .before .loop .inv) (turn .loop-test .taken) (c .packet-at .ensures)
+arrive-requires c κs = packet-arrives (here c)
 
 put-closed-requires : tie.Need-put-closed-requires Inv-loop μ-loop
 put-closed-requires c κs =
     let arrived = c .before .before .before in
-    let turn = arrived .before .before .before in
-    packet-lays (turn .before .loop .inv) (turn .loop-test .taken)
-    (arrived .before .packet-at .ensures)
-    (arrived .arrive .ensures) (c .before .if1 .taken)
+    packet-lays (here arrived.before) (arrived .arrive .ensures) (c .before .if1 .taken)
 
 mark-requires : tie.Need-mark-requires Inv-loop μ-loop
 mark-requires c κs =
     let arrived = c .before .before .before .before .before .before in
-    let turn = arrived .before .before .before in
-    packet-closed (turn .before .loop .inv) (turn .loop-test .taken)
-    (arrived .before .packet-at .ensures)
-    (arrived .arrive .ensures)
+    packet-closed (here arrived.before) (arrived .arrive .ensures)
 
 add-from : tie.Need-add-from Inv-loop μ-loop
 add-from c =
@@ -79,10 +75,9 @@ loop-less c =
 loop-again : tie.Need-loop-again Inv-loop μ-loop
 loop-again c =
     let arrived = c .before .before in
-    let turn = arrived .before .before .before in
-    let l = turn .before .loop in
+    let l = arrived .before .before .before .before .loop in
     let a = arrived .arrive .ensures in
-    packet-next (l .inv) (turn .loop-test .taken) (arrived .before .packet-at .ensures)
+    packet-next (here arrived.before)
     (⊎-elim
     (λ w. rw (w .7, w .8, w .6) (turn-marked as-bytes _ (l .s) _ (l .at) (l .out) a (w .0 .taken) (w .5 .ensures) (w .2 .ensures)))
     (λ w. rw (w .2, w .3, w .1) (turn-plain as-bytes _ (l .s) _ (l .at) (l .out) a (w .0 .left)))

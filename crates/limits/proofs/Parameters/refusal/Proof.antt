@@ -1,12 +1,23 @@
--- The seven questions, asked one after another: each way out is one place in the list, the questions before it answered yes. In each
--- return q1, q2, .. stand behind the branches that were passed, the last first.
-use mathlib.Core.Path.{ap, _∙_}
-use Prim.Native.Nat.{ℕ}
-use Rattle.limits.specs.Paper.{troFits, setUpRefusal}
-use Rattle.limits.proofs.Laws.{passes, asked, refused, first}
+-- The seven questions, asked one after another. Where the code has passed k of them (`past1`, `past2`, ..), what answers those left answers
+-- all seven, so that each return adds one answer.
+use mathlib.Core.Path.{_≡_, ap, _∙_}
+use Prim.Native.Nat.{ℕ, suc}
+use lib.ListN.{drop}
+use Rattle.limits.specs.declared.Parameters.{Parameters}
+use Rattle.limits.specs.Paper.{troFits, questions, setUpRefusal}
+use Rattle.limits.proofs.Laws.{First, passes, asked, refused, first}
 use borrow.Author.Needs.{needs}
 use Rattle.limits.proofs.Parameters.refusal.Statement.{statement}
 use Rattle.limits.proofs.Parameters.refusal.Tie as tie
+
+-- after k questions
+record Past (k : ℕ) : Type 0 where
+  numbers : Parameters
+  so : {r : ℕ} → First (suc k) (drop k (questions numbers)) r → r ≡ setUpRefusal numbers
+
+all-asked : (x : Parameters) {r : ℕ} → First 1 (questions x) r → r ≡ setUpRefusal x
+unfolding setUpRefusal
+all-asked x f = first f
 
 cast-is-within : tie.Need-cast-is-within
 cast-is-within c = search needs
@@ -15,8 +26,13 @@ is-within-requires : tie.Need-is-within-requires
 is-within-requires c κs = search needs
 
 returns : tie.Need-returns
-unfolding setUpRefusal
-returns q1 = first (refused (q1 .before .is-within .ensures) (q1 .if1 .taken))
+returns q = all-asked _ (refused (q .before .is-within .ensures) (q .if1 .taken))
+
+abbrev past1 : tie.Else1 → Past 1
+past1 q = record {
+  numbers = q .before .before .before .args .self;
+  so = λ f. all-asked _ (asked (q .before .is-within .ensures) (q .if1 .left) f);
+}
 
 cast-is-within-2 : tie.Need-cast-is-within-2
 cast-is-within-2 c = search needs
@@ -25,25 +41,23 @@ is-within-requires-2 : tie.Need-is-within-requires-2
 is-within-requires-2 c κs = search needs
 
 returns-2 : tie.Need-returns-2
-unfolding setUpRefusal
-returns-2 q2 =
-    let q1 = q2 .before .before .before in
-    first
-    (asked (q1 .before .is-within .ensures) (q1 .if1 .left)
-    (refused (q2 .before .is-within2 .ensures) (q2 .if2 .taken)))
+returns-2 q = past1 (q .before .before .before) .so (refused (q .before .is-within2 .ensures) (q .if2 .taken))
+
+abbrev past2 : tie.Else2 → Past 2
+past2 q =
+    let p = past1 (q .before .before .before) in
+    record { numbers = p .numbers; so = λ f. p .so (asked (q .before .is-within2 .ensures) (q .if2 .left) f) }
 
 class-fits-requires : tie.Need-class-fits-requires
 class-fits-requires c κs = search needs
 
 returns-3 : tie.Need-returns-3
-unfolding setUpRefusal
-returns-3 q3 =
-    let q2 = q3 .before .before in
-    let q1 = q2 .before .before .before in
-    first
-    (asked (q1 .before .is-within .ensures) (q1 .if1 .left)
-    (asked (q2 .before .is-within2 .ensures) (q2 .if2 .left)
-    (refused (q3 .before .class-fits .ensures) (q3 .if3 .taken))))
+returns-3 q = past2 (q .before .before) .so (refused (q .before .class-fits .ensures) (q .if3 .taken))
+
+abbrev past3 : tie.Else3 → Past 3
+past3 q =
+    let p = past2 (q .before .before) in
+    record { numbers = p .numbers; so = λ f. p .so (asked (q .before .class-fits .ensures) (q .if3 .left) f) }
 
 cast-is-within-3 : tie.Need-cast-is-within-3
 cast-is-within-3 c = search needs
@@ -52,52 +66,34 @@ is-within-requires-3 : tie.Need-is-within-requires-3
 is-within-requires-3 c κs = search needs
 
 returns-4 : tie.Need-returns-4
-unfolding setUpRefusal
-returns-4 q4 =
-    let q3 = q4 .before .before .before in
-    let q2 = q3 .before .before in
-    let q1 = q2 .before .before .before in
-    first
-    (asked (q1 .before .is-within .ensures) (q1 .if1 .left)
-    (asked (q2 .before .is-within2 .ensures) (q2 .if2 .left)
-    (asked (q3 .before .class-fits .ensures) (q3 .if3 .left)
-    (refused (q4 .before .is-within3 .ensures) (q4 .if4 .taken)))))
+returns-4 q = past3 (q .before .before .before) .so (refused (q .before .is-within3 .ensures) (q .if4 .taken))
+
+abbrev past4 : tie.Else4 → Past 4
+past4 q =
+    let p = past3 (q .before .before .before) in
+    record { numbers = p .numbers; so = λ f. p .so (asked (q .before .is-within3 .ensures) (q .if4 .left) f) }
 
 is-within-requires-4 : tie.Need-is-within-requires-4
 is-within-requires-4 c κs = search needs
 
 returns-5 : tie.Need-returns-5
-unfolding setUpRefusal
-returns-5 q5 =
-    let q4 = q5 .before .before in
-    let q3 = q4 .before .before .before in
-    let q2 = q3 .before .before in
-    let q1 = q2 .before .before .before in
-    first
-    (asked (q1 .before .is-within .ensures) (q1 .if1 .left)
-    (asked (q2 .before .is-within2 .ensures) (q2 .if2 .left)
-    (asked (q3 .before .class-fits .ensures) (q3 .if3 .left)
-    (asked (q4 .before .is-within3 .ensures) (q4 .if4 .left)
-    (refused (q5 .before .is-within4 .ensures) (q5 .if5 .taken))))))
+returns-5 q = past4 (q .before .before) .so (refused (q .before .is-within4 .ensures) (q .if5 .taken))
+
+abbrev past5 : tie.Else5 → Past 5
+past5 q =
+    let p = past4 (q .before .before) in
+    record { numbers = p .numbers; so = λ f. p .so (asked (q .before .is-within4 .ensures) (q .if5 .left) f) }
 
 maxudp-known-requires : tie.Need-maxudp-known-requires
 maxudp-known-requires c κs = search needs
 
 returns-6 : tie.Need-returns-6
-unfolding setUpRefusal
-returns-6 q6 =
-    let q5 = q6 .before .before in
-    let q4 = q5 .before .before in
-    let q3 = q4 .before .before .before in
-    let q2 = q3 .before .before in
-    let q1 = q2 .before .before .before in
-    first
-    (asked (q1 .before .is-within .ensures) (q1 .if1 .left)
-    (asked (q2 .before .is-within2 .ensures) (q2 .if2 .left)
-    (asked (q3 .before .class-fits .ensures) (q3 .if3 .left)
-    (asked (q4 .before .is-within3 .ensures) (q4 .if4 .left)
-    (asked (q5 .before .is-within4 .ensures) (q5 .if5 .left)
-    (refused (q6 .before .maxudp-known .ensures) (q6 .if6 .taken)))))))
+returns-6 q = past5 (q .before .before) .so (refused (q .before .maxudp-known .ensures) (q .if6 .taken))
+
+abbrev past6 : tie.Else6 → Past 6
+past6 q =
+    let p = past5 (q .before .before) in
+    record { numbers = p .numbers; so = λ f. p .so (asked (q .before .maxudp-known .ensures) (q .if6 .left) f) }
 
 frame-length-requires : tie.Need-frame-length-requires
 frame-length-requires c κs = search needs
@@ -106,45 +102,16 @@ tro-fits-requires : tie.Need-tro-fits-requires
 tro-fits-requires c κs = search needs
 
 returns-7 : tie.Need-returns-7
-unfolding setUpRefusal
-returns-7 q7 =
-    let q6 = q7 .before .before .before in
-    let q5 = q6 .before .before in
-    let q4 = q5 .before .before in
-    let q3 = q4 .before .before .before in
-    let q2 = q3 .before .before in
-    let q1 = q2 .before .before .before in
-    let tro = q7 .before .tro-fits .ensures
-    ∙ ap (λ (F : ℕ). troFits F (q1 .before .before .before .args .self .tro)) (q7 .before .before .frame-length .ensures) in
-    first
-    (asked (q1 .before .is-within .ensures) (q1 .if1 .left)
-    (asked (q2 .before .is-within2 .ensures) (q2 .if2 .left)
-    (asked (q3 .before .class-fits .ensures) (q3 .if3 .left)
-    (asked (q4 .before .is-within3 .ensures) (q4 .if4 .left)
-    (asked (q5 .before .is-within4 .ensures) (q5 .if5 .left)
-    (asked (q6 .before .maxudp-known .ensures) (q6 .if6 .left)
-    (refused tro (q7 .if7 .taken))))))))
+returns-7 q =
+    let p = past6 (q .before .before .before) in
+    p .so (refused (q .before .tro-fits .ensures ∙ ap (λ (F : ℕ). troFits F (p .numbers .tro)) (q .before .before .frame-length .ensures))
+    (q .if7 .taken))
 
 returns-8 : tie.Need-returns-8
-unfolding setUpRefusal
-returns-8 q7 =
-    let q6 = q7 .before .before .before in
-    let q5 = q6 .before .before in
-    let q4 = q5 .before .before in
-    let q3 = q4 .before .before .before in
-    let q2 = q3 .before .before in
-    let q1 = q2 .before .before .before in
-    let tro = q7 .before .tro-fits .ensures
-    ∙ ap (λ (F : ℕ). troFits F (q1 .before .before .before .args .self .tro)) (q7 .before .before .frame-length .ensures) in
-    first
-    (asked (q1 .before .is-within .ensures) (q1 .if1 .left)
-    (asked (q2 .before .is-within2 .ensures) (q2 .if2 .left)
-    (asked (q3 .before .class-fits .ensures) (q3 .if3 .left)
-    (asked (q4 .before .is-within3 .ensures) (q4 .if4 .left)
-    (asked (q5 .before .is-within4 .ensures) (q5 .if5 .left)
-    (asked (q6 .before .maxudp-known .ensures) (q6 .if6 .left)
-    (asked tro (q7 .if7 .left)
-    passes)))))))
+returns-8 q =
+    let p = past6 (q .before .before .before) in
+    p .so (asked (q .before .tro-fits .ensures ∙ ap (λ (F : ℕ). troFits F (p .numbers .tro)) (q .before .before .frame-length .ensures))
+    (q .if7 .left) passes)
 
 pub refusal-spec : {M : Type 1} → statement M
 refusal-spec =

@@ -1,12 +1,15 @@
--- What is left of the packets, run from the state and the rows so far, gives what the whole call gives; each turn is one step (Running).
+-- What is left of the packets, run from the state and the rows so far, gives what the whole call gives (Loop of Running): each need is one
+-- law of it. That the turn's packet is the first of what is left stands once, in `first`.
+use mathlib.Core.Path.{_≡_}
 use mathlib.Core.Logic.{⊎-elim}
 use denote.Ref.{now}
 use Rattle.packet.specs.Paper.{packets, packetsFrom, lent}
 use Rattle.packet.proofs.Lent.{packets-cons, packets-none}
-use Rattle.timing.proofs.Running.{Loop, Turn, loop-begins, loop-next, loop-ends, loop-arrives, loop-lays, loop-closed}
+use Rattle.timing.proofs.Running.{Loop, loop-begins, loop-next, loop-ends, loop-arrives, loop-lays, loop-closed}
 use Rattle.timing.proofs.Sink.{as-numbers}
 use Rattle.timing.proofs.Running.{turn-marked, turn-plain}
-use Prim.Native.Nat.{_-_, _≤_}
+use mathlib.Core.List.{_∷_}
+use Prim.Native.Nat.{_+_, _-_, _≤_}
 use native.Mathlib.Omega.{arith}
 use lib.ListN.{length}
 use borrow.Author.Needs.{needs}
@@ -38,63 +41,60 @@ mul-arrive c = search needs
 shared-slice-read-arrive : tie.Need-shared-slice-read-arrive Inv-loop μ-loop
 shared-slice-read-arrive c = search needs
 
+abbrev start : tie.In-loop Inv-loop μ-loop → tie.Start Inv-loop μ-loop
+start k = k .before .before .before .before .before
+
+first : (k : tie.In-loop Inv-loop μ-loop) → let a = start k .args in let i = k .before .loop .i in
+    packetsFrom i (now (a .arrivals)) (now (a .stamps)) (now (a .markers))
+    ≡ lent (now (a .arrivals)) (now (a .stamps)) (now (a .markers)) i
+    ∷ packetsFrom (i + 1) (now (a .arrivals)) (now (a .stamps)) (now (a .markers))
+first k = packets-cons (start k .pre .0) (k .before .loop .i) (k .loop-test .taken)
+
 arrive-requires : tie.Need-arrive-requires Inv-loop μ-loop
-arrive-requires c κs = let l = c .before .before .before .before in
-    let s = l .before .before .before .before in
-    loop-arrives as-numbers (packets-cons (s .pre .0) (l .loop .i) (c .before .before .before .loop-test .taken)) (l .loop .inv .0)
+arrive-requires c κs =
+    let k = c .before .before .before in
+    loop-arrives as-numbers (first k) (k .before .loop .inv .0)
 
 lay-row-requires : tie.Need-lay-row-requires Inv-loop μ-loop
-lay-row-requires c κs = let k = c .before .before .before .before .before .before in
-    let l = k .before in
-    let s = l .before .before .before .before in
-    rw (c .before .before .arrive .ensures)
-    (loop-lays as-numbers (packets-cons (s .pre .0) (l .loop .i) (k .loop-test .taken)) (l .loop .inv .0) (c .before .if1 .taken))
+lay-row-requires c κs =
+    let k = c .before .before .before .before .before .before in
+    rw (c .before .before .arrive .ensures) (loop-lays as-numbers (first k) (k .before .loop .inv .0) (c .before .if1 .taken))
 
 mark-requires : tie.Need-mark-requires Inv-loop μ-loop
-mark-requires c κs = let k = c .before .before .before .before .before .before .before .before in
-    let l = k .before in
-    let s = l .before .before .before .before in
-    rw (c .before .before .before .before .arrive .ensures)
-    (loop-closed as-numbers (packets-cons (s .pre .0) (l .loop .i) (k .loop-test .taken)) (l .loop .inv .0))
+mark-requires c κs =
+    let k = c .before .before .before .before .before .before .before .before in
+    rw (c .before .before .before .before .arrive .ensures) (loop-closed as-numbers (first k) (k .before .loop .inv .0))
 
 add-i : tie.Need-add-i Inv-loop μ-loop
-add-i c = let k = c .before .before .before .before .before in
-    let s = k .before .before .before .before .before in
-    omega (arith, k .loop-test .taken, s .good .1 .1 .0)
+add-i c =
+    let k = c .before .before .before .before .before in
+    omega (arith, k .loop-test .taken, start k .good .1 .1 .0)
 
 loop-less : tie.Need-loop-less Inv-loop μ-loop
 loop-less c = search needs
 
-turn : (c : tie.Joined1 Inv-loop μ-loop)
-    → Turn as-numbers (c .before .before .before .before .before .before .before .before .before .before .args .rules)
-    (c .before .before .before .before .before .before .loop .s)
-    (lent (now (c .before .before .before .before .before .before .before .before .before .before .args .arrivals))
-    (now (c .before .before .before .before .before .before .before .before .before .before .args .stamps))
-    (now (c .before .before .before .before .before .before .before .before .before .before .args .markers))
-    (c .before .before .before .before .before .before .loop .i)) (c .before .before .before .before .before .before .loop .at)
-    (c .before .before .before .before .before .before .loop .rows) (c .if1 .s) (c .if1 .at) (c .if1 .rows)
-turn c =
-    let l = c .before .before .before .before .before .before .loop in
-    let a = c .before .before .before .before .before .before .before .before .before .before .args in
-    let p = lent (now (a .arrivals)) (now (a .stamps)) (now (a .markers)) (l .i) in
-    ⊎-elim
-    (λ w. rw (w .6, w .7, w .5) (turn-marked as-numbers (a .rules) (l .s) p (l .at) (l .rows) (c .before .arrive .ensures) (w .0 .taken)
-    (w .4 .ensures) (w .2 .ensures)))
-    (λ w. rw (w .2, w .3, w .1) (turn-plain as-numbers (a .rules) (l .s) p (l .at) (l .rows) (c .before .arrive .ensures) (w .0 .left)))
-    (c .if1 .came)
-
 loop-again : tie.Need-loop-again Inv-loop μ-loop
-loop-again c = let k = c .before .before .before .before .before in
-    let l = k .before in
-    let s = l .before .before .before .before in
-    (loop-next as-numbers (packets-cons (s .pre .0) (l .loop .i) (k .loop-test .taken)) (l .loop .inv .0) (turn c), omega arith)
+loop-again c =
+    let k = c .before .before .before .before .before in
+    let l = k .before .loop in
+    let a = c .before .arrive .ensures in (
+      loop-next as-numbers (first k) (l .inv .0)
+          (⊎-elim
+          (λ w. rw (w .6, w .7, w .5)
+          (turn-marked as-numbers _ (l .s) _ (l .at) (l .rows) a (w .0 .taken) (w .4 .ensures) (w .2 .ensures)))
+          (λ w. rw (w .2, w .3, w .1) (turn-plain as-numbers _ (l .s) _ (l .at) (l .rows) a (w .0 .left)))
+          (c .if1 .came)),
+      omega arith,
+    )
 
 same-length : tie.Need-same-length Inv-loop μ-loop
 same-length c = search needs
 
 returns : tie.Need-returns Inv-loop μ-loop
-returns c = let l = c .before .loop in
-    loop-ends as-numbers (packets-none (c .before .before .before .before .before .pre .0) (l .i) (c .loop-test .left) (l .inv .1)) (l .inv .0)
+returns c =
+    let l = c .before .loop in
+    let one-length = c .before .before .before .before .before .pre .0 in
+    loop-ends as-numbers (packets-none one-length (l .i) (c .loop-test .left) (l .inv .1)) (l .inv .0)
 
 pub run-spec : {M : Type 1} → statement M
 run-spec =
