@@ -1,16 +1,16 @@
--- One turn of a call: what is left of the window, from the walk and the lines so far, does what the whole call does (Loop). A packet that
--- is taken (Here) is a turn of the measurement's one loop (timing's Running) with rows as lines; at all else the call stops.
+-- One turn of a call: whatever ends what is left of the window, from the walk and the lines so far, ends the whole call (Loop). A packet
+-- that is taken (Here) is a turn of the measurement's one loop (timing's Running) with rows as lines; at all else the call stops.
 use mathlib.Core.Path.{_≡_, refl, sym, ap, subst, _∙_}
 use mathlib.Core.Bool.{Bool, true, false}
 use mathlib.Core.List.{List, [], _∷_, _++_}
 use Prim.Native.Nat.{ℕ, suc, _+_, _-_, _/_, _≤_, _<_}
 use native.Mathlib.Omega.{arith}
-use lib.ListN.{length, take, drop, length-drop}
+use lib.ListN.{length, take, drop, length-drop, length-append}
 use lib.Seq.{length-sets, drop-drop}
 use borrow.Author.Tests.{ne-eqb, lt-ltb, le-ltb}
 use types.Run.{OneOf, miss}
 use denote.Enum.Declared.{tagOf}
-use Rattle.laws.specs.Lay.{Put, put-length, Putting, putting-begins, putting-on}
+use Rattle.laws.specs.Lay.{Put, put-length, sets-join}
 use Rattle.packet.specs.declared.Packet as packet
 use Rattle.packet.specs.Step.{numberOf}
 use Rattle.frame.specs.declared.Row.{Row}
@@ -115,54 +115,36 @@ pub takes-length : {k : TakeOutcome} {used written : ℕ} {out after : List ℕ}
     → length after ≡ length out
 takes-length {k} {written = written} {out} t = ap length (t .bytes) ∙ length-sets out written (k .text)
 
--- ---- what is left of a call, from the bytes and lines so far, does what the whole call does
+-- some lines, and then the rest
+takes-more : {k : TakeOutcome} {lines : List ℕ} {used written written′ : ℕ} {out out′ after : List ℕ} {r : TakeAnswer}
+    → Put lines written out written′ out′ → TakeGives k (used + packetBytes) written′ out′ r after
+    → TakeGives (andThen packetBytes lines k) used written out r after
+takes-more {k} {lines} {written = written} {out = out} p t = record {
+  walk-is = t .walk-is;
+  used-is = omega (arith, t .used-is);
+  written-is = omega (arith, t .written-is, p .next, length-append lines (k .text));
+  ended-is = t .ended-is;
+  bytes = t .bytes ∙ rw (p .there, p .next) (sym (sets-join lines (k .text) out written));
+  fits = omega (arith, t .fits, put-length p);
+}
 
-pub record Rest (k₀ : TakeOutcome) (out₀ : List ℕ) (k : TakeOutcome) (used written : ℕ) (out : List ℕ) : Type 0 where
-  pub walk-same : k .walk ≡ k₀ .walk
-  pub used-same : used + k .used ≡ k₀ .used
-  pub ended-same : k .ended ≡ k₀ .ended
-  pub putting : Putting (k₀ .text) 0 out₀ (k .text) written out
-
-module _ {k₀ k : TakeOutcome} {out₀ : List ℕ} {used written : ℕ} {out : List ℕ} where
-  rest-on : {lines : List ℕ} {written′ : ℕ} {out′ : List ℕ} → Rest k₀ out₀ (andThen packetBytes lines k) used written out
-      → Put lines written out written′ out′ → Rest k₀ out₀ k (used + packetBytes) written′ out′
-  rest-on l p = record {
-    walk-same = l .walk-same;
-    used-same = omega (arith, l .used-same);
-    ended-same = l .ended-same;
-    putting = putting-on (l .putting) p;
-  }
-
-  rest-ends : {r : TakeAnswer} {after : List ℕ} → Rest k₀ out₀ k used written out → TakeGives k used written out r after → TakeGives k₀ 0 0 out₀ r after
-  rest-ends l t = record {
-    walk-is = t .walk-is ∙ l .walk-same;
-    used-is = omega (arith, t .used-is, l .used-same);
-    written-is = omega (arith, t .written-is, l .putting .place);
-    ended-is = t .ended-is ∙ l .ended-same;
-    bytes = t .bytes ∙ l .putting .stored;
-    fits = omega (arith, t .fits, l .putting .same-length);
-  }
-
--- ---- the loop
+-- ---- the loop: whatever ends what is left of the window, from the walk and the lines so far, ends the whole call
 
 pub record Loop (rules : Rules) (walk₀ : Walk) (w : List ℕ) (last : Bool) (out₀ : List ℕ) (walk : Walk) (used written : ℕ)
     (out : List ℕ) : Type 0 where
-  pub rest : Rest (walkOf rules walk₀ w last (length out₀)) out₀ (walkOf rules walk (drop used w) last (length out - written))
-      used written out
+  pub ends : (r : TakeAnswer) (after : List ℕ)
+      → TakeGives (walkOf rules walk (drop used w) last (length out - written)) used written out r after
+      → TakeGives (walkOf rules walk₀ w last (length out₀)) 0 0 out₀ r after
   pub going : Going rules (walk .state)
   pub inside : used ≤ length w
   pub fits : written ≤ length out
+  pub same-length : length out ≡ length out₀
 
 pub loop-begins : {rules : Rules} (walk : Walk) (w : List ℕ) (last : Bool) (out : List ℕ) → Going rules (walk .state)
     → Loop rules walk w last out walk 0 0 out
 loop-begins walk w last out g =
     let all : length out - 0 ≡ length out = omega arith in
-    record {
-      rest = rw all (record { walk-same = refl; used-same = omega arith; ended-same = refl; putting = putting-begins _ 0 out });
-      going = g;
-      inside = omega arith;
-      fits = omega arith;
-    }
+    record { ends = rw all (λ r after t. t); going = g; inside = omega arith; fits = omega arith; same-length = refl }
 
 module _ {rules : Rules} {walk₀ : Walk} {w : List ℕ} {last : Bool} {out₀ : List ℕ} {walk : Walk} {used written : ℕ} {out : List ℕ} where
   module _ (l : Loop rules walk₀ w last out₀ walk used written out) where
@@ -184,7 +166,7 @@ module _ {rules : Rules} {walk₀ : Walk} {w : List ℕ} {last : Bool} {out₀ :
     module _ {r : TakeAnswer} {after : List ℕ} where
       stops : {k : TakeOutcome} → walkOf rules walk (drop used w) last (length out - written) ≡ k → TakeGives k used written out r after
           → Ended r after
-      stops e t = rest-ends (l .rest) (subst (λ x. TakeGives x used written out r after) (sym e) t)
+      stops e t = l .ends r after (subst (λ x. TakeGives x used written out r after) (sym e) t)
 
       pub stops-full : length out - written < lineRoom → TakeGives (stays walk) used written out r after → Ended r after
       stops-full h = stops (walk-full rules walk (drop used w) last _ h)
@@ -224,12 +206,13 @@ module _ {rules : Rules} {walk₀ : Walk} {w : List ℕ} {last : Bool} {out₀ :
         let left : length out - written - length (linesAt rules walk p) ≡ length out′ - written′ =
         omega (arith, put-length (t .put), t .put .next) in
         let goes = walk-goes rules walk (drop used w) last _ (h .room) (h .stands) (sym (h .passed)) in
-        let m = rest-on (subst (λ x. Rest (walkOf rules walk₀ w last (length out₀)) out₀ x used written out) goes (l .rest)) (t .put) in
         record {
-          rest = rw (t .state, ← left, ← drop-drop packetBytes used w) m;
+          ends = rw (t .state, ← left, ← drop-drop packetBytes used w)
+              (λ r after more. l .ends r after (subst (λ x. TakeGives x used written out r after) (sym goes) (takes-more (t .put) more)));
           going = subst (Going rules) (sym (t .state)) (going-next (l .going) p (h .passed));
           inside = packet-inside;
           fits = omega (arith, q .1, put-length (t .put));
+          same-length = put-length (t .put) ∙ l .same-length;
         }
 
 -- ---- the whole call: no room for a line, 9, or record by record

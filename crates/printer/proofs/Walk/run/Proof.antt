@@ -1,5 +1,5 @@
--- What is left of the window, from the walk and the lines so far, does what the whole call does (Loop of Turning): each need is one law of
--- it. What is known where a packet is taken stands once, in `here`.
+-- Whatever ends what is left of the window, from the walk and the lines so far, ends the whole call (Loop of Turning): each need is one
+-- law of it. What is known where a packet is taken stands once, in `here`.
 use Prim.Native.Nat.{_-_}
 use mathlib.Core.Path.{sym, _∙_}
 use mathlib.Core.Logic.{⊎-elim}
@@ -70,7 +70,7 @@ stop-requires-2 c κs = search needs
 same-length-2 : tie.Need-same-length-2 Inv-loop μ-loop
 same-length-2 c =
     let l = c .before .before .before .before .before .before .before .before .before .before .before .before .before .before .loop in
-    takes-length (c .before .before .stop2 .ensures) ∙ l .inv .rest .putting .same-length
+    takes-length (c .before .before .stop2 .ensures) ∙ l .inv .same-length
 
 returns-2 : tie.Need-returns-2 Inv-loop μ-loop
 returns-2 c =
