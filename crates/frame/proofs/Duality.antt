@@ -27,51 +27,50 @@ pub record Arrivals : Type 0 where
 module _ (f : Arrivals) where
   open Arrivals f using (n, base, num, den, a, up)
 
+  -- when read j is and when packet i comes, both times den
+  abbrev due : ℕ → ℕ
+  due j = base * den + j * num
+
+  abbrev came : ℕ → ℕ
+  came i = a i * den
+
   -- the reads before packet i, and the packets there by read j
   abbrev R : ℕ → ℕ
   R i = readsBefore n base num den (a i)
 
   abbrev A : ℕ → ℕ
-  A j = count (λ i. leb (a i * den) (base * den + j * num)) n
+  A j = count (λ i. leb (came i) (due j)) n
 
   reads-first : (x : ℕ) → UpTo (readBefore base num den x) n (readsBefore n base num den x)
   reads-first x = falls-up-to (readBefore base num den x) n (record {
-    down = λ i j l k q. lt-ltb (base * den + i * num) (x * den)
-        (omega (arith, ltb-true (base * den + j * num) (x * den) q, mul-le-mul-right num l));
+    down = λ i j l k q. lt-ltb (due i) (x * den) (omega (arith, ltb-true (due j) (x * den) q, mul-le-mul-right num l));
   })
 
-  arrived-first : (j : ℕ) → UpTo (λ i. leb (a i * den) (base * den + j * num)) n (A j)
-  arrived-first j = falls-up-to (λ i. leb (a i * den) (base * den + j * num)) n (record {
-    down = λ i k l g q. le-leb (a i * den) (base * den + j * num)
-        (omega (arith, leb-true (a k * den) (base * den + j * num) q, mul-le-mul-right den (up i k l g)));
+  arrived-first : (j : ℕ) → UpTo (λ i. leb (came i) (due j)) n (A j)
+  arrived-first j = falls-up-to (λ i. leb (came i) (due j)) n (record {
+    down = λ i k l g q. le-leb (came i) (due j) (omega (arith, leb-true (came k) (due j) q, mul-le-mul-right den (up i k l g)));
   })
 
   pub there-after : (i j : ℕ) → i < n → j < n → i < A j → R i ≤ j
   there-after i j hi hj l =
-      let late : ¬ (j < R i) = λ q.
-      omega (
-        arith,
-        leb-true (a i * den) (base * den + j * num) (arrived-first j .passes i hi l),
-        ltb-true (base * den + j * num)
-            (a i * den) (reads-first (a i) .passes j hj q),
-      ) in
+      let there = leb-true (came i) (due j) (arrived-first j .passes i hi l) in
+      let late : ¬ (j < R i) = λ q. omega (arith, ltb-true (due j) (came i) (reads-first (a i) .passes j hj q)) in
       omega arith
 
   pub after-there : (i j : ℕ) → i < n → j < n → R i ≤ j → i < A j
   after-there i j hi hj l =
-      let late : ¬ (base * den + j * num < a i * den) = λ q.
-      omega (arith, reads-first (a i) .inside j hj (lt-ltb (base * den + j * num) (a i * den) q)) in
-      arrived-first j .inside i hi (le-leb (a i * den) (base * den + j * num) (omega arith))
+      let late : ¬ (due j < came i) = λ q. omega (arith, reads-first (a i) .inside j hj (lt-ltb (due j) (came i) q)) in
+      arrived-first j .inside i hi (le-leb (came i) (due j) (omega arith))
 
   -- packet j is late exactly when more than j reads come before it
-  pub late-is : (j : ℕ) → j < n → ltb (base * den + j * num) (a j * den) ≡ ltb j (R j)
+  pub late-is : (j : ℕ) → j < n → ltb (due j) (came j) ≡ ltb j (R j)
   late-is j l = go (ltb j (R j)) refl
     where
-      go : (t : Bool) → ltb j (R j) ≡ t → ltb (base * den + j * num) (a j * den) ≡ t
+      go : (t : Bool) → ltb j (R j) ≡ t → ltb (due j) (came j) ≡ t
       go true e = reads-first (a j) .passes j l (ltb-true j (R j) e)
-      go false e = at (ltb (base * den + j * num) (a j * den)) refl
+      go false e = at (ltb (due j) (came j)) refl
         where
-          at : (t : Bool) → ltb (base * den + j * num) (a j * den) ≡ t → t ≡ false
+          at : (t : Bool) → ltb (due j) (came j) ≡ t → t ≡ false
           at true q = sym (lt-ltb j (R j) (reads-first (a j) .inside j l q)) ∙ e
           at false q = refl
 
@@ -101,7 +100,7 @@ module _ (f : Arrivals) where
           (j, h, omega (arith, w .2, lack-bound j h))
       go w (no g) =
           let h : n - 1 < n = omega arith in
-          (n - 1, h, omega (arith, count-le (λ i. leb (a i * den) (base * den + (n - 1) * num)) n, lack-bound (n - 1) h))
+          (n - 1, h, omega (arith, count-le (λ i. leb (came i) (due (n - 1))) n, lack-bound (n - 1) h))
 
   -- least, over all n reads
   pub least-bound : (j : ℕ) → j < n → subℕ 0 lack ≤ℤ subℕ (A j) (suc j)
@@ -152,10 +151,5 @@ module _ (f : Arrivals) where
           let h : n - 1 < n = omega arith in (
             n - 1,
             h,
-            is (n - 1) (omega (
-              arith,
-              count-le (readBefore base num den (a (n - 1))) n,
-              most-is (λ i. suc i - R i) n .bound
-                  (n - 1) h,
-            )),
+            is (n - 1) (omega (arith, count-le (readBefore base num den (a (n - 1))) n, top-bound (n - 1) h)),
           )
