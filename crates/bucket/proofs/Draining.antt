@@ -1,13 +1,8 @@
 -- Instant by instant: the packets up to i are the drains that found one, up to its arrival, and the
 -- level. Between two arrivals the drains see the same packets, so they take one each until none is left.
-use mathlib.Core.Path.{_≡_, refl, ap, _∙_}
-use mathlib.Core.Logic.{_⊎_, inl, inr}
-use mathlib.Core.Bool.{Bool, true, false}
-use Prim.Native.Nat.{ℕ, zero, suc, _+_, _-_, _*_, _/_, _≤_, _<_, min}
-use native.Mathlib.Omega.{arith}
-use native.Mathlib.Nat.{le-suc-iff, sub-self, zero-mul, zero-div, div-lt-iff-lt-mul, le-div-iff-mul-le}
-use lib.Dec.{ltb}
-use borrow.Author.Tests.{ltb-true, ltb-false, lt-ltb, le-ltb}
+use Rattle.laws.specs.Kit.{_≡_, refl, ap, _∙_, _⊎_, inl, inr, Bool, true, false, ℕ, zero, suc, _+_, _-_, _*_, _/_, _≤_, _<_, min, arith}
+use Rattle.laws.specs.Kit.{le-suc-iff, sub-self, zero-mul, zero-div, div-lt-iff-lt-mul, le-div-iff-mul-le, ltb, ltb-true, ltb-false}
+use Rattle.laws.specs.Kit.{lt-ltb, le-ltb}
 use Rattle.laws.specs.Climb.{Climbs, climbs-le}
 use Rattle.laws.specs.Choose.{pick}
 use Rattle.laws.specs.Count.{count, count-up-to, count-same}

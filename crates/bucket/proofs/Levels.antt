@@ -1,12 +1,7 @@
 -- The level after packet b bounds every run that ends there and is met
 -- by the run it names, and later starts have strictly less. Over any D.
-use mathlib.Core.Path.{_≡_, refl, ap}
-use mathlib.Core.Logic.{_⊎_, inl, inr}
-use mathlib.Core.Bool.{Bool, true, false}
-use Prim.Native.Nat.{ℕ, zero, suc, _+_, _-_, _≤_, _<_}
-use native.Mathlib.Omega.{arith}
-use native.Mathlib.Nat.{le-suc-iff}
-use lib.Dec.{leb, leb→le, nleb→lt}
+use Rattle.laws.specs.Kit.{_≡_, refl, ap, _⊎_, inl, inr, Bool, true, false, ℕ, zero, suc, _+_, _-_, _≤_, _<_, arith, le-suc-iff, leb}
+use Rattle.laws.specs.Kit.{leb→le, nleb→lt}
 use Rattle.laws.specs.Choose.{pick}
 use Rattle.laws.specs.Climb.{Climbs}
 use Rattle.bucket.specs.Step.{levelAt, startAt}

@@ -1,15 +1,7 @@
 -- The owner's words about the bucket as theorems: of the bucket that a history of ordered arrivals declares, level,
 -- peak, answer and conservation. The idea: sums of naturals (Levels, Runs) are turned into the signed excess once, here.
-use mathlib.Core.Path.{_≡_, refl, sym, ap, _∙_}
-use mathlib.Core.Logic.{_↔_}
-use mathlib.Core.Bool.{Bool, true, false, _&&_}
-use Prim.Native.Nat.{ℕ, zero, suc, _+_, _-_, _*_, _≤_, _<_}
-use native.Mathlib.Omega.{arith}
-use native.Mathlib.Nat.{le-div-iff-mul-le, div-lt-iff-lt-mul}
-use lib.Dec.{leb, ltb, leb→le}
-use lib.IntN.{ℤ, pos}
-use lib.Signed.{_≤ℤ_}
-use borrow.Author.Tests.{leb-true, le-leb, ltb-true, lt-ltb}
+use Rattle.laws.specs.Kit.{_≡_, refl, sym, ap, _∙_, _↔_, Bool, true, false, _&&_, ℕ, zero, suc, _+_, _-_, _*_, _≤_, _<_, arith}
+use Rattle.laws.specs.Kit.{le-div-iff-mul-le, div-lt-iff-lt-mul, leb, ltb, leb→le, ℤ, pos, _≤ℤ_, leb-true, le-leb, ltb-true, lt-ltb}
 use Rattle.laws.specs.Climb.{Climbs, climbs-le}
 use Rattle.laws.specs.Choose.{false-true}
 use Rattle.laws.specs.Most.{most}

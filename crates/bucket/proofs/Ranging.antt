@@ -1,9 +1,5 @@
 -- A bucket passes its tests exactly where it is in range, fact by fact; the empty one is, and a packet keeps it so.
-use mathlib.Core.Path.{_≡_}
-use mathlib.Core.Bool.{Bool, true, false}
-use Prim.Native.Nat.{ℕ, _+_, _≤_}
-use native.Mathlib.Omega.{arith}
-use lib.Dec.{leb}
+use Rattle.laws.specs.Kit.{_≡_, Bool, true, false, ℕ, _+_, _≤_, arith, leb}
 use Rattle.laws.specs.Choose.{pick, pick-either}
 use Rattle.laws.specs.Every.{every, All, facts, of-facts, _and_}
 use Rattle.bucket.specs.declared.Bucket.{Bucket}

@@ -1,12 +1,7 @@
 -- Peak and first burst in sums of naturals, over any D: the peak is the
 -- greatest level, and the first level above the limit names the first burst.
-use mathlib.Core.Path.{_≡_, refl}
-use mathlib.Core.Bool.{Bool, true, false}
-use Prim.Native.Nat.{ℕ, zero, suc, _+_, _-_, _≤_, _<_}
-use native.Mathlib.Omega.{arith}
-use native.Mathlib.Nat.{not-suc-le-zero}
-use lib.Dec.{ltb}
-use borrow.Author.Tests.{ltb-true, ltb-false}
+use Rattle.laws.specs.Kit.{_≡_, refl, Bool, true, false, ℕ, zero, suc, _+_, _-_, _≤_, _<_, arith, not-suc-le-zero, ltb, ltb-true}
+use Rattle.laws.specs.Kit.{ltb-false}
 use Rattle.laws.specs.Climb.{Climbs}
 use Rattle.laws.specs.Choose.{up-to}
 use Rattle.laws.specs.Most.{most, most-is}

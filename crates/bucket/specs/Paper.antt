@@ -1,11 +1,6 @@
 -- Document 01's section "The bucket" and demand 3's words on it, over the
 -- whole history by place: m packets, packet i arriving at a i grains.
-use mathlib.Core.Path.{_≡_}
-use mathlib.Core.Bool.{Bool, _&&_}
-use Prim.Native.Nat.{ℕ, zero, suc, _+_, _-_, _*_, _≤_, _<_}
-use lib.Dec.{ltb, leb}
-use lib.IntN.{ℤ, pos, subℕ}
-use lib.Signed.{_≤ℤ_, _<ℤ_}
+use Rattle.laws.specs.Kit.{_≡_, Bool, _&&_, ℕ, zero, suc, _+_, _-_, _*_, _≤_, _<_, ltb, leb, ℤ, pos, subℕ, _≤ℤ_, _<ℤ_}
 use Rattle.laws.specs.Choose.{pick}
 use Rattle.laws.specs.Count.{count}
 use Rattle.grain.specs.Paper.{instants}

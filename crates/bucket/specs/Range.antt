@@ -1,6 +1,5 @@
 -- The range of each number of the bucket, as docs/STATE.md gives it, by how many packets came: one table, and what it means.
-use mathlib.Core.List.{List, [], _∷_}
-use Prim.Native.Nat.{ℕ, _≤_}
+use Rattle.laws.specs.Kit.{List, [], _∷_, ℕ, _≤_}
 use Rattle.laws.specs.Every.{Test, at-most, Entry, entry, tests}
 use Rattle.bucket.specs.declared.Bucket.{Bucket}
 use Rattle.bucket.specs.Paper.{networkNumber, networkFirst, networkLast}

@@ -1,8 +1,6 @@
 -- The bucket step by step, as the code goes: each packet by the drain instants
 -- since the packet before it. D i are those up to packet i's arrival.
-use mathlib.Core.Bool.{Bool, true, false}
-use Prim.Native.Nat.{ℕ, zero, suc, _+_, _-_, max}
-use lib.Dec.{leb, ltb}
+use Rattle.laws.specs.Kit.{Bool, true, false, ℕ, zero, suc, _+_, _-_, max, leb, ltb}
 use Rattle.laws.specs.Choose.{pick}
 use Rattle.laws.specs.Most.{most}
 use Rattle.bucket.specs.declared.Bucket.{Bucket}

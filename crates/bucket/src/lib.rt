@@ -2,9 +2,7 @@
 // fills it above a limit.
 // It knows `grain`, for when the drains are. It must never know a rate code, a class or a frame: a step
 // is told how many drain instants came since the packet before, and the limit is a number.
-ghost use mathlib.Core.Path.{_≡_};
-ghost use Prim.Native.Nat.{_-_, _≤_, _<_};
-ghost use lib.Dec.{leb};
+ghost use Rattle.laws.specs.Kit.{_≡_, _-_, _≤_, _<_, leb};
 ghost use Rattle.laws.specs.Choose.{pick};
 ghost use Rattle.laws.specs.Every.{every};
 ghost use Rattle.bucket.specs.Paper.{networkNumber, networkFirst, networkLast};

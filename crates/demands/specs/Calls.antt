@@ -1,15 +1,9 @@
 -- What the C functions do. First one file and lent bytes (`vtiming_measure`, its twin and `vtiming_measure_room`): their contracts are
 -- equations with `answerOf`, `filledBy` and `roomOf` of report's Paper, and each theorem is a sentence about these. Then set-up and calls in
 -- a row over a state in words (`vtiming_set_up`, `vtiming_feed`): `callOf` of probe's Calls, and `Dealt` of its Dealt.
-use mathlib.Core.Path.{_≡_, ap, _∙_}
-use mathlib.Core.List.{List, _++_, map}
-use Prim.Native.Nat.{ℕ, _+_, _*_, _≤_, _<_}
-use native.Mathlib.Omega.{arith}
-use lib.IntN.{ℤ, pos}
-use lib.ListN.{length, take, drop, getD}
+use Rattle.laws.specs.Kit.{_≡_, ap, _∙_, List, _++_, map, ℕ, _+_, _*_, _≤_, _<_, arith, ℤ, pos, length, take, drop, getD, le-leb, lt-leb}
 use mir.Syntax.{w64}
 use mir.Val.{toZ}
-use borrow.Author.Tests.{le-leb, lt-leb}
 use Rattle.laws.specs.Choose.{AllBelow}
 use Rattle.limits.specs.declared.Parameters.{Parameters}
 use Rattle.limits.specs.Steps.{ParametersHeld}

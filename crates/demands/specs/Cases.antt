@@ -1,9 +1,6 @@
 -- "Both sides of each limit": the twelve cases of document 01 as one list under one claim, that what the definitions give
 -- is what the paper gives. Each case stands under its words. Numbers of any kind are written as integers, one list a side.
-use mathlib.Core.Path.{_≡_, refl}
-use mathlib.Core.List.{List, [], _∷_, map}
-use Prim.Native.Nat.{ℕ}
-use lib.IntN.{ℤ, pos, negℤ}
+use Rattle.laws.specs.Kit.{_≡_, refl, List, [], _∷_, map, ℕ, ℤ, pos, negℤ}
 use Rattle.laws.specs.Choose.{pick}
 use Rattle.laws.specs.Count.{count}
 use Rattle.laws.specs.Fold.{fold}

@@ -2,14 +2,7 @@
 -- the work. To believe it, read the definitions that it names: of timing, Feed (the call, and calls in a row), Range (refusal 9), Answers
 -- (set-up, verdict, graph, and the number that each answer stands for) and History (an accepted history: its state, its plan, its frames,
 -- its arrivals); and the Paper.antt of each crate below.
-use mathlib.Core.Path.{_≡_}
-use mathlib.Core.Logic.{_↔_}
-use mathlib.Core.Bool.{true}
-use mathlib.Core.List.{List, [], _∷_, _++_}
-use Prim.Native.Nat.{ℕ, suc, _+_, _-_, _*_, _≤_, _<_}
-use lib.IntN.{ℤ}
-use lib.ListN.{length, take, drop}
-use lib.Seq.{sets}
+use Rattle.laws.specs.Kit.{_≡_, _↔_, true, List, [], _∷_, _++_, ℕ, suc, _+_, _-_, _*_, _≤_, _<_, ℤ, length, take, drop, sets}
 use Rattle.laws.specs.Count.{count}
 use Rattle.laws.specs.Lay.{sets-front}
 use Rattle.grain.specs.Paper.{InstantBy}

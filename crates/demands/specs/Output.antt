@@ -1,12 +1,7 @@
 -- The program's output. `outputOf file` is what document 01 says is printed of a file (printer's Paper). First the lines themselves, then a
 -- file in pieces through calls of `Walk::take` (`Prints`, printer's Drive), then any run of the program, whatever its reads bring (`RunEnds`,
 -- pump's Run): what it hands over to be written is that output, or a front of it where a read or a write failed.
-use mathlib.Core.Path.{_≡_}
-use mathlib.Core.Logic.{_⊎_}
-use mathlib.Core.Bool.{Bool, true, false}
-use mathlib.Core.List.{List, [], _++_}
-use Prim.Native.Nat.{ℕ, _≤_, _<_}
-use lib.ListN.{length}
+use Rattle.laws.specs.Kit.{_≡_, _⊎_, Bool, true, false, List, [], _++_, ℕ, _≤_, _<_, length}
 use Rattle.laws.specs.Choose.{AllBelow}
 use Rattle.record.specs.declared.Next.the-variants.{More}
 use Rattle.record.specs.Step.{nextPiece}

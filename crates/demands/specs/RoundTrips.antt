@@ -1,11 +1,7 @@
 -- The record file both ways, whole and in pieces. `bytesIn s ps` are the bytes of a file, `fileOf` what bytes read as, `WriteGives` what the
 -- writer ensures, `allCalls` what the reader answers, call after call, and `allInPieces` what it answers to a file in pieces: record's Paper,
 -- Layout, Write and Pieces. The hypotheses bound numbers by what their types and slices always hold.
-use mathlib.Core.Path.{_≡_, ap, sym, _∙_}
-use mathlib.Core.Bool.{Bool, true, false}
-use mathlib.Core.List.{List, [], _++_, flatten}
-use Prim.Native.Nat.{ℕ, _+_, _^_, _≤_, _<_}
-use lib.ListN.{length, take}
+use Rattle.laws.specs.Kit.{_≡_, ap, _∙_, Bool, true, false, List, [], _++_, flatten, ℕ, _+_, _^_, _≤_, _<_, length, take}
 use Rattle.laws.specs.Choose.{AllBelow}
 use Rattle.limits.specs.declared.Parameters.{Parameters}
 use Rattle.limits.specs.Paper.{setUpRefusal}

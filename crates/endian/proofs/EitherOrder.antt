@@ -1,15 +1,12 @@
 -- Bytes to a number and back, and both by halves, in either order. By turning: turned twice, bytes stand as they stood.
-use mathlib.Core.Path.{_≡_, refl, sym, ap, _∙_}
-use mathlib.Core.List.{List, [], _∷_, _++_, reverse, reverse-cons, reverse-append, reverse-reverse}
-use Prim.Native.Nat.{ℕ, zero, suc, _+_, _*_, _^_, _≤_, _<_}
-use native.Mathlib.Omega.{arith}
-use lib.ListN.{length, take, drop, getD, length-drop, length-reverse}
-use lib.Seq.{take-add, drop-drop, length-take-le}
+use Rattle.laws.specs.Kit.{_≡_, refl, sym, ap, _∙_, List, [], _∷_, _++_, reverse, reverse-cons, reverse-append, reverse-reverse, ℕ, zero}
+use Rattle.laws.specs.Kit.{suc, _+_, _^_, _<_, arith, length, take, drop, getD, length-drop, length-reverse, take-add}
+use Rattle.laws.specs.Kit.{drop-drop, length-take-le}
 use Rattle.endian.specs.declared.Order.{Order}
 use Rattle.endian.specs.declared.Order.the-variants.{Big, Little}
 use Rattle.endian.specs.Number.{numberOf, bytesOf, Bytes, Room}
 use Rattle.endian.specs.Order.{turned, numberBy, bytesBy, joined}
-use Rattle.endian.proofs.Width.{bytes-append, length-bytes, number-bytes, bytes-number, number-join, number-byte}
+use Rattle.endian.proofs.Width.{bytes-append, number-bytes, bytes-number, number-join, number-byte}
 
 pub turned-twice : (o : Order) (l : List ℕ) → turned o (turned o l) ≡ l
 turned-twice Big l = refl

@@ -1,10 +1,6 @@
 -- Fields to bytes and back, for any widths, in either order, by the list of widths; and the fields from a place on.
-use mathlib.Core.Path.{_≡_, refl, ap, _∙_}
-use mathlib.Core.List.{List, [], _∷_, _++_, append-assoc}
-use Prim.Native.Nat.{ℕ, zero, suc, _+_, _≤_, _<_}
-use native.Mathlib.Omega.{arith}
-use lib.ListN.{length, take, drop, length-drop, take-append-drop}
-use lib.Seq.{take-at, drop-at, drop-drop, length-take-le}
+use Rattle.laws.specs.Kit.{_≡_, refl, ap, _∙_, List, [], _∷_, _++_, append-assoc, ℕ, _+_, _≤_, arith, length, take, drop}
+use Rattle.laws.specs.Kit.{length-drop, take-append-drop, take-at, drop-at, drop-drop, length-take-le}
 use Rattle.endian.specs.declared.Order.{Order}
 use Rattle.endian.specs.Number.{bytesOf, Bytes}
 use Rattle.endian.specs.Order.{numberBy, bytesBy}

@@ -1,14 +1,10 @@
 -- Bytes to a number and back, for any width, and both by halves. By the list: the first byte is a digit in base 256 above the others.
-use mathlib.Core.Path.{_≡_, refl, sym, ap, _∙_}
-use mathlib.Core.List.{List, [], _∷_, _++_}
-use Prim.Native.Nat.{ℕ, zero, suc, _+_, _*_, _/_, _%_, _^_, _≤_, _<_}
-use native.Mathlib.Omega.{arith}
-use native.Mathlib.Nat.{div-one, add-zero, add-assoc, mul-assoc, add-mul, pow-succ', one-le-pow, mod-lt, div-add-mod', div-lt-iff-lt-mul}
+use Rattle.laws.specs.Kit.{_≡_, refl, sym, ap, _∙_, List, [], _∷_, _++_, ℕ, zero, suc, _+_, _*_, _/_, _%_, _^_, _≤_, _<_, arith, div-one}
+use Rattle.laws.specs.Kit.{add-assoc, mul-assoc, add-mul, pow-succ', one-le-pow, mod-lt, div-add-mod', div-lt-iff-lt-mul}
+use Rattle.laws.specs.Kit.{length, take, drop, getD, set, length-append, length-drop, sets, take-add, drop-drop, length-take-le}
 use native.Mathlib.Numerals.{add-one}
 use lib.Arith.{digits-lt, digits-div, digits-mod}
 use lib.Pow.{pow-add}
-use lib.ListN.{length, take, drop, getD, set, length-append, length-drop}
-use lib.Seq.{sets, take-add, drop-drop, length-take-le}
 use Rattle.laws.specs.Lay.{sets-join}
 use Rattle.endian.specs.Number.{numberOf, numberAt, bytesOf, Bytes, Room}
 

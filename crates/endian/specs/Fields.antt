@@ -1,7 +1,5 @@
 -- A layout is a list of widths: fields of so many bytes each, one after the other, in one byte order.
-use mathlib.Core.List.{List, [], _∷_, _++_}
-use Prim.Native.Nat.{ℕ, _+_, _^_, _<_}
-use lib.ListN.{take, drop}
+use Rattle.laws.specs.Kit.{List, [], _∷_, _++_, ℕ, _+_, _^_, _<_, take, drop}
 use Rattle.endian.specs.declared.Order.{Order}
 use Rattle.endian.specs.Number.{numberOf}
 use Rattle.endian.specs.Order.{turned, numberBy, bytesBy}

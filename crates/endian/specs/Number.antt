@@ -1,7 +1,5 @@
 -- "All big-endian.": what number some bytes are, the highest first, and what bytes a number is, for any width.
-use mathlib.Core.List.{List, [], _∷_}
-use Prim.Native.Nat.{ℕ, zero, suc, _+_, _*_, _/_, _%_, _^_, _<_, _≤_}
-use lib.ListN.{length, take, drop}
+use Rattle.laws.specs.Kit.{List, [], _∷_, ℕ, zero, suc, _+_, _*_, _/_, _%_, _^_, _<_, _≤_, length, take, drop}
 
 -- F2: the highest byte stands first
 unfoldable pub numberOf : List ℕ → ℕ

@@ -1,7 +1,5 @@
 -- Numbers in either byte order: the highest byte stands first, or the lowest.
-use mathlib.Core.List.{List, reverse}
-use Prim.Native.Nat.{ℕ, _+_, _*_, _^_}
-use lib.ListN.{take, drop}
+use Rattle.laws.specs.Kit.{List, reverse, ℕ, _+_, _*_, _^_, take, drop}
 use Rattle.endian.specs.declared.Order.{Order}
 use Rattle.endian.specs.declared.Order.the-variants.{Big, Little}
 use Rattle.endian.specs.Number.{numberOf, bytesOf}

@@ -1,9 +1,7 @@
 // Numbers of two, four and eight bytes, the highest byte first, read from and written to lent bytes; of two and four, read in
 // either order.
 // It knows bytes and numbers. It must never know what a number means: a file's layout lies above.
-ghost use mathlib.Core.Path.{_≡_};
-ghost use Prim.Native.Nat.{_<_};
-ghost use lib.Seq.{sets};
+ghost use Rattle.laws.specs.Kit.{_≡_, _<_, sets};
 ghost use Rattle.endian.specs.Number.{numberAt, bytesOf, Room};
 ghost use Rattle.endian.specs.Order.{numberBy};
 

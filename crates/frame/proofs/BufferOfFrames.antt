@@ -1,15 +1,7 @@
 -- The buffer answer is that of the first whole frame that fails. What was kept of a frame is its lack and its top over its arrivals, which
 -- decide the frame's own answer; the answers are then joined place by place.
-use mathlib.Core.Path.{_≡_, refl, sym, ap, _∙_, subst}
-use mathlib.Core.Bool.{Bool, true, false}
-use Prim.Native.Nat.{ℕ, zero, suc, _+_, _≤_, _<_}
-use native.Mathlib.Omega.{arith}
-use native.Mathlib.Nat.{not-suc-le-zero}
-use native.Mathlib.Decide.{decLt}
-use lib.Dec.{ltb, eqb}
-use lib.IntN.{ℤ, pos, negsuc, subℕ}
-use lib.Signed.{_<ℤ_}
-use borrow.Author.Tests.{ltb-true, lt-ltb, eqb-true, eqb-false}
+use Rattle.laws.specs.Kit.{_≡_, refl, sym, ap, _∙_, subst, Bool, true, false, ℕ, zero, suc, _+_, _≤_, _<_, arith, not-suc-le-zero, decLt}
+use Rattle.laws.specs.Kit.{ltb, eqb, ℤ, pos, negsuc, subℕ, _<ℤ_, ltb-true, lt-ltb, eqb-true, eqb-false}
 use Rattle.laws.specs.Choose.{pick, false-true, up-to}
 use Rattle.laws.specs.Climb.{Climbs}
 use Rattle.laws.specs.Seek.{seek, seek-is, seek-same, Lowest, lowest-unique}

@@ -1,15 +1,7 @@
 -- Reads and arrivals of n packets: packet i is there by read j exactly when the reads before it are at most j. From it: least is minus
 -- the greatest lack at an arrival, the peak is the greatest level, and the buffer runs dry exactly when a packet comes after its read.
-use mathlib.Core.Path.{_≡_, refl, sym, _∙_}
-use mathlib.Core.Bool.{Bool, true, false}
-use Prim.Native.Nat.{ℕ, suc, _+_, _-_, _*_, _≤_, _<_}
-use native.Mathlib.Omega.{arith}
-use native.Mathlib.Nat.{mul-le-mul-right}
-use native.Mathlib.Decide.{decLt}
-use lib.Dec.{ltb, leb}
-use lib.IntN.{pos, subℕ}
-use lib.Signed.{_≤ℤ_}
-use borrow.Author.Tests.{ltb-true, lt-ltb, leb-true, le-leb}
+use Rattle.laws.specs.Kit.{_≡_, refl, sym, _∙_, Bool, true, false, ℕ, suc, _+_, _-_, _*_, _≤_, _<_, arith, mul-le-mul-right, decLt, ltb}
+use Rattle.laws.specs.Kit.{leb, pos, subℕ, _≤ℤ_, ltb-true, lt-ltb, leb-true, le-leb}
 use Rattle.laws.specs.Most.{most, most-is}
 use Rattle.laws.specs.Count.{count, count-le, UpTo, falls-up-to}
 use Rattle.laws.specs.Differ.{differ-sub, differ-le, differ-same}

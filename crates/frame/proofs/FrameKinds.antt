@@ -1,9 +1,5 @@
 -- Kind, row and answer of a frame, case by case, each from the facts that its branch of the code has found.
-use mathlib.Core.Path.{_≡_}
-use Prim.Native.Nat.{ℕ, _≤_, _<_}
-use native.Mathlib.Omega.{arith}
-use lib.Dec.{eqb, ltb}
-use borrow.Author.Tests.{lt-ltb, le-ltb, eq-eqb, ne-eqb}
+use Rattle.laws.specs.Kit.{_≡_, ℕ, _≤_, _<_, arith, eqb, ltb, lt-ltb, le-ltb, eq-eqb, ne-eqb}
 use Rattle.laws.specs.Choose.{pick-either}
 use Rattle.frame.specs.declared.Plan.{Plan}
 use Rattle.frame.specs.declared.Frame.{Frame}

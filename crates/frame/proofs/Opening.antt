@@ -1,11 +1,5 @@
 -- A frame whose times are set: what holds of it before its next packet is counted, so that every product fits.
-use mathlib.Core.Path.{_≡_, refl, sym, subst}
-use mathlib.Core.Bool.{Bool, true, false}
-use Prim.Native.Nat.{ℕ, _+_, _*_, _-_, _≤_, _<_}
-use native.Mathlib.Omega.{arith}
-use native.Mathlib.Nat.{mul-le-mul}
-use lib.Dec.{eqb}
-use borrow.Author.Tests.{eqb-false}
+use Rattle.laws.specs.Kit.{_≡_, refl, sym, subst, Bool, true, false, ℕ, _+_, _*_, _-_, _≤_, _<_, arith, mul-le-mul, eqb, eqb-false}
 use Rattle.laws.specs.Choose.{pick}
 use Rattle.grain.specs.Paper.{grains, phase}
 use Rattle.grain.proofs.Rounding.{phase-small}

@@ -1,11 +1,6 @@
 -- Frames pass their tests exactly where each number is in its range; it stays there, packet by packet, and from
 -- these ranges the code's own demands follow.
-use mathlib.Core.Path.{_≡_, refl, sym, _∙_}
-use mathlib.Core.Bool.{Bool, true, false, not}
-use Prim.Native.Nat.{ℕ, _+_, _-_, _*_, _≤_, _<_}
-use native.Mathlib.Omega.{arith}
-use lib.Dec.{ltb, eqb}
-use borrow.Author.Tests.{eqb-false}
+use Rattle.laws.specs.Kit.{_≡_, refl, sym, _∙_, Bool, true, false, not, ℕ, _+_, _-_, _*_, _≤_, _<_, arith, ltb, eqb, eqb-false}
 use Rattle.laws.specs.Choose.{pick, pick-either, false-true}
 use Rattle.laws.specs.Count.{count-le}
 use Rattle.laws.specs.Every.{every, All, facts, of-facts, _and_}

@@ -1,13 +1,7 @@
 -- A closed frame's row is the row of its stretch of the history, and one row only is so: each number that was kept, packet by packet, is
 -- the paper's number over the frame's arrivals (Duality).
-use mathlib.Core.Path.{_≡_, refl, sym, ap, _∙_, subst}
-use mathlib.Core.Bool.{Bool, true, false, _&&_}
-use Prim.Native.Nat.{ℕ, suc, pred, _+_, _-_, _≤_, _<_}
-use native.Mathlib.Omega.{arith}
-use native.Mathlib.Nat.{add-zero}
-use lib.Dec.{ltb, eqb}
-use lib.IntN.{ℤ, pos, subℕ}
-use borrow.Author.Tests.{ltb-false, eqb-true, eqb-false}
+use Rattle.laws.specs.Kit.{_≡_, refl, sym, ap, _∙_, subst, Bool, true, false, _&&_, ℕ, suc, pred, _+_, _-_, _≤_, _<_, arith, add-zero}
+use Rattle.laws.specs.Kit.{ltb, eqb, ℤ, pos, subℕ, ltb-false, eqb-true, eqb-false}
 use Rattle.laws.specs.Choose.{pick, false-true}
 use Rattle.laws.specs.Climb.{Climbs, climbs-le}
 use Rattle.laws.specs.Most.{most, most-same}

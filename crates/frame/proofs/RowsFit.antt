@@ -1,13 +1,7 @@
 -- Each of the ten numbers of a row fits 64 bits with its sign. No difference is longer than a wrap of the timestamps and two frames, if
 -- the timestamps are below 2^32; so that is kept of the open frame's.
-use mathlib.Core.Path.{refl, subst}
-use mathlib.Core.List.{List, [], _∷_, _++_}
-use Prim.Native.Nat.{ℕ, zero, suc, _+_, _-_, _*_, _%_, _≤_, _<_}
-use native.Mathlib.Omega.{arith}
-use native.Mathlib.Nat.{mod-lt}
-use lib.Dec.{eqb}
-use lib.IntN.{ℤ, pos, subℕ, _-ℤ_}
-use lib.ListN.{getD}
+use Rattle.laws.specs.Kit.{refl, subst, List, [], _∷_, _++_, ℕ, zero, suc, _+_, _-_, _*_, _%_, _≤_, _<_, arith, mod-lt, eqb, ℤ, pos, subℕ}
+use Rattle.laws.specs.Kit.{_-ℤ_, getD}
 use mir.Syntax.{w64}
 use mir.Val.{SFits}
 use Rattle.laws.specs.Choose.{pick-either}

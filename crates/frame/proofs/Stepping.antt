@@ -1,10 +1,7 @@
 -- The code's step, packet by packet, goes through the states that the
 -- whole history declares by place, and writes the rows that it declares.
-use mathlib.Core.Path.{_≡_, refl, sym, ap, _∙_}
-use mathlib.Core.Bool.{Bool, true, false, _&&_}
-use mathlib.Core.List.{List, [], _∷_}
-use Prim.Native.Nat.{ℕ, suc, _+_, _-_}
-use native.Mathlib.Nat.{add-sub-of-le, sub-self, add-zero}
+use Rattle.laws.specs.Kit.{_≡_, refl, sym, ap, _∙_, Bool, true, false, _&&_, [], _∷_, ℕ, suc, _+_, _-_, add-sub-of-le, sub-self}
+use Rattle.laws.specs.Kit.{add-zero}
 use Rattle.laws.specs.Choose.{pick}
 use Rattle.laws.specs.Count.{count}
 use Rattle.frame.specs.declared.Plan.{Plan}

@@ -1,12 +1,7 @@
 -- The frames are exactly the stretches between markers: where a frame began is one
 -- place, after a marker and with none since; and it is there from the second marker on.
-use mathlib.Core.Path.{_≡_, refl, sym, _∙_}
-use mathlib.Core.Bool.{Bool, true, false}
-use Prim.Native.Nat.{ℕ, zero, suc, pred, _+_, _-_, _≤_, _<_}
-use native.Mathlib.Omega.{arith}
-use native.Mathlib.Nat.{not-suc-le-zero, add-zero}
-use lib.Dec.{ltb}
-use borrow.Author.Tests.{ltb-true, lt-ltb}
+use Rattle.laws.specs.Kit.{_≡_, refl, sym, _∙_, Bool, true, false, ℕ, zero, suc, pred, _+_, _-_, _≤_, _<_, arith, not-suc-le-zero}
+use Rattle.laws.specs.Kit.{add-zero, ltb, ltb-true, lt-ltb}
 use Rattle.laws.specs.Choose.{pick, false-true, up-to}
 use Rattle.laws.specs.Count.{count}
 use Rattle.frame.specs.Paper.{History, begunAt, since, Began}

@@ -1,8 +1,5 @@
 -- What the steps keep, by place: of the open frame after k packets, and of all the frames before packet i of the history.
-use mathlib.Core.Bool.{not}
-use mathlib.Core.List.{List, [], _∷_}
-use Prim.Native.Nat.{ℕ, zero, suc, _+_, _-_, _*_}
-use lib.Dec.{ltb, eqb}
+use Rattle.laws.specs.Kit.{not, List, [], _∷_, ℕ, zero, suc, _+_, _-_, ltb, eqb}
 use Rattle.laws.specs.Choose.{pick}
 use Rattle.laws.specs.Most.{most}
 use Rattle.laws.specs.Seek.{seek}

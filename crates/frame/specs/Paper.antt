@@ -1,10 +1,6 @@
 -- Document 01's "Packets and frames" and "A row, and the verdict", over the whole history by place, for any plan.
-use mathlib.Core.Path.{_≡_}
-use mathlib.Core.Bool.{Bool, true, false, not, _&&_}
-use Prim.Native.Nat.{ℕ, zero, suc, pred, _+_, _-_, _*_, _≤_, _<_}
-use lib.Dec.{ltb, leb, eqb}
-use lib.IntN.{ℤ, pos, subℕ, _-ℤ_}
-use lib.Signed.{_≤ℤ_, _<ℤ_}
+use Rattle.laws.specs.Kit.{_≡_, Bool, true, false, not, ℕ, zero, suc, pred, _+_, _-_, _*_, _≤_, _<_, ltb, leb, eqb, ℤ, pos, subℕ}
+use Rattle.laws.specs.Kit.{_-ℤ_, _≤ℤ_, _<ℤ_}
 use Rattle.laws.specs.Choose.{pick}
 use Rattle.laws.specs.Count.{count, begun, again}
 use Rattle.laws.specs.Seek.{seek, Lowest}

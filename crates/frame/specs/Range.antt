@@ -1,9 +1,6 @@
 -- What a plan and an open frame must keep to, so that nothing overflows. Each
 -- is met by every stream that set-up accepts and every accepted history.
-use mathlib.Core.Path.{_≡_}
-use mathlib.Core.Bool.{true}
-use mathlib.Core.List.{List, [], _∷_}
-use Prim.Native.Nat.{ℕ, _+_, _*_, _≤_, _<_}
+use Rattle.laws.specs.Kit.{_≡_, true, List, [], _∷_, ℕ, _+_, _*_, _≤_, _<_}
 use Rattle.grain.specs.Paper.{nanosecond}
 use Rattle.laws.specs.Every.{Test, at-most, below, is, where-so, Entry, entry, flag, tests}
 use Rattle.frame.specs.declared.Plan.{Plan}

@@ -1,11 +1,6 @@
 -- The frames step by step, as the code goes: the open frame by one packet more, its row and its answer, and what a marker closes.
-use mathlib.Core.Bool.{Bool, true, false, not, _&&_}
-use mathlib.Core.List.{List, [], _∷_}
-use mathlib.Core.Path.{_≡_, refl}
-use Prim.Native.Nat.{ℕ, _+_, _-_, _*_, max}
-use lib.Dec.{ltb, eqb}
-use lib.ListN.{length}
-use lib.IntN.{ℤ, pos, subℕ, _-ℤ_}
+use Rattle.laws.specs.Kit.{Bool, true, false, not, _&&_, List, [], _∷_, _≡_, refl, ℕ, _+_, _-_, max, ltb, eqb, length, ℤ, pos, subℕ}
+use Rattle.laws.specs.Kit.{_-ℤ_}
 use Rattle.laws.specs.Choose.{pick}
 use Rattle.grain.specs.Paper.{grains, phase, latency, readsBefore}
 use Rattle.frame.specs.declared.Plan.{Plan}

@@ -2,11 +2,7 @@
 // receiver buffer's answer.
 // It knows `grain`. It must never know a rate code, a class or a schedule: the period, the packets of a
 // period, the offset and the spacing of the reads and the limit come in a plan.
-ghost use mathlib.Core.Path.{_≡_};
-ghost use mathlib.Core.Bool.{true};
-ghost use Prim.Native.Nat.{_+_, _-_, _≤_, _<_, max};
-ghost use lib.ListN.{length};
-ghost use lib.Seq.{sets};
+ghost use Rattle.laws.specs.Kit.{_≡_, true, _+_, _-_, _≤_, _<_, length, sets};
 ghost use Rattle.laws.specs.Every.{every};
 ghost use Rattle.grain.specs.Paper.{nanosecond};
 ghost use Rattle.frame.specs.Paper.{bufferNumber, bufferFrame, bufferPlace, hasFailed, isNone};

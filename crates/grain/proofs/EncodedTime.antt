@@ -1,11 +1,8 @@
 -- 27t less the encoded time is the rest of 27t by the wrap less the ticks: the wraps drop out. And RTP_OFFSET is FPT less VL.
-use Prim.Native.Nat.{ℕ, suc, _+_, _*_, _/_, _%_, _≤_, _<_}
-use mathlib.Core.Path.{_≡_, sym, ap, subst, _∙_}
-use native.Mathlib.Omega.{arith}
-use native.Mathlib.Nat.{div-add-mod', mod-lt}
+use Rattle.laws.specs.Kit.{ℕ, suc, _+_, _*_, _/_, _%_, _≤_, _<_, _≡_, sym, ap, subst, _∙_, arith, div-add-mod', mod-lt, ℤ, pos, negsuc}
+use Rattle.laws.specs.Kit.{subℕ, _-ℤ_}
 use mir.Syntax.{w64}
 use mir.Val.{SFits, toZ, ofZ}
-use lib.IntN.{ℤ, pos, negsuc, subℕ, _-ℤ_}
 use Rattle.laws.specs.Differ.{Differ, differ-sub, differ-same, differ-minus}
 use Rattle.grain.proofs.Rounding.{phase-from}
 use Rattle.grain.proofs.SignedRange.{differ-fits, less-fits, less-is}

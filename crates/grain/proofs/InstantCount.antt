@@ -1,9 +1,6 @@
 -- The count of instants: k is at most it exactly when instant k is at most e; and it never falls as time goes on.
-use Prim.Native.Nat.{ℕ, _+_, _*_, _-_, _/_, _≤_, _<_}
-use mathlib.Core.Path.{_≡_, sym, ap, _∙_}
-use mathlib.Core.Logic.{_↔_}
-use native.Mathlib.Omega.{arith}
-use native.Mathlib.Nat.{le-div-iff-mul-le, div-eq-of-lt-le, div-mul-le-self, le-trans, add-mul, mul-le-mul-left, mul-le-mul-right}
+use Rattle.laws.specs.Kit.{ℕ, _+_, _*_, _-_, _/_, _≤_, _<_, _≡_, sym, ap, _∙_, _↔_, arith, le-div-iff-mul-le, div-eq-of-lt-le}
+use Rattle.laws.specs.Kit.{div-mul-le-self, le-trans, add-mul, mul-le-mul-left, mul-le-mul-right}
 use Rattle.grain.specs.Paper.{InstantBy, instants}
 
 module _ (num den : ℕ) (p : 0 < num) where

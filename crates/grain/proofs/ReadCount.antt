@@ -1,10 +1,6 @@
 -- Reads before a time, counted one by one, are the closed form: read j is before x exactly when j·num is below the reach (x − base)·den.
-use Prim.Native.Nat.{ℕ, suc, _+_, _*_, _-_, _/_, _≤_, _<_, min}
-use mathlib.Core.Path.{_≡_, sym, ap, _∙_}
-use native.Mathlib.Omega.{arith}
-use native.Mathlib.Nat.{le-div-iff-mul-le, mul-le-mul-right, add-sub-of-le, add-mul, suc-mul, zero-mul, sub-eq-zero-of-le}
-use native.Mathlib.Decide.{decLe}
-use borrow.Author.Tests.{ltb-true, lt-ltb}
+use Rattle.laws.specs.Kit.{ℕ, suc, _+_, _*_, _-_, _/_, _≤_, _<_, min, _≡_, sym, ap, _∙_, arith, le-div-iff-mul-le, mul-le-mul-right}
+use Rattle.laws.specs.Kit.{add-sub-of-le, add-mul, suc-mul, zero-mul, sub-eq-zero-of-le, decLe, ltb-true, lt-ltb}
 use Rattle.laws.specs.Count.{count-up-to}
 use Rattle.grain.specs.Paper.{readBefore, readsBefore}
 

@@ -1,10 +1,6 @@
 -- N = round(g/F), halves up, is the one N that is nearest; FPT lies in [−F/2, F/2); and N is told by the rest of g divided by F. For any F.
-use Prim.Native.Nat.{ℕ, _+_, _*_, _-_, _/_, _%_, _≤_, _<_}
-use mathlib.Core.Path.{_≡_, ap, _∙_}
-use native.Mathlib.Omega.{arith}
-use native.Mathlib.Nat.{div-add-mod', mod-lt, div-mul-le-self, lt-div-mul-add, mul-le-mul-right, suc-mul, add-mul}
-use lib.IntN.{pos, negℤ, subℕ}
-use lib.Signed.{_≤ℤ_, _<ℤ_}
+use Rattle.laws.specs.Kit.{ℕ, _+_, _*_, _-_, _/_, _%_, _≤_, _<_, _≡_, ap, _∙_, arith, div-add-mod', mod-lt, div-mul-le-self}
+use Rattle.laws.specs.Kit.{lt-div-mul-add, mul-le-mul-right, suc-mul, add-mul, pos, negℤ, subℕ, _≤ℤ_, _<ℤ_}
 use Rattle.laws.specs.Differ.{differ-sub, differ-le, differ-lt, differ-neg, sub-same}
 use Rattle.grain.specs.Paper.{Nearest, nearest, frameTime, phase, firstPacketTime}
 

@@ -1,13 +1,6 @@
 -- Signed 64-bit numbers that hold a difference of naturals: that it fits, and that it is read back as it was.
-use Prim.Native.Nat.{ℕ, zero, suc, _-_, _^_, _≤_, _<_}
-use mathlib.Core.Path.{_≡_, refl, sym, ap, _∙_, subst}
-use native.Mathlib.Omega.{arith}
-use native.Mathlib.Nat.{zero-add}
-use mathlib.Core.Bool.{true, false}
-use borrow.Author.Tests.{lt-ltb, le-ltb, leb-false}
-use lib.Dec.{T}
-use lib.Signed.{leZ, nonNeg, mag}
-use lib.IntN.{ℤ, pos, negsuc, subℕ, natAbs, _-ℤ_}
+use Rattle.laws.specs.Kit.{ℕ, zero, suc, _-_, _^_, _≤_, _<_, _≡_, refl, sym, ap, _∙_, subst, arith, zero-add, true, false, lt-ltb, le-ltb}
+use Rattle.laws.specs.Kit.{leb-false, T, leZ, nonNeg, mag, ℤ, pos, negsuc, subℕ, natAbs, _-ℤ_}
 use mir.Syntax.{w64}
 use mir.Val.{Fits, SFits, toZ, ofZ}
 use mir.Facts.{toZ-pos, toZ-ofZ, sfits-toZ, fits-ofZ}

@@ -1,7 +1,5 @@
 -- What is left of k·t when whole m's are taken away, by way of t's own rest: whole m's of t stay whole when t is taken k times.
-use Prim.Native.Nat.{ℕ, _+_, _*_, _/_, _%_}
-use mathlib.Core.Path.{_≡_, sym, ap, _∙_}
-use native.Mathlib.Nat.{div-add-mod, mul-add-mod-self-left, mul-add, mul-left-comm}
+use Rattle.laws.specs.Kit.{ℕ, _+_, _*_, _/_, _%_, _≡_, sym, ap, _∙_, div-add-mod, mul-add-mod-self-left, mul-add, mul-left-comm}
 
 module _ (k t m : ℕ) where
   apart : k * t ≡ m * (k * (t / m)) + k * (t % m)

@@ -1,8 +1,5 @@
 -- Document 01's sentences about times, each definition under the sentence that it renders. Times are naturals, differences are integers.
-use mathlib.Core.Bool.{Bool}
-use Prim.Native.Nat.{ℕ, _+_, _*_, _-_, _/_, _≤_, _<_}
-use lib.Dec.{ltb}
-use lib.IntN.{ℤ, pos, subℕ, _-ℤ_}
+use Rattle.laws.specs.Kit.{Bool, ℕ, _+_, _*_, _-_, _/_, _≤_, _<_, ltb, ℤ, pos, subℕ, _-ℤ_}
 use Rattle.laws.specs.Count.{count}
 
 -- G1: "27 grains are one nanosecond."

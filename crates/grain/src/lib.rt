@@ -2,9 +2,7 @@
 // 27·t does not fit; an instant is a fraction and is never rounded.
 // It knows `laws`. It must never know a rate code, a class or a frame's packets: the frame length, the
 // spacing and its denominator are parameters, so that each law is proved once for all of them.
-ghost use mathlib.Core.Path.{_≡_};
-ghost use Prim.Native.Nat.{_+_, _*_, _-_, _/_, _%_, _≤_, _<_};
-ghost use lib.IntN.{subℕ};
+ghost use Rattle.laws.specs.Kit.{_≡_, _+_, _*_, _-_, _/_, _%_, _≤_, _<_, subℕ};
 ghost use mir.Syntax.{w64};
 ghost use mir.Val.{ofZ};
 ghost use Rattle.grain.specs.Paper.{nanosecond, grains, phase, latency, instants as instantsOf, readsBefore};

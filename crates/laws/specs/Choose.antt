@@ -1,13 +1,5 @@
 -- Choosing by a test, and what holds of every number below a bound.
-use mathlib.Core.Path.{_≡_, refl, subst}
-use mathlib.Core.Logic.{_⊎_, inl, inr}
-use mathlib.Core.Bool.{Bool, true, false}
-use mathlib.Core.List.{List}
-use Prim.Native.Nat.{ℕ, suc, _≤_, _<_}
-use native.Mathlib.Omega.{arith}
-use native.Mathlib.Nat.{le-suc-iff}
-use lib.Dec.{eqb}
-use lib.ListN.{getD}
+use Rattle.laws.specs.Kit.{_≡_, refl, subst, _⊎_, inl, inr, Bool, true, false, List, ℕ, suc, _≤_, _<_, arith, le-suc-iff, eqb, getD}
 
 -- the first of two where the test holds, the second where it does not
 abbrev pub pick {ℓ} : {A : Type ℓ} → Bool → A → A → A

@@ -1,9 +1,5 @@
 -- What never falls from one place to the next never falls from one place to any later.
-use mathlib.Core.Path.{_≡_, ap}
-use mathlib.Core.Logic.{_⊎_, inl, inr}
-use Prim.Native.Nat.{ℕ, zero, suc, _≤_, _<_}
-use native.Mathlib.Omega.{arith}
-use native.Mathlib.Nat.{le-suc-iff}
+use Rattle.laws.specs.Kit.{_≡_, ap, _⊎_, inl, inr, ℕ, zero, suc, _≤_, _<_, arith, le-suc-iff}
 
 -- f 0 ≤ f 1 ≤ .. ≤ f (m - 1)
 abbrev pub Climbs : (ℕ → ℕ) → ℕ → Type 0

@@ -1,11 +1,6 @@
 -- How many of 0 .. m - 1 pass a test; and that a test which passes exactly up to a place, or between two, has that many.
-use mathlib.Core.Path.{_≡_, refl, sym, _∙_}
-use mathlib.Core.Bool.{Bool, true, false, _&&_}
-use Prim.Native.Nat.{ℕ, zero, suc, _+_, _-_, _≤_, _<_, min}
-use native.Mathlib.Omega.{arith}
-use native.Mathlib.Nat.{not-suc-le-zero}
-use native.Mathlib.Decide.{decLe}
-use lib.Dec.{ltb}
+use Rattle.laws.specs.Kit.{_≡_, refl, sym, _∙_, Bool, true, false, _&&_, ℕ, zero, suc, _+_, _-_, _≤_, _<_, min, arith}
+use Rattle.laws.specs.Kit.{not-suc-le-zero, decLe, ltb}
 use Rattle.laws.specs.Choose.{pick, false-true, up-to}
 
 unfoldable pub count : (ℕ → Bool) → ℕ → ℕ

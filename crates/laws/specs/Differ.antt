@@ -1,12 +1,6 @@
 -- Differences of naturals as integers: `Differ z a b` says that z is a - b, and turns each fact about such z into one of sums of naturals.
-use mathlib.Core.Path.{_≡_, refl, ap}
-use mathlib.Core.Bool.{Bool, true, false, cond}
-use Prim.Native.Nat.{ℕ, zero, suc, _+_, _-_, _≤_, _<_}
-use native.Mathlib.Omega.{arith}
-use lib.Dec.{ltb, le→leb, leb→le}
-use lib.IntN.{ℤ, pos, negsuc, negℤ, subℕ, _-ℤ_}
-use lib.Signed.{_≤ℤ_, _<ℤ_}
-use borrow.Author.Tests.{ltb-true, ltb-false}
+use Rattle.laws.specs.Kit.{_≡_, refl, ap, Bool, true, false, cond, ℕ, zero, suc, _+_, _-_, _≤_, _<_, arith, ltb, le→leb, leb→le, ℤ}
+use Rattle.laws.specs.Kit.{pos, negsuc, negℤ, subℕ, _-ℤ_, _≤ℤ_, _<ℤ_, ltb-true, ltb-false}
 
 abbrev pub Differ : ℤ → ℕ → ℕ → Type 0
 Differ (pos n) a b = n + b ≡ a

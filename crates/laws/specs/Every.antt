@@ -1,12 +1,7 @@
 -- A test of numbers, as the bool that the code finds and as the fact that it means: a list of tests, of any length, passes exactly
 -- where each fact holds.
-use mathlib.Core.Path.{_≡_, refl, sym, ap, _∙_}
-use mathlib.Core.Bool.{Bool, true, false, not, _&&_, _||_}
-use mathlib.Core.List.{List, [], _∷_, _++_, append-assoc}
-use Prim.Native.Nat.{ℕ, zero, suc, _≤_, _<_}
-use lib.Dec.{leb, ltb, eqb}
-use lib.ListN.{getD}
-use borrow.Author.Tests.{leb-true, le-leb, ltb-true, lt-ltb, eqb-true, eq-eqb}
+use Rattle.laws.specs.Kit.{_≡_, refl, sym, ap, _∙_, Bool, true, false, not, _&&_, _||_, List, [], _∷_, _++_, append-assoc, ℕ, zero}
+use Rattle.laws.specs.Kit.{suc, _≤_, _<_, leb, ltb, eqb, getD, leb-true, le-leb, ltb-true, lt-ltb, eqb-true, eq-eqb}
 use Rattle.laws.specs.Choose.{false-true}
 
 pub data Test : Type 0 where

@@ -1,10 +1,6 @@
 -- A list gone through from the left, and that it may be cut anywhere.
-use mathlib.Core.Path.{_≡_, refl, _∙_}
-use mathlib.Core.List.{List, [], _∷_, _++_}
-use Prim.Native.Nat.{ℕ, zero, suc, _≤_, _<_}
-use native.Mathlib.Omega.{arith}
-use lib.ListN.{length, take, getD}
-use lib.Seq.{take-suc, take-length}
+use Rattle.laws.specs.Kit.{_≡_, refl, _∙_, List, [], _∷_, _++_, ℕ, zero, suc, _≤_, _<_, arith, length, take, getD, take-suc}
+use Rattle.laws.specs.Kit.{take-length}
 
 module _ {S A : Type 0} (step : S → A → S) where
   unfoldable pub fold : S → List A → S

@@ -1,14 +1,10 @@
 -- Elements put into a list from a place on, which is the kit's `sets`: some and then more behind them, a loop that puts one a turn, and a
 -- loop that has put some of a whole and has the rest to put.
-use mathlib.Core.Path.{_≡_, refl, sym, ap, _∙_}
-use mathlib.Core.List.{List, [], _∷_, _++_, append-assoc}
-use Prim.Native.Nat.{ℕ, suc, _+_, _≤_, _<_}
-use native.Mathlib.Omega.{arith}
-use native.Mathlib.Nat.{add-zero, zero-add}
+use Rattle.laws.specs.Kit.{_≡_, refl, sym, ap, _∙_, List, [], _∷_, _++_, append-assoc, ℕ, suc, _+_, _≤_, _<_, arith, add-zero}
+use Rattle.laws.specs.Kit.{zero-add, length, take, drop, set, getD, length-append, drop-cons, drop-length, drop-at, take-at, sets}
+use Rattle.laws.specs.Kit.{sets-eq, length-sets}
 use native.Mathlib.Numerals.{add-one}
-use lib.ListN.{length, take, drop, set, getD, length-append}
 use Rattle.laws.specs.Unique.{one-answer}
-use lib.Seq.{drop-cons, drop-length, drop-at, take-at, sets, sets-eq, length-sets}
 
 -- some put at a place: where the next go, and what stands there then
 pub record Put {A : Type 0} (xs : List A) (at : ℕ) (before : List A) (then : ℕ) (after : List A) : Type 0 where

@@ -8,3 +8,4 @@ pub mod Lay
 pub mod Differ
 pub mod Unique
 pub mod Every
+pub mod Kit

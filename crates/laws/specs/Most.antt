@@ -1,9 +1,5 @@
 -- The greatest of f 0 .. f (m - 1), and 0 where m is 0: as a predicate that one number meets, and by recursion on m.
-use mathlib.Core.Path.{_≡_, refl}
-use Prim.Native.Nat.{ℕ, zero, suc, _≤_, _<_, max}
-use native.Mathlib.Omega.{arith}
-use native.Mathlib.Nat.{not-suc-le-zero}
-use native.Mathlib.Decide.{decLe}
+use Rattle.laws.specs.Kit.{_≡_, refl, ℕ, zero, suc, _≤_, _<_, max, arith, not-suc-le-zero, decLe}
 use Rattle.laws.specs.Choose.{up-to}
 
 pub record Greatest (f : ℕ → ℕ) (m p : ℕ) : Type 0 where

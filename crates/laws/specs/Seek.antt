@@ -1,11 +1,6 @@
 -- The lowest of 0 .. m - 1 that passes a test, and m where none does: as a predicate that one number meets, and by recursion on m.
-use mathlib.Core.Path.{_≡_, refl, sym, _∙_}
-use mathlib.Core.Bool.{Bool, true, false}
-use Prim.Native.Nat.{ℕ, zero, suc, _≤_, _<_}
-use native.Mathlib.Omega.{arith}
-use native.Mathlib.Nat.{not-suc-le-zero}
-use lib.Dec.{ltb}
-use borrow.Author.Tests.{ltb-true, ltb-false}
+use Rattle.laws.specs.Kit.{_≡_, refl, sym, _∙_, Bool, true, false, ℕ, zero, suc, _≤_, _<_, arith, not-suc-le-zero, ltb, ltb-true}
+use Rattle.laws.specs.Kit.{ltb-false}
 use Rattle.laws.specs.Choose.{pick, false-true, up-to}
 
 pub record Lowest (p : ℕ → Bool) (m j : ℕ) : Type 0 where

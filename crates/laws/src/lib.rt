@@ -1,8 +1,7 @@
 // The mathematics that has no video in it, all but two functions of numbers in specs/: the greatest, the count and the lowest
 // below a number; folding a list from the left and cutting it; differences of naturals as integers; tests and what they mean.
 // It knows nothing and must never know a rate, a packet or a frame.
-ghost use mathlib.Core.Path.{_≡_};
-ghost use Prim.Native.Nat.{_-_, max};
+ghost use Rattle.laws.specs.Kit.{_≡_, _-_, max};
 
 // a less b, not below 0.
 pub fn less(a: u64, b: u64) -> u64

@@ -1,13 +1,8 @@
 -- What the answers cite: codes past the end of a table, and the one law behind every limit, that dividing by one number
 -- after another is dividing by their product, and that a common factor of both sides of a fraction falls out.
-use mathlib.Core.Path.{_≡_, refl, sym, ap, _∙_}
-use mathlib.Core.Bool.{Bool, true, false, not}
-use mathlib.Core.List.{List, [], _∷_}
-use Prim.Native.Nat.{ℕ, zero, suc, _*_, _/_, _≤_, _<_}
-use native.Mathlib.Omega.{arith}
-use native.Mathlib.Nat.{mul-one, one-mul, mul-comm, mul-assoc, mul-left-comm, mul-le-mul}
-use native.Mathlib.Nat.{div-div-eq-div-mul, mul-div-mul-left, div-le-of-le-mul}
-use lib.ListN.{List·getD-eq-default}
+use Rattle.laws.specs.Kit.{_≡_, refl, sym, ap, _∙_, Bool, true, false, not, List, [], _∷_, ℕ, zero, suc, _*_, _/_, _≤_, _<_, arith}
+use Rattle.laws.specs.Kit.{mul-one, one-mul, mul-comm, mul-assoc, mul-left-comm, mul-le-mul, div-div-eq-div-mul, mul-div-mul-left}
+use Rattle.laws.specs.Kit.{div-le-of-le-mul, List·getD-eq-default}
 use Rattle.laws.specs.Choose.{false-true}
 use Rattle.limits.specs.Fraction.{whole, _·_, _÷_, int}
 use Rattle.limits.specs.Paper.{second, frameLengths, frameLength, activeRatio, seconds, classes, classOf, cMax, vrxFull, classFits}

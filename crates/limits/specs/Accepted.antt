@@ -1,11 +1,6 @@
 -- What it means that set-up refuses nothing: each of the seven numbers is in its place, said with no test and no list; and back.
-use mathlib.Core.Path.{_≡_, refl}
-use mathlib.Core.Logic.{_⊎_, inl, inr}
-use mathlib.Core.Bool.{Bool, true, false, _&&_, _||_}
-use Prim.Native.Nat.{ℕ, suc, _*_, _≤_, _<_}
-use native.Mathlib.Omega.{arith}
-use borrow.Author.Tests.{leb-true, le-leb, eqb-true, ltb-true, lt-ltb}
-use lib.Dec.{leb, ltb, eqb}
+use Rattle.laws.specs.Kit.{_≡_, refl, _⊎_, inl, inr, Bool, true, false, _&&_, _||_, ℕ, suc, _*_, _≤_, _<_, arith, leb-true, le-leb}
+use Rattle.laws.specs.Kit.{eqb-true, ltb-true, lt-ltb, leb, ltb, eqb}
 use Rattle.laws.specs.Choose.{pick, false-true}
 use Rattle.limits.specs.declared.Parameters.{Parameters}
 use Rattle.limits.specs.Paper.{microsecond, frameLength, classOf, allOnes}

@@ -1,13 +1,7 @@
 -- The limits as exact fractions, with no division: each is what its sentence of document 01 says of the paper's fraction, and one number
 -- only is so. That the definitions of Paper are these is proved here for any frame length.
-use mathlib.Core.Path.{_≡_, refl, sym, _∙_}
-use mathlib.Core.Logic.{_↔_}
-use mathlib.Core.Bool.{Bool, true, false}
-use Prim.Native.Nat.{ℕ, zero, suc, _*_, _≤_, _<_, max}
-use native.Mathlib.Omega.{arith}
-use native.Mathlib.Nat.{mul-one}
-use lib.Dec.{eqb}
-use borrow.Author.Tests.{eqb-true, eqb-false}
+use Rattle.laws.specs.Kit.{_≡_, refl, sym, _∙_, _↔_, Bool, true, false, ℕ, zero, suc, _*_, _≤_, _<_, max, arith, mul-one, eqb, eqb-true}
+use Rattle.laws.specs.Kit.{eqb-false}
 use Rattle.laws.specs.Choose.{pick, false-true}
 use Rattle.limits.specs.Fraction.{Fraction, whole, _·_, _÷_, Same, int, int-largest}
 use Rattle.limits.specs.declared.Class.{Class}

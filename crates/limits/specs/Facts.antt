@@ -1,14 +1,7 @@
 -- What holds of the definitions: laws for any frame length, and one computed test over the table where the paper speaks of its rates.
-use mathlib.Core.Path.{_≡_, refl}
-use mathlib.Core.Logic.{_⊎_, inl, inr}
-use mathlib.Core.Bool.{Bool, true, false, _&&_}
-use mathlib.Core.List.{List, [], _∷_}
-use Prim.Native.Nat.{ℕ, zero, suc, _*_, _%_, _≤_, _<_}
-use native.Mathlib.Omega.{arith}
-use native.Mathlib.Nat.{mul-one, div-add-mod', div-lt-iff-lt-mul, not-suc-le-zero, le-of-suc-le-suc}
-use borrow.Author.Tests.{leb-true, eqb-true, eqb-false}
-use lib.Dec.{leb, eqb}
-use lib.ListN.{getD, length}
+use Rattle.laws.specs.Kit.{_≡_, refl, _⊎_, inl, inr, Bool, true, false, _&&_, List, [], _∷_, ℕ, zero, suc, _*_, _%_, _≤_, _<_, arith}
+use Rattle.laws.specs.Kit.{mul-one, div-add-mod', div-lt-iff-lt-mul, not-suc-le-zero, le-of-suc-le-suc, leb-true, eqb-true, eqb-false}
+use Rattle.laws.specs.Kit.{leb, eqb, getD, length}
 use Rattle.laws.specs.Choose.{pick, pick-either}
 use Rattle.limits.specs.Fraction.{Fraction, whole, _÷_, Same, int}
 use Rattle.limits.specs.Paper.{microsecond, frameLengths, frameLength, activeRatio, allOnes, defaultTro, troGrains}

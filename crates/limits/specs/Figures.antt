@@ -1,6 +1,6 @@
 -- "Document 003 agrees: 1080p50 gapped, n 4320, has default TRO 764.444 µs and read spacing 4.4444 µs."
 -- Rate code 6 is 50. A figure is read as a whole number of its last place, rounded down: 764,444 thousandths, 44,444 ten-thousandths.
-use mathlib.Core.Path.{_≡_, refl}
+use Rattle.laws.specs.Kit.{_≡_, refl}
 use Rattle.limits.specs.Fraction.{whole, _·_, _÷_, Same, int}
 use Rattle.limits.specs.Paper.{microsecond, frameLength, activeRatio, allOnes, defaultTro, troGrains, readSpacing}
 

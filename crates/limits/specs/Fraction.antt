@@ -1,8 +1,5 @@
 -- Exact fractions of whole numbers, so that a formula can stand as the paper writes it; nothing is rounded and nothing reduced.
-use mathlib.Core.Path.{_≡_}
-use mathlib.Core.Logic.{_↔_}
-use Prim.Native.Nat.{ℕ, _*_, _/_, _≤_, _<_}
-use native.Mathlib.Nat.{le-div-iff-mul-le}
+use Rattle.laws.specs.Kit.{_≡_, _↔_, ℕ, _*_, _/_, _≤_, _<_, le-div-iff-mul-le}
 
 pub record Fraction : Type 0 where
   pub num : ℕ

@@ -1,9 +1,5 @@
 -- The numbers that a stream is set up with, and the limits that follow from them, each under its sentence of document 01.
-use mathlib.Core.Bool.{Bool, true, false, _&&_, _||_}
-use mathlib.Core.List.{List, [], _∷_}
-use Prim.Native.Nat.{ℕ, zero, suc, _*_, max}
-use lib.Dec.{ltb, leb, eqb}
-use lib.ListN.{getD}
+use Rattle.laws.specs.Kit.{Bool, true, false, _&&_, _||_, List, [], _∷_, ℕ, zero, suc, _*_, max, ltb, leb, eqb, getD}
 use Rattle.laws.specs.Choose.{pick}
 use Rattle.grain.specs.Paper.{grains}
 use Rattle.limits.specs.Fraction.{Fraction, whole, _·_, _÷_, int}

@@ -1,6 +1,5 @@
 -- What the code of a limit asks of the number that it is given from the paper's formula, and what the parameters' types hold.
-use mathlib.Core.Path.{_≡_}
-use Prim.Native.Nat.{ℕ, _*_, _/_, _≤_, _<_}
+use Rattle.laws.specs.Kit.{_≡_, ℕ, _*_, _/_, _≤_, _<_}
 use Rattle.limits.specs.declared.Parameters.{Parameters}
 use Rattle.limits.specs.Paper.{second}
 

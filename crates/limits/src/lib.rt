@@ -4,8 +4,7 @@
 // from `grain` how many grains a nanosecond has. It must never know a packet, an arrival or a state: what a
 // limit is held against lies above.
 
-ghost use mathlib.Core.Path.{_≡_};
-ghost use Prim.Native.Nat.{_/_, _<_, max};
+ghost use Rattle.laws.specs.Kit.{_≡_, _/_, _<_, max};
 ghost use Rattle.limits.specs.Fraction.{whole, _·_, _÷_, int};
 ghost use Rattle.limits.specs.Steps.{Divides};
 ghost use Rattle.limits.specs.Paper.{frameLength, activeRatio, seconds, classOf, cMax, vrxFull, troGrains, readNum, readDen};

@@ -1,11 +1,6 @@
 -- A scan of l ++ m is a scan of l, then of m from where l ended; and frames that closed before only add. By the list: both facts go from
 -- the scan behind a packet to the scan from it on by one law (`scan-under`).
-use mathlib.Core.Path.{_≡_, refl, sym, ap, _∙_}
-use mathlib.Core.Bool.{Bool, _||_}
-use mathlib.Core.List.{List, [], _∷_, _++_}
-use Prim.Native.Nat.{ℕ, _+_}
-use native.Mathlib.Nat.{add-assoc}
-use native.Mathlib.Decide.{ℕ-discrete}
+use Rattle.laws.specs.Kit.{_≡_, refl, sym, ap, _∙_, Bool, _||_, List, [], _∷_, _++_, ℕ, _+_, add-assoc, ℕ-discrete}
 use Rattle.laws.specs.Fold.{fold}
 use Rattle.packet.specs.declared.Past.{Past}
 use Rattle.packet.specs.declared.Refusal.{Refusal}

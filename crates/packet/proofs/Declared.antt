@@ -1,17 +1,9 @@
 -- The scan from the start is what the paper declares of the whole history. By place: what the scan carries at place i is a function
 -- of the history, one equation for each part, and it moves on by one packet until the lowest refused place or the end.
-use mathlib.Core.Path.{_≡_, refl, sym, _∙_}
-use mathlib.Core.Bool.{Bool, true, false, _||_, or-false, or-true}
-use mathlib.Core.List.{List}
-use Prim.Native.Nat.{ℕ, zero, suc, _+_, _≤_, _<_}
-use native.Mathlib.Omega.{arith}
-use native.Mathlib.Nat.{add-zero}
+use Rattle.laws.specs.Kit.{_≡_, refl, sym, _∙_, Bool, true, false, _||_, or-false, or-true, List, ℕ, zero, suc, _+_, _≤_, _<_, arith}
+use Rattle.laws.specs.Kit.{add-zero, decLe, ltb, eqb·suc-zero, length, drop, drop-cons, drop-length, ltb-true, ltb-false, lt-ltb, le-ltb}
+use Rattle.laws.specs.Kit.{eqb-true, not-false, not-true, eqb-false}
 use native.Mathlib.Numerals.{add-one}
-use native.Mathlib.Decide.{decLe}
-use lib.Dec.{ltb, eqb·suc-zero}
-use lib.ListN.{length, drop}
-use lib.Seq.{drop-cons, drop-length}
-use borrow.Author.Tests.{ltb-true, ltb-false, lt-ltb, le-ltb, eqb-true, not-false, not-true, eqb-false}
 use Rattle.laws.specs.Choose.{pick, pick-either}
 use Rattle.laws.specs.Count.{count}
 use Rattle.laws.specs.Seek.{seek-is, Lowest}

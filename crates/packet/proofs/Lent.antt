@@ -1,13 +1,6 @@
 -- Three lent slices of one length as one list of packets: from place i on, and by place. By the lists.
-use mathlib.Core.Path.{_≡_, refl, ap}
-use mathlib.Core.List.{List, [], _∷_}
-use Prim.Native.Nat.{ℕ, zero, suc, _+_, _≤_, _<_}
-use native.Mathlib.Omega.{arith}
-use native.Mathlib.Nat.{suc-inj}
+use Rattle.laws.specs.Kit.{_≡_, refl, ap, List, [], _∷_, ℕ, zero, suc, _+_, _≤_, _<_, arith, suc-inj, length, drop-cons, drop-length}
 use native.Mathlib.Numerals.{add-one}
-use lib.ListN.{length}
-use lib.Seq.{drop-cons, drop-length}
-use Rattle.packet.specs.declared.Packet.{Packet}
 use Rattle.packet.specs.Paper.{packets, OneLength, lent, packetsFrom, at}
 
 module _ {ts ss ms : List ℕ} (same : OneLength ts ss ms) (i : ℕ) where

@@ -1,8 +1,5 @@
 -- Both sides of each limit of a packet, at any arrival, by the laws of the refusals; and three histories, computed.
-use mathlib.Core.Path.{_≡_, refl}
-use mathlib.Core.List.{[], _∷_}
-use Prim.Native.Nat.{ℕ, _+_}
-use native.Mathlib.Omega.{arith}
+use Rattle.laws.specs.Kit.{_≡_, refl, [], _∷_, ℕ, _+_, arith}
 use Rattle.laws.specs.Count.{count}
 use Rattle.laws.specs.Seek.{seek}
 use Rattle.packet.specs.declared.Past.{Past}

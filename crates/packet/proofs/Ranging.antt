@@ -1,9 +1,5 @@
 -- A past passes its tests exactly where it is in range, fact by fact; that of no packets is, and an accepted packet keeps it so.
-use mathlib.Core.Path.{_≡_, refl}
-use mathlib.Core.Bool.{true}
-use Prim.Native.Nat.{ℕ, _≤_}
-use native.Mathlib.Omega.{arith}
-use lib.Dec.{eqb}
+use Rattle.laws.specs.Kit.{_≡_, refl, true, ℕ, _≤_, arith, eqb}
 use Rattle.laws.specs.Choose.{pick-either}
 use Rattle.laws.specs.Every.{every, All, facts, of-facts, _and_}
 use Rattle.packet.specs.declared.Past.{Past}

@@ -1,7 +1,5 @@
 -- A history cut in two: what the first part brought, and the answer to the second from there.
-use mathlib.Core.Bool.{Bool, _||_}
-use mathlib.Core.List.{List}
-use Prim.Native.Nat.{ℕ, _+_}
+use Rattle.laws.specs.Kit.{Bool, _||_, List, ℕ, _+_}
 use Rattle.laws.specs.Fold.{fold}
 use Rattle.packet.specs.declared.Past.{Past}
 use Rattle.packet.specs.declared.Scanned.{Scanned}

@@ -1,10 +1,5 @@
 -- The sentences of document 01 about packets, their refusals and the frames that they close, over the whole history by place.
-use mathlib.Core.Path.{_≡_}
-use mathlib.Core.Bool.{Bool, false, not, _&&_}
-use mathlib.Core.List.{List, [], _∷_}
-use Prim.Native.Nat.{ℕ, zero, suc, _-_}
-use lib.Dec.{ltb, leb, eqb}
-use lib.ListN.{length, drop, getD}
+use Rattle.laws.specs.Kit.{_≡_, Bool, false, not, List, [], _∷_, ℕ, zero, suc, _-_, ltb, leb, eqb, length, drop, getD}
 use Rattle.laws.specs.Choose.{pick}
 use Rattle.laws.specs.Count.{count, begun, again}
 use Rattle.laws.specs.Seek.{seek}

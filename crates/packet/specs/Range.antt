@@ -1,7 +1,5 @@
 -- The range of each number of what came before, as docs/STATE.md gives it: one table, and what it means.
-use mathlib.Core.List.{List, [], _∷_}
-use mathlib.Core.Path.{_≡_}
-use Prim.Native.Nat.{_-_, _≤_}
+use Rattle.laws.specs.Kit.{List, [], _∷_, _≡_, _-_, _≤_}
 use Rattle.laws.specs.Every.{Test, at-most, same, where-so, Entry, entry, tests}
 use Rattle.packet.specs.declared.Past.{Past}
 

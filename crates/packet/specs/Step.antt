@@ -1,9 +1,5 @@
 -- A packet against what came before it, and the scan packet by packet: what the contracts cite.
-use mathlib.Core.Bool.{Bool, false, _&&_, _||_}
-use mathlib.Core.List.{List, [], _∷_}
-use Prim.Native.Nat.{ℕ, _+_, _-_, _≤_, _<_}
-use lib.Dec.{ltb, leb, eqb}
-use lib.ListN.{length}
+use Rattle.laws.specs.Kit.{Bool, false, _&&_, _||_, List, [], _∷_, ℕ, _+_, _-_, _≤_, _<_, ltb, leb, eqb, length}
 use Rattle.laws.specs.Choose.{pick}
 use Rattle.laws.specs.Fold.{fold}
 use Rattle.packet.specs.declared.Past.{Past}

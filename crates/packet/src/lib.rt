@@ -1,8 +1,7 @@
 // What came before a packet, the refusals 11 to 14 of a packet against it, and the scan of three lent slices:
 // the first refused packet's number and place, or how many frames close. The scan writes nothing.
 // It knows arrivals, markers and how many packets there were. It must never know a rate, a frame length or a bucket.
-ghost use mathlib.Core.Path.{_≡_};
-ghost use Prim.Native.Nat.{_-_, _≤_, _<_};
+ghost use Rattle.laws.specs.Kit.{_≡_, _-_, _≤_, _<_};
 ghost use Rattle.laws.specs.Every.{every};
 ghost use Rattle.packet.specs.Paper.{OneLength, packets};
 ghost use Rattle.packet.specs.Range.{ranges};

@@ -1,14 +1,7 @@
 -- The start of a file, of a window that shows it: what is refused there is the file's refusal, and from the walk that begins there all
 -- of the file's output is still to come. By what the head says of the file.
-use mathlib.Core.Path.{_≡_, refl, sym, ap, subst, _∙_}
-use mathlib.Core.Bool.{Bool, true, false}
-use mathlib.Core.List.{List, [], _++_, append-nil}
-use Prim.Native.Nat.{ℕ, _≤_, _<_}
-use native.Mathlib.Omega.{arith}
-use lib.Dec.{eqb}
-use lib.ListN.{length, drop}
-use lib.Seq.{drop-append-le}
-use borrow.Author.Tests.{eqb-true, eqb-false}
+use Rattle.laws.specs.Kit.{_≡_, refl, sym, ap, subst, _∙_, Bool, true, false, List, [], _++_, append-nil, ℕ, _≤_, _<_, arith, eqb, length}
+use Rattle.laws.specs.Kit.{drop, drop-append-le, eqb-true, eqb-false}
 use Rattle.laws.specs.Choose.{pick-either, false-true}
 use Rattle.packet.specs.Step.{nothing}
 use Rattle.text.specs.Lines.{refusalLine}

@@ -1,15 +1,8 @@
 -- What was to be printed is what a call writes, and then what is still to be printed. One record at a time: what stands at the walk is
 -- what stands there in the whole file, and each answer's line is the paper's. By the turns still allowed.
-use mathlib.Core.Path.{_≡_, refl, sym, ap, subst, _∙_}
-use mathlib.Core.Bool.{Bool, true, false}
-use mathlib.Core.List.{List, [], _∷_, _++_, append-nil, append-assoc}
-use Prim.Native.Nat.{ℕ, zero, suc, _+_, _-_, _^_, _≤_, _<_}
-use native.Mathlib.Omega.{arith}
-use native.Mathlib.Nat.{mod-eq-of-lt}
-use lib.Dec.{eqb, ltb}
-use lib.ListN.{length, drop, length-append}
-use lib.Seq.{drop-drop, drop-append-le}
-use borrow.Author.Tests.{eqb-true, eqb-false}
+use Rattle.laws.specs.Kit.{_≡_, refl, sym, ap, subst, _∙_, Bool, true, false, List, [], _∷_, _++_, append-nil, append-assoc, ℕ, zero, suc}
+use Rattle.laws.specs.Kit.{_+_, _-_, _^_, _≤_, _<_, arith, mod-eq-of-lt, eqb, ltb, length, drop, length-append, drop-drop, drop-append-le}
+use Rattle.laws.specs.Kit.{eqb-true, eqb-false}
 use Rattle.laws.specs.Choose.{pick, pick-either}
 use Rattle.laws.specs.Fold.{fold}
 use Rattle.packet.specs.declared.Past.{Past}

@@ -1,7 +1,5 @@
 -- Document 01's own file and its whole output, and the empty file's: the definitions compute to the lines as they are printed there.
-use mathlib.Core.Path.{_≡_, refl}
-use mathlib.Core.List.{List, [], _∷_, _++_}
-use Prim.Native.Nat.{ℕ}
+use Rattle.laws.specs.Kit.{_≡_, refl, List, [], _∷_, _++_, ℕ}
 use Rattle.laws.specs.Count.{count}
 use Rattle.laws.specs.Fold.{fold}
 use Rattle.grain.specs.Paper.{nearest, phase, encoded}

@@ -1,11 +1,5 @@
 -- What is used of a window lies within it: a record for each packet that was shown, and the head before the first. By the turns still allowed.
-use mathlib.Core.Path.{_≡_, refl, sym, ap, subst, _∙_}
-use mathlib.Core.Bool.{Bool}
-use mathlib.Core.List.{List}
-use Prim.Native.Nat.{ℕ, zero, suc, _-_, _≤_}
-use native.Mathlib.Omega.{arith}
-use lib.Dec.{eqb, ltb}
-use lib.ListN.{length, drop, length-drop}
+use Rattle.laws.specs.Kit.{_≡_, refl, sym, ap, subst, _∙_, Bool, List, ℕ, zero, suc, _-_, _≤_, arith, eqb, ltb, length, drop, length-drop}
 use Rattle.laws.specs.Choose.{pick-either}
 use Rattle.packet.specs.Step.{numberOf}
 use Rattle.record.specs.declared.Cursor.{Cursor}

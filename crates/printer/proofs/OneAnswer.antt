@@ -1,7 +1,5 @@
 -- The contract of a call on a piece, a record of equations and a bound, admits one answer and one content of the lent bytes.
-use mathlib.Core.Path.{_≡_}
-use mathlib.Core.List.{List}
-use Prim.Native.Nat.{ℕ}
+use Rattle.laws.specs.Kit.{_≡_, List, ℕ}
 use Rattle.laws.specs.Unique.{one-answer}
 use Rattle.printer.specs.declared.TakeAnswer.{TakeAnswer}
 use Rattle.printer.specs.Step.{TakeOutcome, TakeGives}

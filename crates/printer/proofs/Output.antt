@@ -1,12 +1,7 @@
 -- The program's output on one page: however a file is cut into pieces and whatever room each call has, the lines put together are the
 -- paper's output of the file; and it always comes to that. The work on one call is in Carrying, on the start of a file in Beginning.
-use mathlib.Core.Path.{_≡_, refl, sym, ap, subst, _∙_}
-use mathlib.Core.Logic.{_⊎_}
-use mathlib.Core.Bool.{Bool, true, false}
-use mathlib.Core.List.{List, [], _++_, append-nil}
-use Prim.Native.Nat.{ℕ, zero, suc, _≤_, _<_}
-use native.Mathlib.Omega.{arith}
-use lib.ListN.{length, drop, getD, length-drop}
+use Rattle.laws.specs.Kit.{_≡_, refl, sym, ap, subst, _∙_, _⊎_, Bool, true, false, List, [], _++_, append-nil, ℕ, zero, suc, _≤_, _<_}
+use Rattle.laws.specs.Kit.{arith, length, drop, getD, length-drop}
 use Rattle.laws.specs.Choose.{pick}
 use Rattle.record.specs.declared.Next.the-variants.{More}
 use Rattle.record.specs.Paper.{headBytes}

@@ -1,14 +1,6 @@
 -- A call that neither ended nor used a byte had no room for a line, or wanted more bytes: every other answer ends it or takes a record.
-use mathlib.Core.Path.{_≡_, refl, sym, ap, _∙_}
-use mathlib.Core.Logic.{_⊎_, inl, inr}
-use mathlib.Core.Bool.{Bool, false}
-use mathlib.Core.List.{List}
-use Prim.Native.Nat.{ℕ, _/_, _≤_, _<_}
-use native.Mathlib.Omega.{arith}
-use native.Mathlib.Decide.{ℕ-discrete}
-use lib.Dec.{eqb, ltb}
-use lib.ListN.{length, drop}
-use borrow.Author.Tests.{ltb-true}
+use Rattle.laws.specs.Kit.{_≡_, refl, sym, ap, _∙_, _⊎_, inl, inr, Bool, false, List, ℕ, _/_, _≤_, _<_, arith, ℕ-discrete, eqb, ltb}
+use Rattle.laws.specs.Kit.{length, drop, ltb-true}
 use Rattle.laws.specs.Choose.{pick-either, false-true}
 use Rattle.packet.specs.Step.{numberOf}
 use Rattle.record.specs.declared.Next.{Next}

@@ -1,13 +1,7 @@
 -- One turn of a call: whatever ends what is left of the window, from the walk and the lines so far, ends the whole call (Loop). A packet
 -- that is taken (Here) is a turn of the measurement's one loop (timing's Running) with rows as lines; at all else the call stops.
-use mathlib.Core.Path.{_≡_, refl, sym, ap, subst, _∙_}
-use mathlib.Core.Bool.{Bool, true, false}
-use mathlib.Core.List.{List, [], _∷_, _++_}
-use Prim.Native.Nat.{ℕ, suc, _+_, _-_, _/_, _≤_, _<_}
-use native.Mathlib.Omega.{arith}
-use lib.ListN.{length, take, drop, length-drop, length-append}
-use lib.Seq.{length-sets, drop-drop}
-use borrow.Author.Tests.{ne-eqb, lt-ltb, le-ltb}
+use Rattle.laws.specs.Kit.{_≡_, refl, sym, ap, subst, _∙_, Bool, true, false, List, [], _∷_, _++_, ℕ, suc, _+_, _-_, _/_, _≤_, _<_, arith}
+use Rattle.laws.specs.Kit.{length, take, drop, length-drop, length-append, length-sets, drop-drop, ne-eqb, lt-ltb, le-ltb}
 use types.Run.{OneOf, miss}
 use denote.Enum.Declared.{tagOf}
 use Rattle.laws.specs.Lay.{Put, put-length, sets-join}

@@ -1,9 +1,5 @@
 -- A file driven through calls: pieces of any size, and any room in each call. What the theorem of the whole output speaks of.
-use mathlib.Core.Path.{_≡_}
-use mathlib.Core.Bool.{Bool, true, false}
-use mathlib.Core.List.{List, [], _++_}
-use Prim.Native.Nat.{ℕ, _+_, _*_}
-use lib.ListN.{drop}
+use Rattle.laws.specs.Kit.{_≡_, Bool, true, false, List, [], _++_, ℕ, _+_, _*_, drop}
 use Rattle.record.specs.Paper.{packetBytes, headBytes}
 use Rattle.text.specs.Lines.{refusalLine}
 use Rattle.timing.specs.Step.{rulesOf}

@@ -1,6 +1,5 @@
 -- The program's whole output for a file, in document 01's words: what the file reads as, measured, line by line.
-use mathlib.Core.List.{List, [], _∷_, _++_}
-use Prim.Native.Nat.{ℕ}
+use Rattle.laws.specs.Kit.{List, [], _∷_, _++_, ℕ}
 use Rattle.frame.specs.declared.Row.{Row}
 use Rattle.text.specs.Lines.{rowLine, summaryLine, refusalLine}
 use Rattle.record.specs.Paper.{Ending, done, stopped, Packets, packetsIn, Reading, unread, read, readingOf}

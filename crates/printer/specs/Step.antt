@@ -1,11 +1,5 @@
 -- A file in pieces, step by step: what its start answers, and what a call takes of a window and writes; what the contracts cite.
-use mathlib.Core.Path.{_≡_}
-use mathlib.Core.Bool.{Bool, true, false, not}
-use mathlib.Core.List.{List, [], _++_}
-use Prim.Native.Nat.{ℕ, zero, suc, _+_, _-_, _/_, _≤_}
-use lib.Dec.{ltb, eqb}
-use lib.ListN.{length, drop}
-use lib.Seq.{sets}
+use Rattle.laws.specs.Kit.{_≡_, Bool, false, not, List, [], _++_, ℕ, zero, suc, _+_, _-_, _/_, _≤_, ltb, eqb, length, drop, sets}
 use Rattle.laws.specs.Choose.{pick}
 use Rattle.packet.specs.declared.Packet as packet
 use Rattle.packet.specs.Step.{numberOf}

@@ -1,10 +1,7 @@
 // A record file that comes in pieces, as the program's lines: the start of the file set up, then the records of each piece
 // measured, and each line put into lent bytes as it is known.
 // It knows the reader, the measurement and the lines. It must never know where the bytes come from, nor where they go.
-ghost use mathlib.Core.Path.{_≡_};
-ghost use mathlib.Core.Bool.{not};
-ghost use Prim.Native.Nat.{_+_, _≤_};
-ghost use lib.ListN.{length};
+ghost use Rattle.laws.specs.Kit.{_≡_, not, _+_, _≤_, length};
 ghost use Rattle.text.specs.Lines.{lineRoom, Line};
 ghost use Rattle.record.specs.declared.Next.the-variants.{Refused};
 ghost use Rattle.record.specs.Paper.{packetBytes};

@@ -1,13 +1,7 @@
 -- The comparison of two lists, place by place from the front: it is true of equal lists and of no others.
-use mathlib.Core.Path.{_≡_, refl, ap}
-use mathlib.Core.Bool.{Bool, true, false, _&&_}
-use mathlib.Core.List.{List, [], _∷_}
-use Prim.Native.Nat.{ℕ, _+_, _<_}
+use Rattle.laws.specs.Kit.{_≡_, refl, ap, Bool, true, false, _&&_, List, [], _∷_, ℕ, _+_, _<_, eqb, length, drop, getD, drop-cons}
+use Rattle.laws.specs.Kit.{drop-length, eq-eqb, ne-eqb, eqb-true}
 use native.Mathlib.Numerals.{add-one}
-use lib.Dec.{eqb}
-use lib.ListN.{length, drop, getD}
-use lib.Seq.{drop-cons, drop-length}
-use borrow.Author.Tests.{eq-eqb, ne-eqb, eqb-true}
 use Rattle.laws.specs.Choose.{false-true}
 use Rattle.probe.specs.Words.{same}
 

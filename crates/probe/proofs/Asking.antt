@@ -1,16 +1,7 @@
 -- A call's number and place by what is found in turn: the words, the range, the scan, the room. So they depend on how many numbers are
 -- lent, and not on what they are.
-use mathlib.Core.Path.{_≡_, refl, sym, ap, _∙_}
-use mathlib.Core.Logic.{_⊎_, inl, inr}
-use mathlib.Core.Bool.{Bool, true, false, _&&_}
-use mathlib.Core.List.{List}
-use Prim.Native.Nat.{ℕ, _*_, _/_, _≤_, _<_}
-use native.Mathlib.Omega.{arith}
-use native.Mathlib.Nat.{le-div-iff-mul-le, div-lt-iff-lt-mul}
-use lib.Dec.{leb}
-use lib.IntN.{ℤ, pos}
-use lib.ListN.{length, take, replicate, length-replicate}
-use borrow.Author.Tests.{le-leb, lt-leb}
+use Rattle.laws.specs.Kit.{_≡_, refl, sym, ap, _∙_, _⊎_, inl, inr, Bool, true, false, _&&_, List, ℕ, _*_, _/_, _≤_, _<_, arith}
+use Rattle.laws.specs.Kit.{le-div-iff-mul-le, div-lt-iff-lt-mul, leb, ℤ, pos, length, take, replicate, length-replicate, le-leb, lt-leb}
 use Rattle.laws.specs.Choose.{pick}
 use Rattle.packet.specs.declared.Refusal.{Refusal}
 use Rattle.packet.specs.declared.Scanned.{Scanned}

@@ -1,12 +1,5 @@
 -- The ways out of set-up and of a call, one law each, from what the code has found.
-use mathlib.Core.Path.{_≡_, refl, sym, ap, _∙_}
-use mathlib.Core.List.{List}
-use Prim.Native.Nat.{ℕ, _≤_, _<_}
-use native.Mathlib.Omega.{arith}
-use lib.IntN.{ℤ}
-use lib.ListN.{length, take, length-take}
-use lib.Seq.{sets}
-use borrow.Author.Tests.{ne-eqb, le-leb, lt-leb}
+use Rattle.laws.specs.Kit.{_≡_, refl, sym, ap, _∙_, List, ℕ, _≤_, _<_, arith, ℤ, length, take, length-take, sets, ne-eqb, le-leb, lt-leb}
 use Rattle.timing.specs.declared.StreamNumbers.{StreamNumbers}
 use Rattle.timing.specs.declared.State.{State}
 use Rattle.timing.specs.declared.Fed.{Fed}

@@ -1,13 +1,7 @@
 -- From call to call: what an accepted call leaves are the words of the state that `feed` gives, and the next call reads that state. The
 -- numbers that have fewer than 64 bits still fit: a packet changes the timestamp alone, and to its own.
-use mathlib.Core.Path.{_≡_, sym, ap, _∙_, subst}
-use mathlib.Core.Bool.{Bool, true, false}
-use mathlib.Core.List.{List, [], _∷_}
-use Prim.Native.Nat.{ℕ, _≤_, _<_}
-use native.Mathlib.Omega.{arith}
-use lib.Dec.{eqb}
-use lib.ListN.{length, take, drop}
-use lib.Seq.{sets, take-at}
+use Rattle.laws.specs.Kit.{_≡_, sym, ap, _∙_, subst, Bool, true, false, List, [], _∷_, ℕ, _≤_, _<_, arith, eqb, length, take, drop, sets}
+use Rattle.laws.specs.Kit.{take-at}
 use Rattle.laws.specs.Choose.{pick}
 use Rattle.laws.specs.Fold.{fold}
 use Rattle.laws.specs.Lay.{sets-front}

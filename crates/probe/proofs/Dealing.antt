@@ -1,17 +1,8 @@
 -- What the C functions over a state in words do: each from what `feed` does, by the words that carry its state.
-use mathlib.Core.Path.{_≡_, refl, sym, ap, _∙_, subst}
-use mathlib.Core.Bool.{Bool, true, false}
-use mathlib.Core.List.{List, [], _∷_, _++_, map}
-use Prim.Native.Nat.{ℕ, _≤_}
-use native.Mathlib.Omega.{arith}
-use lib.Dec.{leb}
-use lib.IntN.{ℤ}
-use lib.ListN.{length, take}
-use lib.Seq.{sets}
-use borrow.Author.Tests.{le-leb}
+use Rattle.laws.specs.Kit.{_≡_, refl, sym, ap, _∙_, subst, Bool, true, false, List, [], _∷_, map, ℕ, _≤_, arith, leb, ℤ, length}
+use Rattle.laws.specs.Kit.{take, sets, le-leb}
 use Rattle.laws.specs.Choose.{pick}
-use Rattle.packet.specs.declared.Packet.{Packet}
-use Rattle.packet.specs.Paper.{OneLength, packets}
+use Rattle.packet.specs.Paper.{packets}
 use Rattle.limits.specs.Steps.{ParametersHeld}
 use Rattle.timing.specs.declared.StreamNumbers.{StreamNumbers}
 use Rattle.timing.specs.declared.State.{State}
@@ -20,7 +11,7 @@ use Rattle.timing.specs.declared.Fed.the-variants.{Accepted, Refused}
 use Rattle.timing.specs.Step.{setUpOf, rulesOf, freshOf, numbers}
 use Rattle.timing.specs.History.{AcceptedHistory, reached, rowsOfAll}
 use Rattle.timing.specs.Answers.{summaryWidth, fedNumber, fedPlace}
-use Rattle.timing.specs.Feed.{Outcome, feedOf, Call, allOf, writes, Deals, none, call, Rooms}
+use Rattle.timing.specs.Feed.{Outcome, feedOf, allOf, writes, Deals, none, call, Rooms}
 use Rattle.timing.proofs.Answering.{room-there}
 use Rattle.timing.proofs.Feeding.{accepted-from, feed-slices}
 use Rattle.timing.proofs.Accepting.{dealt}

@@ -1,8 +1,5 @@
 -- Each contract here that is a record of equations admits one answer: what meets it is what it names.
-use mathlib.Core.Path.{_≡_}
-use mathlib.Core.List.{List}
-use Prim.Native.Nat.{ℕ}
-use lib.IntN.{ℤ}
+use Rattle.laws.specs.Kit.{_≡_, List, ℕ, ℤ}
 use Rattle.laws.specs.Unique.{one-answer}
 use Rattle.timing.specs.declared.StreamNumbers.{StreamNumbers}
 use Rattle.probe.specs.Calls.{SetUpGives, CallOutcome, CallGives}

@@ -1,12 +1,6 @@
 -- A state's words and back, both ways: reading undoes writing field by field, and only a state's own words are taken for it.
-use mathlib.Core.Path.{_≡_, refl, sym, ap, _∙_}
-use mathlib.Core.Bool.{Bool, true, false}
-use mathlib.Core.List.{List}
-use Prim.Native.Nat.{ℕ, _%_, _<_}
-use native.Mathlib.Omega.{arith}
-use native.Mathlib.Nat.{mod-eq-of-lt}
-use lib.Dec.{eqb}
-use lib.ListN.{length, take, length-take}
+use Rattle.laws.specs.Kit.{_≡_, refl, sym, ap, _∙_, Bool, true, false, List, ℕ, _%_, _<_, arith, mod-eq-of-lt, eqb, length, take}
+use Rattle.laws.specs.Kit.{length-take}
 use Rattle.laws.specs.Choose.{pick}
 use Rattle.bucket.specs.declared.Network.{Network}
 use Rattle.bucket.specs.declared.Network.the-variants.{Pass, Burst}
@@ -14,7 +8,6 @@ use Rattle.bucket.specs.Paper.{networkNumber, networkFirst, networkLast}
 use Rattle.frame.specs.declared.Buffer.{Buffer}
 use Rattle.frame.specs.declared.Buffer.the-variants.{None, Under, Over, Pass as Buffer-Pass}
 use Rattle.frame.specs.Paper.{bufferNumber, bufferFrame, bufferPlace}
-use Rattle.timing.specs.declared.StreamNumbers.{StreamNumbers}
 use Rattle.timing.specs.declared.State.{State}
 use Rattle.laws.specs.Every.{flag}
 use Rattle.limits.specs.declared.Parameters.{Parameters}

@@ -1,11 +1,5 @@
 -- The C functions over a state in words: the number that comes back, its place, and what the lent slices hold then.
-use mathlib.Core.Path.{_≡_}
-use mathlib.Core.List.{List}
-use Prim.Native.Nat.{ℕ}
-use lib.Dec.{leb, eqb}
-use lib.IntN.{ℤ, pos}
-use lib.ListN.{length, take, replicate}
-use lib.Seq.{sets}
+use Rattle.laws.specs.Kit.{_≡_, List, ℕ, leb, eqb, ℤ, pos, length, take, replicate, sets}
 use Rattle.laws.specs.Choose.{pick, orElse}
 use Rattle.timing.specs.declared.StreamNumbers.{StreamNumbers}
 use Rattle.timing.specs.declared.State.{State}

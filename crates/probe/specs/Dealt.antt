@@ -1,10 +1,5 @@
 -- C calls in a row: what each call lends, and what they do one after the other. What the theorem of the calls speaks of.
-use mathlib.Core.Path.{_≡_}
-use mathlib.Core.List.{List, [], _∷_, _++_}
-use Prim.Native.Nat.{ℕ, _≤_, _<_}
-use lib.IntN.{ℤ}
-use lib.ListN.{length, take}
-use lib.Seq.{sets}
+use Rattle.laws.specs.Kit.{_≡_, List, [], _∷_, _++_, ℕ, _≤_, _<_, ℤ, length, sets}
 use Rattle.packet.specs.declared.Packet.{Packet}
 use Rattle.packet.specs.Paper.{OneLength, packets}
 use Rattle.timing.specs.declared.State.{State}

@@ -1,10 +1,5 @@
 -- A state as 32 words, one for each of its numbers in the order of docs/STATE.md, and the state that lent words hold.
-use mathlib.Core.Path.{_≡_}
-use mathlib.Core.Bool.{Bool, true, false, _&&_}
-use mathlib.Core.List.{List, [], _∷_}
-use Prim.Native.Nat.{ℕ, _%_}
-use lib.Dec.{eqb}
-use lib.ListN.{getD, take}
+use Rattle.laws.specs.Kit.{_≡_, Bool, true, false, _&&_, List, [], _∷_, ℕ, _%_, eqb, getD, take}
 use Rattle.laws.specs.Choose.{pick}
 use Rattle.laws.specs.Every.{values}
 use Rattle.bucket.specs.declared.Bucket.{Bucket}

@@ -1,11 +1,7 @@
 // The measurement for a C program, call after call over its own arrays: a stream is set up, packets are fed. Between the calls
 // the program holds the state, as words of 64 bits in the order of docs/STATE.md.
 // It knows set-up and feeding, and which number of a state stands in which word. It must never measure anything itself.
-ghost use mathlib.Core.Path.{_≡_};
-ghost use mathlib.Core.Bool.{true};
-ghost use Prim.Native.Nat.{_≤_};
-ghost use lib.ListN.{length, take};
-ghost use lib.Seq.{sets};
+ghost use Rattle.laws.specs.Kit.{_≡_, true, _≤_, length, take, sets};
 ghost use Rattle.laws.specs.Every.{flag as flagOf};
 ghost use Rattle.limits.specs.Paper.{given};
 ghost use Rattle.timing.specs.Step.{ofParameters};

@@ -1,11 +1,7 @@
 -- Bytes that move to the front of a list, one by one; a turn of the loop and its end.
-use mathlib.Core.Path.{_≡_, refl, sym, ap, _∙_}
-use mathlib.Core.List.{List, [], _∷_, _++_, append-nil}
-use Prim.Native.Nat.{ℕ, zero, suc, _+_, _-_, _≤_, _<_}
-use native.Mathlib.Omega.{arith}
+use Rattle.laws.specs.Kit.{_≡_, sym, ap, _∙_, List, [], _∷_, _++_, append-nil, ℕ, zero, suc, _+_, _-_, _≤_, _<_, arith, length}
+use Rattle.laws.specs.Kit.{take, drop, set, getD, take-nil, drop-nil, drop-cons, take-suc-set, drop-set-lt, append-snoc}
 use native.Mathlib.Numerals.{add-one}
-use lib.ListN.{length, take, drop, set, getD}
-use lib.Seq.{take-nil, drop-nil, drop-cons, take-suc-set, drop-set-lt, append-snoc}
 
 -- what has moved, and what is still to move
 abbrev pub halfway : List ℕ → ℕ → ℕ → ℕ → List ℕ

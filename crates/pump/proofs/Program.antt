@@ -1,18 +1,11 @@
 -- What the program's loop cites: it begins, it steps, it reads, it stops, over plain values.
-use mathlib.Core.Path.{_≡_, refl, sym, ap, subst, _∙_}
-use mathlib.Core.Bool.{Bool, true, false}
-use mathlib.Core.List.{List, [], _++_}
-use Prim.Native.Nat.{ℕ, _+_, _-_, _≤_, _<_}
-use native.Mathlib.Omega.{arith}
-use lib.Dec.{eqb}
-use lib.IntN.{ℤ, pos, negsuc}
-use lib.ListN.{length, take, drop, length-take, length-drop}
-use lib.Seq.{length-take-le}
+use Rattle.laws.specs.Kit.{_≡_, refl, sym, ap, subst, _∙_, Bool, true, false, List, [], _++_, ℕ, _+_, _-_, _≤_, _<_, arith, ℤ, pos}
+use Rattle.laws.specs.Kit.{negsuc, length, take, drop, length-take, length-drop, length-take-le}
 use mir.Syntax.{w64}
 use mir.Val.{SFits}
 use mir.Facts.{toZ-ofZ}
 use borrow.Rule.Slice.PartMut.{midOf, putMid, same-len-mid, take-put}
-use Rattle.laws.specs.Choose.{pick, false-true}
+use Rattle.laws.specs.Choose.{false-true}
 use Rattle.libc.specs.Io.{Moved}
 use Rattle.text.specs.Lines.{lineRoom}
 use Rattle.printer.specs.declared.Opened.{Opened}
@@ -28,7 +21,7 @@ use Rattle.pump.specs.declared.End.{End}
 use Rattle.pump.specs.declared.End.the-variants.{Whole, Unwritten, Unread, TurnsOver}
 use Rattle.pump.specs.Said.{Said, Heard}
 use Rattle.pump.specs.Step.{fresh, Fits, StepGives, shown, openedBy, stageBy, stepOf, settledOf, grown, cameOf, Roomy}
-use Rattle.pump.specs.Run.{Read-in, came-in, Reaches, begins, steps, reads, RunEnds, whole, unwritten, unread, turns-over}
+use Rattle.pump.specs.Run.{came-in, begins, steps, reads, RunEnds, whole, unwritten, unread, turns-over}
 use Rattle.pump.specs.Run.{FetchGives, ProgramGives, InLoop}
 use Rattle.pump.proofs.Reading.{back}
 use Rattle.pump.proofs.Stepping.{shown-size}

@@ -1,19 +1,12 @@
 -- A read's answer, over plain values: below 0, or so many bytes.
-use mathlib.Core.Path.{_≡_, refl, sym, ap, subst, _∙_}
-use mathlib.Core.Bool.{Bool, true, false}
-use Prim.Native.Nat.{ℕ, _+_, _≤_}
-use native.Mathlib.Omega.{arith}
-use lib.Dec.{T, eqb}
-use lib.IntN.{ℤ, pos, negsuc, natAbs}
-use lib.Signed.{ltZ, nonNeg}
+use Rattle.laws.specs.Kit.{_≡_, refl, sym, ap, subst, _∙_, true, false, ℕ, _≤_, arith, T, ℤ, pos, negsuc, natAbs, ltZ}
+use Rattle.laws.specs.Kit.{nonNeg, ltb-true}
 use mir.Syntax.{w64}
 use mir.Val.{Fits, SFits, toZ, ofZ}
 use mir.Facts.{toZ-ofZ, fits-natAbs}
-use borrow.Author.Tests.{ltb-true, eq-eqb, ne-eqb}
-use Rattle.laws.specs.Choose.{pick, false-true}
+use Rattle.laws.specs.Choose.{false-true}
 use Rattle.libc.specs.Io.{Moved}
 use Rattle.pump.specs.declared.Pump.{Pump}
-use Rattle.pump.specs.declared.Came.{Came}
 use Rattle.pump.specs.declared.Came.the-variants.{Failed, On}
 use Rattle.pump.specs.Step.{grown, cameOf}
 

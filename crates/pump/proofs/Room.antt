@@ -1,13 +1,6 @@
 -- A step that wants more leaves room for a read, in a window of 65,538 bytes: a read into no room is never made.
-use mathlib.Core.Path.{_≡_, sym, subst}
-use mathlib.Core.Bool.{true, false}
-use mathlib.Core.List.{List, [], _∷_}
-use Prim.Native.Nat.{ℕ, zero, suc, _+_, _-_, _≤_, _<_}
-use native.Mathlib.Omega.{arith}
-use native.Mathlib.Decide.{decLe}
-use lib.ListN.{length, take, drop, getD}
-use lib.Seq.{getD-drop}
-use borrow.Author.Tests.{eqb-true}
+use Rattle.laws.specs.Kit.{_≡_, sym, subst, true, false, List, [], _∷_, ℕ, zero, suc, _+_, _-_, _≤_, _<_, arith, decLe, length, take}
+use Rattle.laws.specs.Kit.{drop, getD, getD-drop, eqb-true}
 use Rattle.laws.specs.Choose.{false-true}
 use Rattle.record.proofs.InPieces.{head-suffices}
 use Rattle.text.specs.Lines.{lineRoom}

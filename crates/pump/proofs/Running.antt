@@ -1,13 +1,6 @@
 -- A run, by reads of any size: what was handed over is a front of the file's output, and all of it where the last line is out.
-use mathlib.Core.Path.{_≡_, refl, sym, ap, subst, _∙_}
-use mathlib.Core.Bool.{Bool, true, false}
-use mathlib.Core.List.{List, [], _++_, append-nil, append-assoc}
-use Prim.Native.Nat.{ℕ, _+_, _-_, _≤_, _<_}
-use native.Mathlib.Omega.{arith}
-use lib.Dec.{eqb}
-use lib.ListN.{length, take, drop, length-drop}
-use lib.Seq.{take-add, drop-drop}
-use borrow.Author.Tests.{eqb-true}
+use Rattle.laws.specs.Kit.{_≡_, refl, sym, ap, subst, _∙_, Bool, true, false, List, [], _++_, append-nil, append-assoc, ℕ, _+_, _-_, _≤_}
+use Rattle.laws.specs.Kit.{arith, length, take, drop, take-add, drop-drop, eqb-true}
 use Rattle.laws.specs.Choose.{false-true}
 use Rattle.record.specs.Paper.{headBytes}
 use Rattle.text.specs.Lines.{lineRoom}
@@ -25,7 +18,7 @@ use Rattle.pump.specs.declared.Stage.the-variants.{Head, Walking}
 use Rattle.pump.specs.declared.Pump.{Pump}
 use Rattle.pump.specs.declared.End.{End}
 use Rattle.pump.specs.declared.End.the-variants.{Whole, Unwritten, Unread, TurnsOver}
-use Rattle.pump.specs.Step.{fresh, Fits, shown, onward, openedBy, tookBy, stageBy, stepOf, settledOf, grown}
+use Rattle.pump.specs.Step.{Fits, shown, onward, openedBy, tookBy, stageBy, stepOf, settledOf, grown}
 use Rattle.pump.specs.Run.{Read-in, came-in, Reaches, begins, steps, reads, Front, Whole-output, RunEnds, whole, unwritten, unread, turns-over}
 use Rattle.pump.proofs.Moving.{drop-take}
 use Rattle.pump.proofs.Stepping.{shown-size}

@@ -1,12 +1,6 @@
 -- The parts of a step, over plain values: what each return of the code has to show.
-use mathlib.Core.Path.{_≡_, refl, sym, ap, subst, _∙_}
-use mathlib.Core.Bool.{Bool, true, false}
-use mathlib.Core.List.{List, []}
-use Prim.Native.Nat.{ℕ, _+_, _-_, _≤_}
-use native.Mathlib.Omega.{arith}
-use lib.Dec.{eqb}
-use lib.ListN.{length, take, drop, length-drop}
-use lib.Seq.{sets, length-sets, take-append-seam, length-take-le}
+use Rattle.laws.specs.Kit.{_≡_, refl, sym, ap, subst, _∙_, true, false, List, ℕ, _+_, _-_, _≤_, arith, eqb, length, take, drop}
+use Rattle.laws.specs.Kit.{length-drop, sets, length-sets, take-append-seam, length-take-le}
 use Rattle.laws.specs.Lay.{sets-front, put-length}
 use Rattle.record.specs.Paper.{headBytes}
 use Rattle.text.specs.Lines.{lineRoom, Line, refusalLine}
@@ -14,12 +8,12 @@ use Rattle.printer.specs.declared.Walk.{Walk}
 use Rattle.printer.specs.declared.TakeAnswer.{TakeAnswer}
 use Rattle.printer.specs.Step.{TakeOutcome, TakeGives}
 use Rattle.pump.specs.declared.Stage.{Stage}
-use Rattle.pump.specs.declared.Stage.the-variants.{Head, Walking}
+use Rattle.pump.specs.declared.Stage.the-variants.{Walking}
 use Rattle.pump.specs.declared.Pump.{Pump}
 use Rattle.pump.specs.declared.Stepped.{Stepped}
 use Rattle.printer.specs.declared.Opened.{Opened}
 use Rattle.printer.specs.declared.Opened.the-variants.{More as Wanting, Refused as Unopened, Ready as Opens}
-use Rattle.pump.specs.Step.{Did, StepGives, stageBy, stepOf, onward, openedBy, tookBy, settledOf, shown, Fits}
+use Rattle.pump.specs.Step.{StepGives, stageBy, stepOf, onward, openedBy, tookBy, settledOf, shown, Fits}
 
 -- the front of what a text was laid into is the text
 pub laid-front : (text before : List ℕ) → length text ≤ length before → take (length text) (sets before 0 text) ≡ text

@@ -1,10 +1,5 @@
 -- Any run of the program: reads of any size, in any number, and the steps between them. What the theorem of the run speaks of.
-use mathlib.Core.Path.{_≡_}
-use mathlib.Core.Bool.{Bool, true, false}
-use mathlib.Core.List.{List, [], _++_}
-use Prim.Native.Nat.{ℕ, _+_, _-_, _≤_, _<_}
-use lib.IntN.{ℤ}
-use lib.ListN.{length, take, drop}
+use Rattle.laws.specs.Kit.{_≡_, Bool, true, false, List, [], _++_, ℕ, _+_, _-_, _≤_, _<_, ℤ, length, take, drop}
 use Rattle.libc.specs.Io.{Moved}
 use Rattle.printer.specs.Paper.{outputOf}
 use Rattle.pump.specs.declared.Pump.{Pump}

@@ -1,9 +1,6 @@
 -- What calls of the system were handed and answered. The logic knows of no read and no write, so these are marks: they are opaque, and
 -- `say-so` and `hear-so` are cited in one place each, the proof of the function that makes that call and does nothing else.
-use mathlib.Core.Bool.{Bool}
-use mathlib.Core.List.{List}
-use Prim.Native.Nat.{ℕ}
-use lib.IntN.{ℤ}
+use Rattle.laws.specs.Kit.{Bool, List, ℕ, ℤ}
 
 -- a call was handed these bytes to be written, and answered whether it wrote them all
 pub Said : List ℕ → Bool → Type 0

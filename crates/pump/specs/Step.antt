@@ -1,11 +1,5 @@
 -- Between reads and writes, step by step: what the contracts cite.
-use mathlib.Core.Path.{_≡_}
-use mathlib.Core.Bool.{Bool, true, false}
-use mathlib.Core.List.{List, []}
-use Prim.Native.Nat.{ℕ, _+_, _-_, _≤_, _<_}
-use lib.Dec.{eqb}
-use lib.IntN.{ℤ, pos, negsuc}
-use lib.ListN.{length, take, drop, getD}
+use Rattle.laws.specs.Kit.{_≡_, Bool, true, false, List, [], ℕ, _+_, _-_, _≤_, _<_, eqb, ℤ, pos, negsuc, length, take, drop, getD}
 use Rattle.record.specs.Paper.{headBytes}
 use Rattle.text.specs.Lines.{refusalLine}
 use Rattle.printer.specs.declared.Walk.{Walk}

@@ -1,8 +1,6 @@
 // What the program does between its reads and its writes: bytes that came in at the front of a window, and the lines that they tell.
 // It knows `printer`, and where in the window the file goes on. It must never know where the bytes come from, nor where they go.
-ghost use mathlib.Core.Path.{_≡_};
-ghost use Prim.Native.Nat.{_+_, _-_, _≤_, _<_};
-ghost use lib.ListN.{length, take, drop};
+ghost use Rattle.laws.specs.Kit.{_≡_, _+_, _-_, _≤_, _<_, length, take, drop};
 ghost use Rattle.libc.specs.Io.{Moved};
 ghost use Rattle.text.specs.Lines.{lineRoom};
 ghost use Rattle.pump.specs.Step.{Fits, StepGives, shown, fresh, openedBy, tookBy, stepOf, settledOf, cameOf};

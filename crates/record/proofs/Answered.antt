@@ -1,13 +1,6 @@
 -- The reader's answers, call after call, are the records that the file reads as: by the bytes that are left, one record a step.
-use mathlib.Core.Path.{_≡_, refl, sym, ap, _∙_, subst}
-use mathlib.Core.Bool.{Bool, true, false}
-use mathlib.Core.List.{List, [], _∷_, _++_}
-use Prim.Native.Nat.{ℕ, zero, suc, _+_, _*_, _^_, _≤_, _<_}
-use native.Mathlib.Omega.{arith}
-use native.Mathlib.Nat.{mod-eq-of-lt}
-use native.Mathlib.Decide.{ℕ-discrete}
-use lib.ListN.{length, drop, length-drop}
-use lib.Seq.{drop-drop}
+use Rattle.laws.specs.Kit.{_≡_, refl, sym, ap, _∙_, subst, Bool, true, false, List, [], _∷_, _++_, ℕ, zero, suc, _+_, _*_, _^_, _≤_, _<_}
+use Rattle.laws.specs.Kit.{arith, mod-eq-of-lt, ℕ-discrete, length, drop, length-drop, drop-drop}
 use Rattle.laws.specs.Choose.{pick, false-true}
 use Rattle.laws.specs.Fold.{fold}
 use Rattle.limits.specs.declared.Parameters.{Parameters}

@@ -1,9 +1,5 @@
 -- What the fields of a packet's and of the parameters' record are, and both records to bytes and back. By the laws of any list of widths.
-use mathlib.Core.Path.{_≡_, sym, _∙_}
-use mathlib.Core.List.{List, [], _∷_, _++_}
-use Prim.Native.Nat.{ℕ, _≤_}
-use native.Mathlib.Omega.{arith}
-use lib.ListN.{length, drop}
+use Rattle.laws.specs.Kit.{_≡_, sym, _∙_, List, [], _∷_, _++_, ℕ, _≤_, arith, length, drop}
 use Rattle.endian.specs.declared.Order.the-variants.{Big}
 use Rattle.endian.specs.Number.{Bytes}
 use Rattle.endian.specs.Fields.{fields, Fit}

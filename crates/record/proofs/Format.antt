@@ -1,14 +1,7 @@
 -- How a record is framed, and by which of 21, 22, 23 it is refused, from what stands in front: a scrap, a length of 0, a record that is
 -- cut short, or a whole one; and what none of the three says of a record. By the tests, one after the other.
-use mathlib.Core.Path.{_≡_, refl, _∙_}
-use mathlib.Core.Bool.{Bool, true, false, _&&_}
-use mathlib.Core.List.{List}
-use Prim.Native.Nat.{ℕ, _+_, _≤_, _<_}
-use native.Mathlib.Omega.{arith}
-use native.Mathlib.Decide.{ℕ-discrete, decLe}
-use lib.Dec.{ltb, eqb}
-use lib.ListN.{length}
-use borrow.Author.Tests.{lt-ltb, le-ltb, eq-eqb, ne-eqb, ltb-false, eqb-true, eqb-false}
+use Rattle.laws.specs.Kit.{_≡_, refl, _∙_, Bool, true, false, _&&_, List, ℕ, _+_, _≤_, _<_, arith, ℕ-discrete, decLe, ltb, eqb, length}
+use Rattle.laws.specs.Kit.{lt-ltb, le-ltb, eq-eqb, ne-eqb, ltb-false, eqb-true, eqb-false}
 use Rattle.laws.specs.Choose.{pick, pick-either}
 use Rattle.endian.specs.Number.{Room}
 use Rattle.record.specs.declared.Framed.the-variants as framed

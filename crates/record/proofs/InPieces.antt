@@ -1,13 +1,8 @@
 -- A file in pieces reads as the whole, on one page: a piece's answer is the whole file's or More; More comes only where the next bytes
 -- decide, and never of a last window or one of 65,537 bytes (65,538 with the version byte); and whatever the pieces, the answers are the
 -- whole file's. The work on one window is in Window; the pieces go by the steps still allowed.
-use mathlib.Core.Path.{_≡_, refl, sym, ap, subst, _∙_}
-use mathlib.Core.Bool.{Bool, true, false}
-use mathlib.Core.List.{List, [], _∷_, _++_, append-nil, append-assoc, flatten}
-use Prim.Native.Nat.{ℕ, zero, suc, _+_, _≤_, _<_}
-use native.Mathlib.Omega.{arith}
-use lib.ListN.{length, drop, getD, length-append, length-drop}
-use lib.Seq.{drop-append-le}
+use Rattle.laws.specs.Kit.{_≡_, refl, sym, ap, subst, _∙_, Bool, true, false, List, [], _∷_, _++_, append-nil, append-assoc, flatten, ℕ}
+use Rattle.laws.specs.Kit.{zero, suc, _+_, _≤_, _<_, arith, length, drop, getD, length-append, length-drop, drop-append-le}
 use Rattle.laws.specs.Choose.{pick}
 use Rattle.endian.proofs.Width.{bytes-all}
 use Rattle.record.specs.declared.Head.{Head}

@@ -1,7 +1,5 @@
 -- The writer's contract, a record of two equations, admits one answer and one content of the lent bytes.
-use mathlib.Core.Path.{_≡_, sym, ap, _∙_}
-use mathlib.Core.List.{List}
-use Prim.Native.Nat.{ℕ}
+use Rattle.laws.specs.Kit.{_≡_, sym, ap, _∙_, List, ℕ}
 use Rattle.laws.specs.Unique.{one-answer}
 use Rattle.packet.specs.Paper.{packets}
 use Rattle.limits.specs.declared.Parameters.{Parameters}

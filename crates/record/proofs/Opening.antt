@@ -1,8 +1,5 @@
 -- The check of a whole file from its first byte: what its head makes of it.
-use mathlib.Core.Path.{_≡_, refl, sym, subst, _∙_}
-use mathlib.Core.List.{List, [], _∷_}
-use Prim.Native.Nat.{ℕ, _<_}
-use lib.ListN.{drop}
+use Rattle.laws.specs.Kit.{_≡_, refl, sym, subst, _∙_, List, [], _∷_, ℕ, _<_, drop}
 use types.Run.{OneOf, miss}
 use denote.Enum.Declared.{tagOf}
 use Rattle.limits.specs.declared.Parameters.{Parameters}

@@ -1,13 +1,6 @@
 -- Writing what was read: each accepted record is the bytes of its own fields, and the rest follows. By how many bytes there are.
-use mathlib.Core.Path.{_≡_, refl, sym, ap, subst, _∙_}
-use mathlib.Core.Bool.{Bool, true, false, _||_}
-use mathlib.Core.List.{List, [], _∷_, _++_}
-use Prim.Native.Nat.{ℕ, zero, suc, _+_, _≤_}
-use native.Mathlib.Omega.{arith}
-use native.Mathlib.Decide.{ℕ-discrete}
-use lib.ListN.{length, take, drop, getD, length-drop}
-use lib.Seq.{drop-drop}
-use borrow.Author.Tests.{eqb-true}
+use Rattle.laws.specs.Kit.{_≡_, refl, sym, ap, subst, _∙_, Bool, true, false, _||_, List, [], _∷_, _++_, ℕ, zero, suc, _+_, _≤_, arith}
+use Rattle.laws.specs.Kit.{ℕ-discrete, length, take, drop, getD, length-drop, drop-drop, eqb-true}
 use Rattle.endian.specs.Number.{Bytes}
 use Rattle.endian.proofs.Width.{bytes-drop}
 use Rattle.packet.specs.declared.Past.{Past}

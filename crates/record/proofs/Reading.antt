@@ -1,15 +1,7 @@
 -- The packets of a file, one record at a time: none is left, or the first is accepted and the others follow, or it is refused.
 -- By the number of records still allowed, of which as many as there are bytes is always enough.
-use mathlib.Core.Path.{_≡_, refl, sym, ap, _∙_}
-use mathlib.Core.Bool.{true, false}
-use mathlib.Core.List.{List}
-use Prim.Native.Nat.{ℕ, zero, suc, _+_, _-_, _≤_, _<_}
-use native.Mathlib.Omega.{arith}
-use native.Mathlib.Decide.{ℕ-discrete}
-use lib.Dec.{eqb}
-use lib.ListN.{length, drop, length-drop}
-use lib.Seq.{drop-drop}
-use borrow.Author.Tests.{eq-eqb, ne-eqb, eqb-true, eqb-false, not-true}
+use Rattle.laws.specs.Kit.{_≡_, refl, sym, ap, _∙_, true, false, List, ℕ, zero, suc, _+_, _-_, _≤_, _<_, arith, ℕ-discrete, eqb, length}
+use Rattle.laws.specs.Kit.{drop, length-drop, drop-drop, eq-eqb, ne-eqb, eqb-true, eqb-false, not-true}
 use Rattle.laws.specs.Choose.{pick-either, orElse}
 use Rattle.packet.specs.declared.Past.{Past}
 use Rattle.packet.specs.Step.{nothing, nextOf}

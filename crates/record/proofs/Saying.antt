@@ -1,13 +1,6 @@
 -- What the reader answers, in the paper's words: a predicate on the answer, proved once for every answer. By what stands in front.
-use mathlib.Core.Path.{_≡_, refl, sym, ap, subst, _∙_}
-use mathlib.Core.Bool.{Bool, true, false}
-use mathlib.Core.List.{List, [], _∷_}
-use Prim.Native.Nat.{ℕ, _≤_, _<_}
-use native.Mathlib.Omega.{arith}
-use native.Mathlib.Decide.{ℕ-discrete}
-use lib.Dec.{eqb}
-use lib.ListN.{length, drop}
-use borrow.Author.Tests.{eqb-true}
+use Rattle.laws.specs.Kit.{_≡_, refl, sym, ap, subst, _∙_, Bool, true, false, List, [], _∷_, ℕ, _≤_, _<_, arith, ℕ-discrete, eqb, length}
+use Rattle.laws.specs.Kit.{drop, eqb-true}
 use Rattle.laws.specs.Choose.{pick, pick-either}
 use Rattle.limits.specs.declared.Parameters.{Parameters}
 use Rattle.limits.specs.Paper.{setUpRefusal}

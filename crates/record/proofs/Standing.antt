@@ -1,13 +1,7 @@
 -- A packet's record that stands whole in front, seen at once: it is what the reader answers there. By its length, its body's
 -- length and its kind, which are all that the format looks at.
-use mathlib.Core.Path.{_≡_, refl, sym, ap, _∙_}
-use mathlib.Core.Bool.{Bool, true, false, _&&_, and-false}
-use mathlib.Core.List.{List}
-use Prim.Native.Nat.{ℕ, _≤_, _<_}
-use native.Mathlib.Omega.{arith}
-use lib.Dec.{leb, eqb}
-use lib.ListN.{length}
-use borrow.Author.Tests.{eq-eqb, ne-eqb, le-leb, lt-leb, leb-true, eqb-true}
+use Rattle.laws.specs.Kit.{_≡_, refl, sym, ap, _∙_, Bool, true, false, _&&_, and-false, List, ℕ, _≤_, _<_, arith, leb, eqb, length}
+use Rattle.laws.specs.Kit.{eq-eqb, ne-eqb, le-leb, lt-leb, leb-true, eqb-true}
 use Rattle.laws.specs.Choose.{false-true}
 use Rattle.record.specs.Paper.{packetLength, packetBytes, bodyLength, kindOf}
 use Rattle.record.specs.Step.{after, packetOf, wholeOf, nextBy, nextPiece, standsIn, Whole}

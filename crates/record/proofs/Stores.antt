@@ -1,11 +1,6 @@
 -- A record's fields, stored one after the other, are the record stored. By the law that bytes stored in two runs are stored in one.
-use mathlib.Core.Path.{_≡_, sym, _∙_}
-use mathlib.Core.List.{List}
-use Prim.Native.Nat.{ℕ, _+_, _≤_, _<_}
-use native.Mathlib.Nat.{div-one, div-eq-of-lt, mod-eq-of-lt, add-assoc}
-use lib.Dec.{lit<}
-use lib.ListN.{length, set, length-append}
-use lib.Seq.{sets}
+use Rattle.laws.specs.Kit.{_≡_, sym, _∙_, List, ℕ, _+_, _≤_, _<_, div-one, div-eq-of-lt, mod-eq-of-lt, add-assoc, lit<, length, set}
+use Rattle.laws.specs.Kit.{length-append, sets}
 use Rattle.endian.specs.Number.{bytesOf}
 use Rattle.endian.specs.Fields.{fieldBytes}
 use Rattle.laws.specs.Lay.{sets-join}

@@ -1,12 +1,7 @@
 -- More is answered only where another piece could change the answer: two continuations of the window that the whole file's reading
 -- tells apart. By what the window lacks: with nothing after it there is no record or it is cut short, with enough after it, it is not.
-use mathlib.Core.Path.{_≡_, refl, sym, ap, _∙_}
-use mathlib.Core.Bool.{Bool, true, false}
-use mathlib.Core.List.{List, [], _∷_, _++_, append-nil}
-use Prim.Native.Nat.{ℕ, _+_, _*_}
-use native.Mathlib.Omega.{arith}
-use lib.Dec.{eqb}
-use lib.ListN.{replicate, length-append, length-replicate}
+use Rattle.laws.specs.Kit.{_≡_, refl, sym, ap, _∙_, Bool, true, false, List, [], _∷_, _++_, append-nil, ℕ, _+_, _*_, arith, eqb}
+use Rattle.laws.specs.Kit.{replicate, length-append, length-replicate}
 use Rattle.laws.specs.Choose.{pick-either, false-true}
 use Rattle.endian.specs.Number.{numberOf}
 use Rattle.record.specs.declared.Framed.{Framed}

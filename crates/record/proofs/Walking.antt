@@ -1,12 +1,7 @@
 -- One turn of the walk over a file, by what the cursor answers: a packet goes into the tally or is refused, and anything else ends
 -- the walk. What an answer says of the bytes is in Saying.
-use mathlib.Core.Path.{_≡_, refl, ap, subst, _∙_}
-use mathlib.Core.List.{List, [], _∷_}
-use Prim.Native.Nat.{ℕ, _+_, _^_, _≤_, _<_}
-use native.Mathlib.Omega.{arith}
-use native.Mathlib.Nat.{mod-eq-of-lt}
-use lib.ListN.{length, drop, length-drop}
-use lib.Seq.{drop-drop}
+use Rattle.laws.specs.Kit.{_≡_, refl, ap, subst, _∙_, List, [], _∷_, ℕ, _+_, _^_, _≤_, _<_, arith, mod-eq-of-lt, length, drop}
+use Rattle.laws.specs.Kit.{length-drop, drop-drop}
 use types.Run.{OneOf, miss}
 use denote.Enum.Declared.{tagOf}
 use Rattle.laws.specs.Fold.{fold}

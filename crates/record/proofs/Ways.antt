@@ -1,13 +1,7 @@
 -- One law for each way out of the reader's functions, from the tests before it.
-use mathlib.Core.Path.{_≡_, refl, sym, ap, subst, _∙_}
-use mathlib.Core.Bool.{Bool, true, false}
-use mathlib.Core.List.{List, _∷_}
-use Prim.Native.Nat.{ℕ, _+_, _-_, _≤_, _<_}
-use native.Mathlib.Omega.{arith}
-use lib.Dec.{ltb, eqb}
-use lib.ListN.{length, getD, take, drop, length-drop, drop-of-length-le}
-use lib.Seq.{take-all, drop-length}
-use borrow.Author.Tests.{eq-eqb, ne-eqb, eqb-true, eqb-false, ltb-false}
+use Rattle.laws.specs.Kit.{_≡_, refl, sym, ap, subst, _∙_, Bool, true, false, List, _∷_, ℕ, _+_, _-_, _≤_, _<_, arith, ltb, eqb, length}
+use Rattle.laws.specs.Kit.{getD, take, drop, length-drop, drop-of-length-le, take-all, drop-length, eq-eqb, ne-eqb, eqb-true, eqb-false}
+use Rattle.laws.specs.Kit.{ltb-false}
 use Rattle.laws.specs.Choose.{pick, pick-either}
 use Rattle.record.specs.declared.Framed.{Framed}
 use Rattle.record.specs.declared.Framed.the-variants as framed

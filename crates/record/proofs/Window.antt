@@ -1,14 +1,8 @@
 -- A window that shows enough answers as the whole file does, whatever bytes follow it, and a window of 65,537 bytes shows enough: all
 -- that is looked at lies within the window. The next record and the head both answer by the framing in front (`shown`).
-use mathlib.Core.Path.{_≡_, refl, sym, ap, _∙_}
-use mathlib.Core.Bool.{Bool, true, false}
-use mathlib.Core.List.{List, [], _∷_, _++_}
-use Prim.Native.Nat.{ℕ, _+_, _≤_, _<_}
-use native.Mathlib.Omega.{arith}
-use lib.Dec.{eqb}
-use lib.ListN.{length, take, drop, getD, length-append, length-drop, List·getD-append}
-use lib.Seq.{take-append-le, drop-append-le, length-take-le}
-use borrow.Author.Tests.{eqb-true}
+use Rattle.laws.specs.Kit.{_≡_, refl, sym, ap, _∙_, Bool, true, false, List, [], _∷_, _++_, ℕ, _+_, _≤_, _<_, arith, eqb, length, take}
+use Rattle.laws.specs.Kit.{drop, getD, length-append, length-drop, List·getD-append, take-append-le, drop-append-le, length-take-le}
+use Rattle.laws.specs.Kit.{eqb-true}
 use Rattle.laws.specs.Choose.{pick, pick-either, false-true}
 use Rattle.endian.specs.Number.{numberAt, Bytes}
 use Rattle.endian.proofs.Width.{number-small, bytes-take}

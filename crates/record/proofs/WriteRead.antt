@@ -1,12 +1,7 @@
 -- Reading what was written: each record stands at the front with its own fields, is accepted as it was, and the rest follows.
 -- By the list of packets.
-use mathlib.Core.Path.{_≡_, refl, sym, ap, _∙_}
-use mathlib.Core.Bool.{true, Bool, false, _||_}
-use mathlib.Core.List.{List, [], _∷_, _++_}
-use Prim.Native.Nat.{ℕ, _+_, _<_}
-use native.Mathlib.Omega.{arith}
-use lib.ListN.{length, take, drop, length-append}
-use lib.Seq.{drop-at}
+use Rattle.laws.specs.Kit.{_≡_, refl, sym, ap, _∙_, true, Bool, false, _||_, List, [], _∷_, _++_, ℕ, _+_, _<_, arith, length, take, drop}
+use Rattle.laws.specs.Kit.{length-append, drop-at}
 use Rattle.laws.specs.Choose.{AllBelow}
 use Rattle.packet.specs.declared.Past.{Past}
 use Rattle.packet.specs.declared.Scanned.the-variants as scan

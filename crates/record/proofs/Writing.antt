@@ -1,14 +1,7 @@
 -- The writer's answers, one law for each way out, and what it leaves in the lent bytes: the file, and beyond it what was there.
-use mathlib.Core.Path.{_≡_, refl, sym, ap, _∙_}
-use mathlib.Core.Bool.{false}
-use mathlib.Core.List.{List, [], _∷_, _++_}
-use Prim.Native.Nat.{ℕ, suc, _+_, _*_, _≤_, _<_}
-use native.Mathlib.Omega.{arith}
-use native.Mathlib.Nat.{zero-add}
-use lib.ListN.{length, take, drop, getD, length-append}
-use lib.Seq.{sets, sets-eq, take-at}
-use lib.Dec.{leb, eqb}
-use borrow.Author.Tests.{eq-eqb, ne-eqb, le-leb, lt-leb, leb-true, eqb-true}
+use Rattle.laws.specs.Kit.{_≡_, refl, sym, ap, _∙_, false, List, [], _∷_, _++_, ℕ, suc, _+_, _*_, _≤_, _<_, arith, zero-add, length, take}
+use Rattle.laws.specs.Kit.{drop, getD, length-append, sets, sets-eq, take-at, leb, eqb, eq-eqb, ne-eqb, le-leb, lt-leb, leb-true}
+use Rattle.laws.specs.Kit.{eqb-true}
 use Rattle.laws.specs.Choose.{pick, pick-either}
 use Rattle.packet.specs.declared.Past.{Past}
 use Rattle.packet.specs.declared.Refusal.{Refusal}

@@ -1,6 +1,5 @@
 -- The layout of the record file: a record is fields of so many bytes each, one after the other, and a file is its records.
-use mathlib.Core.List.{List, [], _∷_, _++_}
-use Prim.Native.Nat.{ℕ, _<_}
+use Rattle.laws.specs.Kit.{List, [], _∷_, _++_, ℕ, _<_}
 use Rattle.endian.specs.declared.Order.the-variants.{Big}
 use Rattle.endian.specs.Fields.{fieldBytes}
 use Rattle.packet.specs.declared.Packet.{Packet}

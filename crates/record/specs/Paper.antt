@@ -1,10 +1,6 @@
 -- The record file: the sentences of document 01, each above what renders it. A list of bytes is read from its front:
 -- `l` is the rest of a file from one record's length on, and `at` that record's offset.
-use mathlib.Core.Bool.{Bool, true, false, not, _&&_}
-use mathlib.Core.List.{List, [], _∷_}
-use Prim.Native.Nat.{ℕ, zero, suc, _+_}
-use lib.Dec.{ltb, eqb}
-use lib.ListN.{length, drop, getD}
+use Rattle.laws.specs.Kit.{Bool, true, false, not, _&&_, List, [], _∷_, ℕ, zero, suc, _+_, ltb, eqb, length, drop, getD}
 use Rattle.laws.specs.Choose.{pick, orElse}
 use Rattle.limits.specs.Paper.{setUpRefusal}
 use Rattle.packet.specs.declared.Past.{Past}

@@ -1,9 +1,5 @@
 -- A file read by the cursor, call after call: whole, and in pieces, where the next piece is put behind what is held if more is wanted.
-use mathlib.Core.Path.{_≡_}
-use mathlib.Core.Bool.{Bool, true, false}
-use mathlib.Core.List.{List, [], _∷_, _++_}
-use Prim.Native.Nat.{ℕ, zero, suc, _+_, _*_, _<_}
-use lib.ListN.{length, drop}
+use Rattle.laws.specs.Kit.{_≡_, Bool, true, false, List, [], _∷_, _++_, ℕ, zero, suc, _+_, _*_, _<_, length, drop}
 use Rattle.laws.specs.Choose.{pick}
 use Rattle.limits.specs.declared.Parameters.{Parameters}
 use Rattle.limits.specs.Paper.{setUpRefusal}

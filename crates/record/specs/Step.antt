@@ -1,11 +1,6 @@
 -- What the reader answers: how a record is framed, and from that the head of a file and what comes after it, of the whole rest of a file
 -- and of a piece of it. What the contracts cite; proofs/Saying.antt says what it is in the paper's words.
-use mathlib.Core.Path.{_≡_}
-use mathlib.Core.Bool.{Bool, true, _&&_}
-use mathlib.Core.List.{List}
-use Prim.Native.Nat.{ℕ, _+_, _%_, _^_, _≤_, _<_}
-use lib.Dec.{ltb, leb, eqb}
-use lib.ListN.{length, drop, getD}
+use Rattle.laws.specs.Kit.{_≡_, Bool, true, _&&_, List, ℕ, _+_, _%_, _^_, _≤_, _<_, ltb, leb, eqb, length, drop, getD}
 use Rattle.laws.specs.Choose.{pick}
 use Rattle.record.specs.declared.Cursor.{Cursor}
 use Rattle.record.specs.declared.Framed.{Framed}

@@ -1,7 +1,5 @@
 -- A whole file gone through record by record, with what is counted on the way; and the answer to it, from what the file reads as.
-use mathlib.Core.List.{List}
-use Prim.Native.Nat.{ℕ}
-use lib.ListN.{length}
+use Rattle.laws.specs.Kit.{List, ℕ, length}
 use Rattle.laws.specs.Count.{count}
 use Rattle.packet.specs.declared.Packet.{Packet}
 use Rattle.packet.specs.Paper.{closesAt}

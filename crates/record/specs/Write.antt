@@ -1,10 +1,5 @@
 -- What the writer answers, and what it leaves in the lent bytes.
-use mathlib.Core.Path.{_≡_}
-use mathlib.Core.Bool.{false}
-use mathlib.Core.List.{List, _++_}
-use Prim.Native.Nat.{ℕ, _+_, _*_, _≤_}
-use lib.Dec.{leb, eqb}
-use lib.ListN.{length, drop}
+use Rattle.laws.specs.Kit.{_≡_, false, List, _++_, ℕ, _+_, _*_, _≤_, leb, eqb, length, drop}
 use Rattle.laws.specs.Choose.{pick}
 use Rattle.packet.specs.declared.Scanned.{Scanned}
 use Rattle.packet.specs.declared.Scanned.the-variants as scan

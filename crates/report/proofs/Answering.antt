@@ -1,22 +1,9 @@
 -- What the C calls do with a file and lent bytes: by cases on what the file reads as.
-use mathlib.Core.Path.{_≡_, refl, sym, ap, _∙_}
-use mathlib.Core.Bool.{Bool, true, false}
-use mathlib.Core.List.{List, [], _++_, map, append-nil}
-use Prim.Native.Nat.{ℕ, _+_, _*_, _≤_, _<_}
-use native.Mathlib.Omega.{arith}
-use lib.Dec.{leb}
-use lib.IntN.{ℤ, pos}
-use lib.ListN.{length, take, drop, getD}
-use lib.Seq.{sets, drop-length}
-use mir.Syntax.{w64}
-use mir.Val.{toZ}
-use borrow.Author.Tests.{le-leb, lt-leb}
+use Rattle.laws.specs.Kit.{_≡_, refl, sym, ap, _∙_, Bool, true, false, List, _++_, map, append-nil, ℕ, _+_, _*_, _≤_, arith, leb}
+use Rattle.laws.specs.Kit.{ℤ, pos, length, drop, sets, drop-length, le-leb}
 use Rattle.laws.specs.Choose.{pick}
 use Rattle.laws.specs.Lay.{sets-front}
-use Rattle.endian.specs.Number.{numberOf}
-use Rattle.endian.proofs.Width.{bytes-all}
 use Rattle.packet.specs.declared.Packet.{Packet}
-use Rattle.packet.specs.Paper.{packets}
 use Rattle.timing.specs.declared.State.{State}
 use Rattle.timing.specs.declared.Fed.the-variants.{Accepted}
 use Rattle.frame.specs.Step.{rowWidth}
@@ -28,14 +15,9 @@ use Rattle.timing.proofs.Scanning.{numbers-length, scan-runs}
 use Rattle.limits.specs.declared.Parameters.{Parameters}
 use Rattle.record.specs.Paper.{File, file, refused, fileOf}
 use Rattle.record.specs.Walk.{asChecked, checkedOf, checkedNumber, checkedOffset}
-use Rattle.limits.specs.Steps.{ParametersHeld}
-use Rattle.record.specs.Write.{fileLength}
 use Rattle.record.proofs.ReadWrite.{file-holds}
-use Rattle.report.specs.Paper.{stateOf, rowsOf, reportOf, encoded, bytesFor, answer, answered, answerOf, roomFor, roomOf}
-use Rattle.report.specs.Paper.{numberBytes, filled, filledBy}
-use Rattle.report.specs.Step.{WriteGives}
-use Rattle.report.proofs.Calls.{written-whole}
-use Rattle.report.proofs.Signed.{report-fits, number-back}
+use Rattle.report.specs.Paper.{stateOf, rowsOf, encoded, bytesFor, answer, answered, answerOf}
+use Rattle.report.specs.Paper.{filled, filledBy}
 
 module _ (s : List ℕ) where
   -- a refusal is the check's own, for each number that it gives

@@ -1,15 +1,7 @@
 -- A file is asked for and the room after it: the count of frames that the check gives tells how long the report is. So what is asked
 -- decides the number, the offset and the bytes, and a file that is fine can be measured.
-use mathlib.Core.Path.{_≡_, refl, sym, ap, subst, _∙_}
-use mathlib.Core.Bool.{Bool, true, false}
-use mathlib.Core.List.{List, _++_, map}
-use Prim.Native.Nat.{ℕ, _+_, _-_, _*_, _/_, _≤_, _<_}
-use native.Mathlib.Omega.{arith}
-use lib.Dec.{leb}
-use lib.IntN.{pos}
-use lib.ListN.{length, drop, length-append, length-map}
-use lib.Seq.{sets}
-use borrow.Author.Tests.{le-leb, lt-leb, leb-true, leb-false}
+use Rattle.laws.specs.Kit.{_≡_, refl, sym, ap, subst, _∙_, Bool, true, false, List, _++_, map, ℕ, _+_, _-_, _*_, _/_, _≤_, _<_, arith}
+use Rattle.laws.specs.Kit.{leb, pos, length, drop, length-append, length-map, sets, le-leb, lt-leb, leb-true, leb-false}
 use Rattle.laws.specs.Choose.{pick}
 use Rattle.laws.specs.Count.{count, count-le}
 use Rattle.packet.specs.declared.Scanned.the-variants as scan

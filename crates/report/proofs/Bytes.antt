@@ -1,13 +1,8 @@
 -- Numbers of 8 bytes stored one after the other: how long they are, two lists put together, and one turn of a loop that stores them.
-use mathlib.Core.Path.{_≡_, refl, sym, ap, _∙_}
-use mathlib.Core.List.{List, [], _∷_, _++_, map, append-assoc}
-use Prim.Native.Nat.{ℕ, zero, suc, _+_, _*_, _≤_, _<_}
-use native.Mathlib.Omega.{arith}
-use native.Mathlib.Nat.{zero-add}
+use Rattle.laws.specs.Kit.{_≡_, refl, sym, ap, _∙_, List, [], _∷_, _++_, map, append-assoc, ℕ, zero, suc, _+_, _*_, _≤_, _<_, arith}
+use Rattle.laws.specs.Kit.{zero-add, ℤ, pos, length, take, drop, getD, length-append, sets, sets-eq, drop-cons, drop-length, drop-at}
+use Rattle.laws.specs.Kit.{length-take-le, length-sets}
 use native.Mathlib.Numerals.{add-one}
-use lib.IntN.{ℤ, pos}
-use lib.ListN.{length, take, drop, getD, length-append}
-use lib.Seq.{sets, sets-eq, drop-cons, drop-length, drop-at, length-take-le, length-sets}
 use mir.Syntax.{w64}
 use mir.Val.{SFits, toZ, ofZ}
 use mir.Facts.{toZ-ofZ}

@@ -1,18 +1,10 @@
 -- The other C functions, one law for each way out: the writer's answer as a number, the four limits, the three doubles.
-use mathlib.Core.Path.{_≡_, refl, sym, ap, _∙_}
-use mathlib.Core.Bool.{false}
-use mathlib.Core.List.{List, [], _∷_}
-use Prim.Native.Nat.{ℕ, _≤_, _<_}
-use native.Mathlib.Omega.{arith}
-use lib.Dec.{leb, eqb}
+use Rattle.laws.specs.Kit.{_≡_, refl, sym, ap, _∙_, false, List, [], _∷_, ℕ, _≤_, _<_, arith, leb, eqb, ℤ, length, sets, sets-eq, ne-eqb}
+use Rattle.laws.specs.Kit.{eqb-false, le-leb, lt-leb}
 use lib.Ieee.{Float, binary64, inFloat}
-use lib.IntN.{ℤ}
-use lib.ListN.{length}
-use lib.Seq.{sets, sets-eq}
 use mir.Syntax.{w64}
 use mir.Val.{SFits, toZ, ofZ}
 use mir.Facts.{toZ-ofZ}
-use borrow.Author.Tests.{ne-eqb, eqb-false, le-leb, lt-leb}
 use Rattle.laws.specs.Choose.{pick-either}
 use Rattle.packet.specs.declared.Scanned.{Scanned}
 use Rattle.packet.specs.declared.Scanned.the-variants as scan

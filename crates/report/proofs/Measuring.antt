@@ -1,12 +1,7 @@
 -- The packets of a file, measured one by one: what is left of the file, from the state and the bytes so far, gives what the whole gives.
 -- It is the measurement's one loop (timing's Running) with rows as bytes; a packet that is read (Here) is the first of what is left.
-use mathlib.Core.Path.{_≡_, refl, sym, ap, subst, _∙_}
-use mathlib.Core.Bool.{true, false}
-use mathlib.Core.List.{List, _∷_}
-use Prim.Native.Nat.{ℕ, _+_, _-_, _≤_, _<_}
-use native.Mathlib.Omega.{arith}
-use lib.ListN.{length, take, drop, length-drop}
-use lib.Seq.{drop-drop}
+use Rattle.laws.specs.Kit.{_≡_, refl, sym, ap, subst, _∙_, true, false, List, _∷_, ℕ, _+_, _-_, _≤_, _<_, arith, length, take, drop}
+use Rattle.laws.specs.Kit.{length-drop, drop-drop}
 use Rattle.packet.specs.declared.Packet.{Packet}
 use Rattle.packet.specs.Step.{nothing, nextOf}
 use Rattle.timing.specs.declared.StreamNumbers.{StreamNumbers}

@@ -1,10 +1,7 @@
 -- Each contract here that is a record of equations admits one answer: what meets it is what it names. The other contracts are
 -- equations, or what a run gives and what is put (timing's `ran-unique`, laws' `put-unique`).
-use mathlib.Core.Path.{_≡_}
-use mathlib.Core.List.{List}
-use Prim.Native.Nat.{ℕ}
+use Rattle.laws.specs.Kit.{_≡_, List, ℕ, ℤ}
 use lib.Ieee.{Float}
-use lib.IntN.{ℤ}
 use Rattle.laws.specs.Unique.{one-answer}
 use Rattle.timing.specs.declared.StreamNumbers.{StreamNumbers}
 use Rattle.limits.specs.declared.Parameters.{Parameters}

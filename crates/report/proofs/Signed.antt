@@ -1,14 +1,7 @@
 -- Each number of an accepted file's report fits 64 bits with its sign, so that it is read back from its 8 bytes as it is: timestamps that
 -- were read from 4 bytes are below 2^32, and the rest follows from the state's range (timing's Fitting).
-use mathlib.Core.Path.{_≡_, sym, ap, subst, _∙_}
-use mathlib.Core.List.{List, [], _∷_, _++_, map}
-use Prim.Native.Nat.{ℕ, zero, suc, _+_, _*_, _^_, _≤_, _<_}
-use native.Mathlib.Omega.{arith}
-use native.Mathlib.Nat.{pow-le-pow-right}
-use lib.Dec.{eqb}
-use lib.IntN.{ℤ, pos}
-use lib.ListN.{length, take, drop, getD, length-take}
-use lib.Seq.{take-at, drop-at, drop-drop}
+use Rattle.laws.specs.Kit.{_≡_, sym, ap, subst, _∙_, List, [], _∷_, _++_, map, ℕ, zero, suc, _+_, _*_, _^_, _≤_, _<_, arith}
+use Rattle.laws.specs.Kit.{pow-le-pow-right, eqb, ℤ, pos, length, take, drop, getD, length-take, take-at, drop-at, drop-drop}
 use mir.Syntax.{w64}
 use mir.Val.{toZ}
 use mir.Facts.{fits-ofZ, toZ-ofZ}

@@ -1,10 +1,6 @@
 -- The C functions: the sentences of document 01, each above what renders it, on what the reader (crate record) and the measurement
 -- (crate timing) say of a file. This page is what a reader must believe of them.
-use mathlib.Core.List.{List, [], _∷_, _++_, map}
-use Prim.Native.Nat.{ℕ, _*_}
-use lib.Dec.{leb, eqb}
-use lib.IntN.{ℤ, pos}
-use lib.ListN.{length, drop}
+use Rattle.laws.specs.Kit.{List, [], _∷_, _++_, map, ℕ, _*_, leb, eqb, ℤ, pos, length, drop}
 use mir.Val.{ofZ}
 use mir.Syntax.{w64}
 use Rattle.laws.specs.Choose.{pick, orElse}

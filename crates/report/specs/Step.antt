@@ -1,11 +1,6 @@
 -- A file measured part by part: what each part of the code asks and gives, in the words of Paper.
-use mathlib.Core.Path.{_≡_}
-use mathlib.Core.List.{List, _∷_}
-use Prim.Native.Nat.{ℕ, _+_, _*_, _≤_}
-use lib.Dec.{leb}
+use Rattle.laws.specs.Kit.{_≡_, List, _∷_, ℕ, _+_, _*_, _≤_, leb, ℤ, length, drop}
 use lib.Ieee.{Float}
-use lib.IntN.{ℤ}
-use lib.ListN.{length, drop}
 use Rattle.laws.specs.Choose.{pick, orElse}
 use Rattle.packet.specs.declared.Packet.{Packet}
 use Rattle.packet.specs.Paper.{packets}

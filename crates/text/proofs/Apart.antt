@@ -1,10 +1,6 @@
 -- Where a text is a number or a word and then a space, both can be told: numbers and words hold no space, so in two equal texts they
 -- end at the same byte.
-use mathlib.Core.Path.{_≡_, refl}
-use mathlib.Core.List.{List, [], _∷_, _++_}
-use Prim.Native.Nat.{ℕ, suc, _≤_, _<_, _^_}
-use native.Mathlib.Omega.{arith}
-use lib.IntN.{ℤ, pos, negsuc}
+use Rattle.laws.specs.Kit.{_≡_, refl, List, [], _∷_, _++_, ℕ, suc, _≤_, _<_, _^_, arith, ℤ, pos, negsuc}
 use Rattle.text.specs.Decimal.{digits, signed, Digits}
 use Rattle.text.proofs.Read.{digits-are, digits-differ}
 

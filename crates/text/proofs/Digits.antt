@@ -1,15 +1,8 @@
 -- What the recursion of `put_number` puts is the number's digits: room for more digits than it has changes nothing.
 -- By recursion on that room.
-use mathlib.Core.Path.{_≡_, refl, sym, ap, _∙_}
-use mathlib.Core.Bool.{Bool, true, false}
-use mathlib.Core.List.{List, [], _∷_, _++_}
-use Prim.Native.Nat.{ℕ, zero, suc, _+_, _/_, _%_, _^_, _≤_, _<_}
-use native.Mathlib.Omega.{arith}
-use native.Mathlib.Nat.{pow-suc, div-lt-iff-lt-mul, mod-eq-of-lt}
-use lib.Dec.{ltb}
-use lib.Seq.{sets}
-use lib.ListN.{length, set, length-append}
-use borrow.Author.Tests.{ltb-false, lt-ltb, le-ltb}
+use Rattle.laws.specs.Kit.{_≡_, refl, sym, ap, _∙_, Bool, true, false, List, [], _∷_, _++_, ℕ, zero, suc, _+_, _/_, _%_, _^_, _≤_, _<_}
+use Rattle.laws.specs.Kit.{arith, pow-suc, div-lt-iff-lt-mul, mod-eq-of-lt, ltb, sets, length, set, length-append, ltb-false, lt-ltb}
+use Rattle.laws.specs.Kit.{le-ltb}
 use Rattle.laws.specs.Choose.{pick}
 use Rattle.text.specs.Decimal.{digitsBy, digitsOf, digits}
 use Rattle.text.specs.Lines.{Part}

@@ -1,6 +1,5 @@
 -- Document 01's own output, and the ends of a signed number: the definitions compute to the lines as they are printed there.
-use mathlib.Core.Path.{_≡_, refl}
-use lib.IntN.{pos, negsuc}
+use Rattle.laws.specs.Kit.{_≡_, refl, pos, negsuc}
 use Rattle.bucket.specs.declared.Network.the-variants.{Pass as Passes, Burst}
 use Rattle.frame.specs.declared.Buffer.the-variants.{Pass, Under, Over}
 use Rattle.text.specs.Decimal.{codes, digitsOf, digits, signed}

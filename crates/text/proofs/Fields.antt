@@ -1,12 +1,7 @@
 -- One number more behind those of a row that are put: the loop of `put_fields` goes through the row's numbers by taking one more of them.
-use mathlib.Core.Path.{_≡_, refl, sym, ap, _∙_}
-use mathlib.Core.List.{List, [], _∷_, _++_, append-nil, append-assoc}
-use Prim.Native.Nat.{ℕ, _+_, _*_, _<_}
-use native.Mathlib.Omega.{arith}
+use Rattle.laws.specs.Kit.{_≡_, refl, sym, ap, _∙_, List, [], _∷_, _++_, append-nil, append-assoc, ℕ, _+_, _*_, _<_, arith, ℤ, length}
+use Rattle.laws.specs.Kit.{take, getD, take-suc, take-all}
 use native.Mathlib.Numerals.{add-one}
-use lib.IntN.{ℤ}
-use lib.ListN.{length, take, getD}
-use lib.Seq.{sets, take-suc, take-all}
 use Rattle.frame.specs.Step.{rowWidth}
 use Rattle.text.specs.Decimal.{codes, signed}
 use Rattle.text.specs.Lines.{Part, fields}

@@ -1,7 +1,5 @@
 -- The parts of the last line as the code puts them are the line as document 01 has it: they differ in grouping alone.
-use mathlib.Core.Path.{_≡_}
-use mathlib.Core.List.{List, _++_, append-assoc}
-use Prim.Native.Nat.{ℕ}
+use Rattle.laws.specs.Kit.{_≡_, List, _++_, append-assoc, ℕ}
 use Rattle.bucket.specs.declared.Network.{Network}
 use Rattle.frame.specs.declared.Buffer.{Buffer}
 use Rattle.text.specs.Decimal.{codes}

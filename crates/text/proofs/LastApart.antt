@@ -1,9 +1,6 @@
 -- Two last lines that are alike print the same numbers and answers, and no line is of two kinds. By reading both from the left: behind
 -- the same words a number ends at the same stop (`told`), and each answer and each line begins with a letter of its own.
-use mathlib.Core.Path.{_≡_, refl, sym, _∙_}
-use mathlib.Core.List.{List, _++_, append-assoc}
-use Prim.Native.Nat.{ℕ, _<_, _^_}
-use native.Mathlib.Omega.{arith}
+use Rattle.laws.specs.Kit.{_≡_, refl, sym, _∙_, List, _++_, append-assoc, ℕ, _<_, _^_, arith}
 use Rattle.bucket.specs.declared.Network.{Network}
 use Rattle.bucket.specs.declared.Network.the-variants.{Pass as Passes, Burst}
 use Rattle.frame.specs.declared.Row.{Row}

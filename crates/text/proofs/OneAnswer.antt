@@ -1,7 +1,5 @@
 -- The contract of a line that is put, a record of two equations and a bound, admits one end and one content of the lent bytes.
-use mathlib.Core.Path.{_≡_}
-use mathlib.Core.List.{List}
-use Prim.Native.Nat.{ℕ}
+use Rattle.laws.specs.Kit.{_≡_, List, ℕ}
 use Rattle.laws.specs.Lay.{put-unique}
 use Rattle.text.specs.Lines.{Line}
 

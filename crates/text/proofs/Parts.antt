@@ -1,9 +1,5 @@
 -- Two parts of a line, put one behind the other, are one part: what was laid first and what was laid behind it were laid at once.
-use mathlib.Core.Path.{_≡_, refl, ap, _∙_}
-use mathlib.Core.List.{List, [], _∷_, _++_}
-use Prim.Native.Nat.{ℕ, _+_, _≤_}
-use native.Mathlib.Omega.{arith}
-use lib.ListN.{length, set, length-append}
+use Rattle.laws.specs.Kit.{_≡_, refl, ap, _∙_, List, [], _∷_, _++_, ℕ, _+_, _≤_, arith, length, set, length-append}
 use Rattle.laws.specs.Lay.{sets-join, put-length}
 use Rattle.text.specs.Lines.{lineRoom, Line, Part}
 

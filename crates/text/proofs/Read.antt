@@ -1,15 +1,7 @@
 -- The digits of a number read back as the number, so two numbers never print alike; none but 0 leads with a 0.
 -- By recursion on how many digits there may be: each step takes the last digit off.
-use mathlib.Core.Path.{_≡_, sym, ap, subst, _∙_}
-use mathlib.Core.Bool.{Bool, true, false}
-use mathlib.Core.List.{List, [], _∷_, _++_}
-use Prim.Native.Nat.{ℕ, zero, suc, _+_, _-_, _*_, _/_, _%_, _^_, _≤_, _<_}
-use native.Mathlib.Omega.{arith}
-use native.Mathlib.Nat.{div-add-mod', mod-lt, le-div-iff-mul-le}
-use native.Mathlib.Decide.{decLt}
-use lib.Dec.{ltb}
-use lib.ListN.{length}
-use lib.IntN.{ℤ, pos, negsuc, natAbs}
+use Rattle.laws.specs.Kit.{_≡_, sym, ap, subst, _∙_, Bool, true, false, List, [], _∷_, _++_, ℕ, zero, suc, _+_, _-_, _*_, _/_, _%_, _^_}
+use Rattle.laws.specs.Kit.{_≤_, _<_, arith, div-add-mod', mod-lt, le-div-iff-mul-le, decLt, ltb, length, ℤ, pos, negsuc, natAbs}
 use Rattle.laws.specs.Fold.{fold, fold-cut}
 use Rattle.laws.specs.Choose.{pick}
 use Rattle.text.specs.Decimal.{digitsOf, digits, signed, value, Digits, Leads}

@@ -1,9 +1,5 @@
 -- Two rows that print alike are one: the numbers are told off the line one after the other, by recursion on them.
-use mathlib.Core.Path.{_≡_, refl, sym, _∙_}
-use mathlib.Core.List.{List, [], _∷_, _++_, append-assoc}
-use Prim.Native.Nat.{_<_, _^_}
-use native.Mathlib.Omega.{arith}
-use lib.IntN.{ℤ, natAbs}
+use Rattle.laws.specs.Kit.{_≡_, refl, sym, _∙_, List, [], _∷_, _++_, append-assoc, _<_, _^_, arith, ℤ, natAbs}
 use Rattle.frame.specs.declared.Row.{Row}
 use Rattle.frame.specs.Step.{numbersOf}
 use Rattle.text.specs.Decimal.{codes, signed}

@@ -1,13 +1,6 @@
 -- A signed number as `put_signed` puts it: its own digits, or a minus sign and those of one more than −1 less it. By cases on its sign.
-use mathlib.Core.Path.{_≡_, refl, ap}
-use mathlib.Core.Bool.{true, false}
-use mathlib.Core.List.{_++_}
-use Prim.Native.Nat.{ℕ, _+_}
-use native.Mathlib.Omega.{arith}
+use Rattle.laws.specs.Kit.{_≡_, refl, ap, true, false, _++_, ℕ, _+_, arith, leb-false, leZ, mag, ℤ, pos, negsuc, natAbs}
 use native.Mathlib.Numerals.{add-one}
-use borrow.Author.Tests.{leb-false}
-use lib.Signed.{leZ, mag}
-use lib.IntN.{ℤ, pos, negsuc, natAbs}
 use Rattle.text.specs.Decimal.{codes, digits, signed}
 
 pub plain-signed : (z : ℤ) → leZ (pos 0) z ≡ true → digits (natAbs z) ≡ signed z

@@ -1,10 +1,7 @@
 -- Text as bytes: a word is the codes of its letters, a number its decimal digits, with a minus sign where it is below 0.
-use mathlib.Core.List.{List, [], _∷_, _++_}
-use Prim.Native.Nat.{ℕ, zero, suc, _+_, _-_, _*_, _/_, _%_, _≤_, _<_}
+use Rattle.laws.specs.Kit.{List, [], _∷_, _++_, ℕ, zero, suc, _+_, _-_, _*_, _/_, _%_, _≤_, _<_, ltb, ℤ, pos, negsuc}
 use Prim.Native.Char.{code}
 use Prim.Native.String.{String, [] as end, _∷_ as _then_}
-use lib.Dec.{ltb}
-use lib.IntN.{ℤ, pos, negsuc}
 use Rattle.laws.specs.Choose.{pick}
 use Rattle.laws.specs.Fold.{fold}
 

@@ -1,9 +1,5 @@
 -- The three lines that document 01 says the program prints, as bytes; and what it is that a line was put into lent bytes.
-use mathlib.Core.Path.{_≡_}
-use mathlib.Core.List.{List, [], _∷_, _++_}
-use Prim.Native.Nat.{ℕ, _≤_}
-use lib.IntN.{ℤ}
-use lib.ListN.{length}
+use Rattle.laws.specs.Kit.{List, [], _∷_, _++_, ℕ, _≤_, ℤ, length}
 use Rattle.laws.specs.Lay.{Put}
 use Rattle.bucket.specs.declared.Network.{Network}
 use Rattle.bucket.specs.declared.Network.the-variants.{Pass as Passes, Burst}

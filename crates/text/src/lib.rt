@@ -1,10 +1,7 @@
 // How the program's lines are written, into lent bytes: a number in decimal, a row's line, and the last line of a file that was
 // measured or refused.
 // It knows `frame` and `bucket`, for what a row and the answers are. It must never know how they came about, nor where the bytes go.
-ghost use mathlib.Core.List.{_++_};
-ghost use Prim.Native.Nat.{_+_, _≤_, _<_};
-ghost use mathlib.Core.Path.{_≡_};
-ghost use lib.ListN.{length};
+ghost use Rattle.laws.specs.Kit.{_++_, _+_, _≤_, _<_, _≡_, length};
 ghost use Rattle.text.specs.Decimal.{codes, digits, signed};
 ghost use Rattle.text.specs.Lines.{lineRoom, Line, Part, fields, rowLine, summaryLine, refusalLine};
 ghost use Rattle.text.specs.Lines.{pairWords, countWords, networkWords, bufferWords};

@@ -1,13 +1,7 @@
 -- What an accepted history is known to be, in the owner's words. The state that feeding it reaches is the declared one, and `as-declared`
 -- carries over to it what the crates below show of the declared bucket and the declared frames.
-use mathlib.Core.Path.{_≡_, refl, sym, ap, subst, _∙_}
-use mathlib.Core.Logic.{⊎-elim, _↔_}
-use mathlib.Core.Bool.{true}
-use mathlib.Core.List.{List, [], _∷_}
-use Prim.Native.Nat.{ℕ, suc, _+_, _-_, _*_, _≤_, _<_}
-use native.Mathlib.Omega.{arith}
-use lib.IntN.{ℤ}
-use lib.ListN.{length}
+use Rattle.laws.specs.Kit.{_≡_, refl, sym, ap, subst, _∙_, ⊎-elim, _↔_, true, List, [], _∷_, ℕ, suc, _+_, _-_, _*_, _≤_, _<_, arith, ℤ}
+use Rattle.laws.specs.Kit.{length}
 use Rattle.laws.specs.Climb.{Climbs}
 use Rattle.laws.specs.Count.{count}
 use Rattle.grain.specs.Paper.{InstantBy}
@@ -30,7 +24,7 @@ use Rattle.timing.specs.declared.State.{State}
 use Rattle.timing.specs.declared.Judged.the-variants.{Given}
 use Rattle.timing.specs.Step.{frameOf, rulesOf, freshOf, stateAfter, rowsAfter, numbers}
 use Rattle.timing.specs.Answers.{answersOf, verdictOf}
-use Rattle.timing.specs.Feed.{Call, allOf, writes, Accepts, Deals, Rooms}
+use Rattle.timing.specs.Feed.{Call, allOf, Accepts, Deals, Rooms}
 use Rattle.timing.specs.History.{stateAt, AcceptedHistory, reached, rowsOfAll, plan, frames, arrivals, size, limit}
 use Rattle.timing.proofs.Planning.{planned, frame-long}
 use Rattle.timing.proofs.InRange.{sound-fresh, of-sound}

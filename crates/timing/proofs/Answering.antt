@@ -1,14 +1,7 @@
 -- The numbers that the answers stand for: by the tests that each answer goes by.
-use mathlib.Core.Path.{_≡_, refl, sym, _∙_}
-use mathlib.Core.Bool.{Bool, true, false, _&&_}
-use mathlib.Core.List.{List}
-use Prim.Native.Nat.{ℕ, _*_, _≤_, _<_}
-use native.Mathlib.Omega.{arith}
-use lib.Dec.{eqb, leb}
+use Rattle.laws.specs.Kit.{_≡_, refl, sym, _∙_, Bool, true, false, _&&_, List, ℕ, _*_, _≤_, _<_, arith, eqb, leb, ℤ, length, eqb-true}
+use Rattle.laws.specs.Kit.{eq-eqb, ne-eqb, le-leb, lt-leb}
 use lib.Ieee.{binary64, inFloat}
-use lib.IntN.{ℤ}
-use lib.ListN.{length}
-use borrow.Author.Tests.{eqb-true, eq-eqb, ne-eqb, le-leb, lt-leb}
 use Rattle.laws.specs.Choose.{pick, pick-either, orElse}
 use Rattle.packet.specs.declared.Scanned.{Scanned}
 use Rattle.packet.specs.declared.Scanned.the-variants.{Fine, Refused as Scan-Refused}

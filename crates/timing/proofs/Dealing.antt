@@ -1,13 +1,7 @@
 -- A list dealt out over any calls: each call is accepted, and states and rows are those of one call with the
 -- whole list. The idea: an accepted list is one whose packets all pass, and passing may be cut anywhere.
-use mathlib.Core.Path.{_≡_, refl, sym, ap, _∙_, subst}
-use mathlib.Core.Bool.{Bool, true, false}
-use mathlib.Core.List.{List, [], _∷_, _++_}
-use Prim.Native.Nat.{ℕ, _+_, _*_, _≤_}
-use native.Mathlib.Omega.{arith}
-use lib.IntN.{ℤ}
-use lib.ListN.{length, length-append}
-use borrow.Author.Tests.{le-leb, eq-eqb}
+use Rattle.laws.specs.Kit.{_≡_, refl, sym, ap, _∙_, subst, Bool, true, false, List, [], _∷_, _++_, ℕ, _+_, _*_, _≤_, arith, ℤ, length}
+use Rattle.laws.specs.Kit.{length-append, le-leb, eq-eqb}
 use Rattle.laws.specs.Choose.{pick}
 use Rattle.laws.specs.Fold.{fold, fold-cut}
 use Rattle.packet.specs.declared.Past.{Past}

@@ -1,17 +1,9 @@
 -- A state reached from set-up is the declared state of its history, and its rows are the declared rows: the step goes from place to place.
-use mathlib.Core.Path.{_≡_, refl, sym, ap, _∙_, subst}
-use mathlib.Core.Bool.{Bool, true, false}
-use mathlib.Core.List.{List, [], _∷_, _++_, append-assoc, append-nil}
-use Prim.Native.Nat.{ℕ, zero, suc, _+_, _-_, _*_, _≤_}
-use native.Mathlib.Omega.{arith}
-use native.Mathlib.Nat.{sub-zero}
-use lib.Dec.{ltb, leb, eqb·suc-zero}
-use lib.ListN.{length, take}
-use lib.Seq.{take-suc, take-length}
+use Rattle.laws.specs.Kit.{_≡_, refl, sym, ap, _∙_, subst, Bool, true, false, List, [], _∷_, _++_, append-assoc, append-nil, ℕ, zero, suc}
+use Rattle.laws.specs.Kit.{_+_, _-_, _*_, _≤_, arith, sub-zero, ltb, leb, eqb·suc-zero, length, take, take-suc, take-length, ltb-false}
 use Rattle.laws.specs.Choose.{pick}
 use Rattle.laws.specs.Fold.{fold, fold-up-to, fold-states}
 use Rattle.grain.specs.Paper.{grains, instants}
-use borrow.Author.Tests.{ltb-false}
 use Rattle.laws.specs.Climb.{Climbs}
 use Rattle.packet.specs.declared.Refusal.{Refusal}
 use Rattle.packet.specs.declared.Scanned.{Scanned}

@@ -1,12 +1,6 @@
 -- Whole numbers that a double holds, by size; and one that came back from its bits is itself.
-use Prim.Native.Nat.{_^_}
-use mathlib.Core.Path.{_≡_, refl, sym, ap, _∙_, subst}
-use mathlib.Core.Bool.{Bool, true, false}
-use native.Mathlib.Omega.{arith}
-use borrow.Author.Tests.{le-ltb, lt-ltb, ltb-true, ltb-false}
-use lib.Dec.{T}
-use lib.IntN.{ℤ, pos, negsuc}
-use lib.Signed.{ltZ, leZ}
+use Rattle.laws.specs.Kit.{_^_, _≡_, refl, sym, ap, _∙_, subst, Bool, true, false, arith, le-ltb, lt-ltb, ltb-true, ltb-false, T, ℤ, pos}
+use Rattle.laws.specs.Kit.{negsuc, ltZ, leZ}
 use lib.Ieee.{binary64, inFloat, ofInt, ofBits}
 use mir.Syntax.{w64}
 use mir.Val.{SFits, toZ, ofZ}

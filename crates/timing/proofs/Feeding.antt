@@ -1,15 +1,6 @@
 -- The whole call, case by case, each from what its branch of the code has found.
-use mathlib.Core.Path.{_≡_, refl, sym, ap, _∙_, subst}
-use mathlib.Core.Bool.{Bool, true, false}
-use mathlib.Core.List.{List, []}
-use Prim.Native.Nat.{ℕ, _*_, _/_, _≤_, _<_}
-use native.Mathlib.Omega.{arith}
-use native.Mathlib.Nat.{le-div-iff-mul-le, div-lt-iff-lt-mul}
-use lib.Dec.{leb}
-use lib.IntN.{ℤ}
-use lib.ListN.{length}
-use lib.Seq.{sets}
-use borrow.Author.Tests.{le-leb, lt-leb}
+use Rattle.laws.specs.Kit.{_≡_, refl, sym, ap, _∙_, subst, Bool, true, false, List, [], ℕ, _*_, _/_, _≤_, _<_, arith, le-div-iff-mul-le}
+use Rattle.laws.specs.Kit.{div-lt-iff-lt-mul, leb, ℤ, length, le-leb, lt-leb}
 use Rattle.packet.specs.declared.Refusal.{Refusal}
 use Rattle.packet.specs.declared.Scanned.{Scanned}
 use Rattle.packet.specs.declared.Scanned.the-variants.{Fine, Refused as Scan-Refused}
@@ -22,7 +13,6 @@ use Rattle.laws.specs.Fold.{fold}
 use Rattle.frame.specs.Step.{rowWidth}
 use Rattle.timing.specs.declared.State.{State}
 use Rattle.timing.specs.declared.Rules.{Rules}
-use Rattle.timing.specs.declared.Fed.{Fed}
 use Rattle.timing.specs.declared.Fed.the-variants.{Accepted, Refused}
 use Rattle.timing.specs.Step.{rulesOf, stateAfter, rowsAfter, numbers}
 use Rattle.timing.specs.Range.{inRange}

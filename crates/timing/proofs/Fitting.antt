@@ -1,11 +1,6 @@
 -- Every number that is reported of accepted packets fits 64 bits with its sign: the nine of a state in range, since none is above a
 -- billion, and those of the rows, since each is made of a state in range (frame's RowsFit), packet by packet.
-use mathlib.Core.Path.{_≡_, sym, ap, subst}
-use mathlib.Core.Bool.{_&&_}
-use mathlib.Core.List.{List, [], _∷_, map}
-use Prim.Native.Nat.{ℕ, suc, _≤_, _<_}
-use native.Mathlib.Omega.{arith}
-use lib.IntN.{pos}
+use Rattle.laws.specs.Kit.{_≡_, sym, ap, subst, _&&_, List, [], _∷_, map, ℕ, suc, _≤_, _<_, arith, pos}
 use mir.Syntax.{w64}
 use mir.Val.{SFits}
 use Rattle.laws.specs.Choose.{pick-either}

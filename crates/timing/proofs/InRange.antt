@@ -1,10 +1,6 @@
 -- A state is in range, by the tests of the code, exactly when each of its numbers is, as a fact; the fresh state of accepted numbers is.
 -- Each part's table is one test (`by-parts`), which is the part's own fact (its Ranging).
-use mathlib.Core.Path.{_≡_, sym, _∙_}
-use mathlib.Core.Bool.{true, _&&_}
-use mathlib.Core.List.{List, [], _∷_, _++_}
-use native.Mathlib.Omega.{arith}
-use lib.Dec.{eqb, leb}
+use Rattle.laws.specs.Kit.{_≡_, sym, _∙_, true, _&&_, List, [], _∷_, _++_, arith, eqb, leb}
 use Rattle.laws.specs.Every.{Test, at-most, same, is, after, every, All, facts, of-facts, _and_, tests, after-front, after-all}
 use Rattle.packet.specs.Range as P
 use Rattle.packet.proofs.Ranging as PR

@@ -1,11 +1,5 @@
 -- A row written where a marker closes a frame, and nothing where it ends the lead-in, however rows are written.
-use mathlib.Core.Path.{_≡_, sym, _∙_}
-use mathlib.Core.Bool.{true, false}
-use mathlib.Core.List.{List, [], _∷_}
-use Prim.Native.Nat.{ℕ, _+_, _≤_}
-use native.Mathlib.Nat.{add-zero}
-use lib.ListN.{length}
-use lib.Seq.{sets}
+use Rattle.laws.specs.Kit.{_≡_, sym, _∙_, true, false, List, ℕ, _+_, _≤_, add-zero, length, sets}
 use Rattle.laws.specs.Lay.{Put}
 use Rattle.frame.specs.declared.Row.{Row}
 use Rattle.frame.specs.Step.{rowOf}

@@ -1,15 +1,7 @@
 -- Where each frame's numbers stand among all that are written: the rows before it are as many as frames closed before, so all that is
 -- written is cut before its row and behind it. By place.
-use mathlib.Core.Path.{_≡_, refl, sym, ap, _∙_}
-use mathlib.Core.Bool.{Bool, true, false}
-use mathlib.Core.Logic.{_⊎_, inl, inr}
-use mathlib.Core.List.{List, [], _∷_, _++_, append-assoc, append-nil}
-use Prim.Native.Nat.{ℕ, zero, suc, _+_, _*_, _≤_, _<_}
-use native.Mathlib.Omega.{arith}
-use native.Mathlib.Nat.{le-suc-iff}
-use lib.IntN.{ℤ}
-use lib.ListN.{length, take, drop, length-append}
-use lib.Seq.{sets}
+use Rattle.laws.specs.Kit.{_≡_, refl, sym, ap, _∙_, Bool, true, false, _⊎_, inl, inr, List, [], _∷_, _++_, append-assoc, append-nil, ℕ}
+use Rattle.laws.specs.Kit.{zero, suc, _+_, _*_, _≤_, _<_, arith, le-suc-iff, ℤ, length, take, drop, length-append, sets}
 use Rattle.laws.specs.Choose.{pick}
 use Rattle.laws.specs.Count.{count}
 use Rattle.laws.specs.Lay.{part-stands}

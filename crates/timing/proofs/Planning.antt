@@ -1,9 +1,6 @@
 -- The rules of accepted stream numbers keep to what the frames and the bucket
 -- demand, for every rate at once: by the table's greatest and least length.
-use mathlib.Core.Path.{_≡_}
-use Prim.Native.Nat.{ℕ, zero, suc, _*_, _≤_, _<_}
-use native.Mathlib.Omega.{arith}
-use native.Mathlib.Nat.{mul-le-mul, mul-le-mul-left, div-mul-le-self}
+use Rattle.laws.specs.Kit.{_≡_, ℕ, zero, suc, _*_, _≤_, _<_, arith, mul-le-mul, mul-le-mul-left, div-mul-le-self}
 use Rattle.limits.specs.Paper.{activeRatio, readNum, readDen}
 use Rattle.limits.specs.Accepted.{Accepted, accepted}
 use Rattle.limits.specs.Facts.{frame-most, frame-least, tro-below}

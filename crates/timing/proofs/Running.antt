@@ -1,12 +1,7 @@
 -- The one loop over packets, however rows are written (Sink): the code's turn is one step, its row is put behind those before, and what
 -- the rest of the run needs still holds. Each loop of the code adds how it reads its packets.
-use mathlib.Core.Path.{_≡_, refl, sym, ap, _∙_, subst}
-use mathlib.Core.Bool.{true, false}
-use mathlib.Core.List.{List, [], _∷_, _++_}
-use Prim.Native.Nat.{ℕ, _+_, _≤_}
-use native.Mathlib.Omega.{arith}
-use lib.ListN.{length, length-append}
-use borrow.Author.Tests.{eq-eqb, ne-eqb}
+use Rattle.laws.specs.Kit.{_≡_, refl, sym, ap, _∙_, subst, true, false, List, [], _∷_, _++_, ℕ, _+_, _≤_, arith, length, length-append}
+use Rattle.laws.specs.Kit.{eq-eqb, ne-eqb}
 use Rattle.laws.specs.Choose.{pick-either}
 use Rattle.laws.specs.Fold.{fold}
 use Rattle.laws.specs.Lay.{Put, put-none, Putting, putting-begins, putting-on, putting-ends}

@@ -1,12 +1,6 @@
 -- What a scan that refuses nothing tells of the run: every packet passes, and as many rows are written as it counted.
-use mathlib.Core.Path.{_≡_, refl, sym, subst}
-use mathlib.Core.Bool.{Bool, true, false, _&&_, _||_, or-true, or-false}
-use mathlib.Core.List.{List, [], _∷_, _++_}
-use Prim.Native.Nat.{ℕ, _+_, _*_}
-use native.Mathlib.Omega.{arith}
-use lib.Dec.{eqb}
-use lib.ListN.{length, length-append}
-use borrow.Author.Tests.{eqb-true}
+use Rattle.laws.specs.Kit.{_≡_, refl, sym, subst, Bool, true, false, _&&_, _||_, or-true, or-false, List, [], _∷_, _++_, ℕ, _+_, _*_}
+use Rattle.laws.specs.Kit.{arith, eqb, length, length-append, eqb-true}
 use Rattle.laws.specs.Choose.{pick}
 use Rattle.packet.specs.declared.Past.{Past}
 use Rattle.packet.specs.declared.Scanned.the-variants.{Fine, Refused}

@@ -1,8 +1,6 @@
 -- How rows are written, one row's behind the other's: as numbers, as bytes or as lines. A loop that measures packets is proved once for
 -- every such way (Running).
-use mathlib.Core.Path.{_≡_, refl, sym, ap, _∙_}
-use mathlib.Core.List.{List, [], _∷_, _++_, append-nil, append-assoc}
-use lib.IntN.{ℤ}
+use Rattle.laws.specs.Kit.{_≡_, refl, sym, ap, _∙_, List, [], _∷_, _++_, append-nil, append-assoc, ℤ}
 use Rattle.frame.specs.declared.Row.{Row}
 use Rattle.frame.specs.Step.{numbersOf}
 use Rattle.timing.specs.Step.{numbers}

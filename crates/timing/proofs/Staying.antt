@@ -1,10 +1,6 @@
 -- An accepted packet keeps a state in range: each part by its own step. So
 -- accepted calls stay in range, and no demand of the code is ever missed.
-use mathlib.Core.Path.{_≡_}
-use mathlib.Core.Bool.{true}
-use Prim.Native.Nat.{_+_, _≤_, _<_}
-use native.Mathlib.Omega.{arith}
-use borrow.Author.Tests.{ne-eqb}
+use Rattle.laws.specs.Kit.{_≡_, true, _+_, _≤_, _<_, arith, ne-eqb}
 use Rattle.laws.specs.Choose.{pick-either}
 use Rattle.packet.specs.declared.Packet.{Packet}
 use Rattle.packet.specs.Paper.{marked}

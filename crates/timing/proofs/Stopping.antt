@@ -1,8 +1,5 @@
 -- The first refused call of any cutting names what the whole list names: by the calls, with the packets accepted so far in front.
-use mathlib.Core.Path.{_≡_, refl, sym, ap, _∙_, subst}
-use mathlib.Core.Bool.{false}
-use mathlib.Core.List.{List, [], _∷_, _++_, append-assoc, append-nil}
-use Prim.Native.Nat.{ℕ}
+use Rattle.laws.specs.Kit.{_≡_, refl, sym, ap, _∙_, subst, false, List, [], _∷_, _++_, append-assoc, append-nil, ℕ}
 use Rattle.laws.specs.Count.{count}
 use Rattle.laws.specs.Seek.{seek}
 use Rattle.laws.specs.Fold.{fold, fold-cut}
@@ -21,7 +18,7 @@ use Rattle.timing.specs.declared.State.{State}
 use Rattle.timing.specs.declared.Rules.{Rules}
 use Rattle.timing.specs.Step.{setUpOf, rulesOf, freshOf, stepOf, stateAfter}
 use Rattle.timing.specs.Range.{Sound}
-use Rattle.timing.specs.Feed.{Passes, Call, allOf, Rooms, Accepts, Stops, here, later}
+use Rattle.timing.specs.Feed.{Passes, Call, allOf, Rooms, Stops, here, later}
 use Rattle.timing.proofs.InRange.{sound-fresh, of-sound}
 use Rattle.timing.proofs.Scanning.{scan-runs}
 use Rattle.timing.proofs.Feeding.{refused-call}

@@ -1,9 +1,5 @@
 -- Set-up, the verdict, the summary and the graph: what each answers, for every input.
-use mathlib.Core.Bool.{_&&_}
-use mathlib.Core.List.{List, [], _∷_}
-use Prim.Native.Nat.{ℕ}
-use lib.Dec.{eqb}
-use lib.IntN.{ℤ, pos}
+use Rattle.laws.specs.Kit.{_&&_, List, [], _∷_, ℕ, eqb, ℤ, pos}
 use lib.Ieee.{Float, binary64, ofInt, div, inFloat}
 use Rattle.laws.specs.Choose.{pick}
 use Rattle.bucket.specs.Paper.{networkNumber, networkFirst, networkLast}

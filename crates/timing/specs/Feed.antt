@@ -1,12 +1,5 @@
 -- Feeding a call's packets: what each part of the code asks and gives, and the whole call, refusals included.
-use mathlib.Core.Path.{_≡_}
-use mathlib.Core.Bool.{true}
-use mathlib.Core.List.{List, [], _∷_, _++_}
-use Prim.Native.Nat.{ℕ, _+_, _*_, _≤_, _<_}
-use lib.Dec.{eqb, leb}
-use lib.IntN.{ℤ}
-use lib.ListN.{length}
-use lib.Seq.{sets}
+use Rattle.laws.specs.Kit.{_≡_, true, List, [], _∷_, _++_, ℕ, _+_, _*_, _≤_, _<_, eqb, leb, ℤ, length, sets}
 use Rattle.laws.specs.Choose.{pick}
 use Rattle.grain.specs.Paper.{grains}
 use Rattle.packet.specs.declared.Past.{Past}

@@ -1,9 +1,6 @@
 -- The declared state: what the measurement is before packet i of a history, in the words of the crates below, over the whole list by place;
 -- and an accepted history, with the state that feeding it reaches.
-use mathlib.Core.Path.{_≡_}
-use mathlib.Core.List.{List, [], _++_}
-use Prim.Native.Nat.{ℕ, zero, suc}
-use lib.ListN.{length}
+use Rattle.laws.specs.Kit.{_≡_, List, [], _++_, ℕ, zero, suc, length}
 use Rattle.grain.specs.Paper.{grains}
 use Rattle.packet.specs.declared.Packet.{Packet}
 use Rattle.packet.specs.declared.Scanned.the-variants.{Fine}

@@ -1,9 +1,6 @@
 -- The table of a state's numbers, as docs/STATE.md gives it: the stream numbers, and each part of what is kept by the table of its own
 -- type. `inRange`: refusal 9 is for a state where it is false.
-use mathlib.Core.Bool.{Bool}
-use mathlib.Core.List.{List, [], _∷_, _++_}
-use mathlib.Core.Path.{_≡_}
-use Prim.Native.Nat.{_≤_}
+use Rattle.laws.specs.Kit.{Bool, List, [], _∷_, _++_, _≡_, _≤_}
 use Rattle.laws.specs.Every.{at-most, same, after, every, Entry, entry, tests}
 use Rattle.packet.specs.Range as P
 use Rattle.bucket.specs.Range as B

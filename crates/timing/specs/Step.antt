@@ -1,7 +1,5 @@
 -- The measurement step by step: what follows from the stream numbers, one packet more, and the rows that it writes.
-use mathlib.Core.List.{List, [], _∷_, _++_}
-use Prim.Native.Nat.{ℕ, _+_, _-_, _*_}
-use lib.IntN.{ℤ}
+use Rattle.laws.specs.Kit.{List, [], _∷_, _++_, ℕ, _+_, _-_, _*_, ℤ}
 use Rattle.laws.specs.Choose.{pick}
 use Rattle.laws.specs.Fold.{fold}
 use Rattle.grain.specs.Paper.{grains, instants}

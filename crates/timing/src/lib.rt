@@ -2,16 +2,12 @@
 // verdict, and the figures for the host's graph.
 // It knows the limits, the packets, the bucket and the frames, and puts them together. It must never know
 // a file, a byte or a line of output.
-ghost use mathlib.Core.Path.{_≡_};
-ghost use Prim.Native.Nat.{_-_};
+ghost use Rattle.laws.specs.Kit.{_≡_, _-_, _≤_, length, T};
 ghost use Rattle.laws.specs.Lay.{Put};
 ghost use Rattle.grain.specs.Paper.{grains as grainsOf};
 ghost use Rattle.timing.specs.Step.{setUpOf, frameOf, rulesOf, freshOf, arriveOf, markOf, numbers};
 ghost use Rattle.timing.specs.Range.{inRange};
-ghost use Prim.Native.Nat.{_≤_};
-ghost use lib.ListN.{length};
 ghost use Rattle.packet.specs.Paper.{OneLength, packets};
-ghost use lib.Dec.{T};
 ghost use lib.Ieee.{binary64, inFloat};
 ghost use Rattle.timing.specs.Answers.{setUpAs, verdictOf, summaryWith, microsecondsOf, graphOf};
 ghost use Rattle.timing.specs.Feed.{ArriveAsks, closing, LayAsks, RunAsks, RunGives, feedOf, FeedGives};

@@ -1,7 +1,5 @@
 -- The peak is the greater of the peak and the level; the answer is `judge`'s.
-use Prim.Native.Nat.{max}
-use mathlib.Core.Path.{_≡_}
-use native.Mathlib.Omega.{arith}
+use Rattle.laws.specs.Kit.{max, _≡_, arith}
 use borrow.Author.Needs.{needs}
 use Rattle.bucket.proofs.arrived.Statement.{statement}
 use Rattle.bucket.proofs.arrived.Tie as tie

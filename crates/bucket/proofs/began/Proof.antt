@@ -1,6 +1,5 @@
 -- A run begins anew exactly where the drains leave nothing of the level.
-use native.Mathlib.Omega.{arith}
-use borrow.Author.Tests.{le-leb, lt-leb}
+use Rattle.laws.specs.Kit.{arith, le-leb, lt-leb}
 use Rattle.bucket.proofs.began.Statement.{statement}
 use Rattle.bucket.proofs.began.Tie as tie
 

@@ -1,6 +1,6 @@
 -- Byte by byte, by the law of four bytes.
 use Rattle.endian.proofs.Width.{four-read}
-use native.Mathlib.Omega.{arith}
+use Rattle.laws.specs.Kit.{arith}
 use borrow.Author.Needs.{needs}
 use Rattle.endian.proofs.four.Statement.{statement}
 use Rattle.endian.proofs.four.Tie as tie

@@ -1,6 +1,5 @@
 -- One number is two bytes, stored one after the other.
-use native.Mathlib.Omega.{arith}
-use lib.ListN.{length-set}
+use Rattle.laws.specs.Kit.{arith, length-set}
 use borrow.Author.Needs.{needs}
 use Rattle.endian.proofs.Width.{two-stored}
 use Rattle.endian.proofs.write16.Statement.{statement}

@@ -1,5 +1,5 @@
 -- One number of four bytes is two of two, by the law of halves.
-use native.Mathlib.Omega.{arith}
+use Rattle.laws.specs.Kit.{arith}
 use borrow.Author.Needs.{needs}
 use Rattle.endian.proofs.Width.{halves-stored}
 use Rattle.endian.proofs.write32.Statement.{statement}

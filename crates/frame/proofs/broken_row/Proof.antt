@@ -1,5 +1,5 @@
 -- Small numbers are read back as they are.
-use native.Mathlib.Omega.{arith}
+use Rattle.laws.specs.Kit.{arith}
 use mir.Syntax.{w64}
 use mir.Facts.{toZ-pos}
 use borrow.Author.Needs.{needs}

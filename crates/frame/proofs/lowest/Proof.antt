@@ -1,6 +1,5 @@
 -- The lowest hit is the one known, or this place, or none yet: by the two tests.
-use native.Mathlib.Omega.{arith}
-use borrow.Author.Tests.{lt-ltb, le-ltb}
+use Rattle.laws.specs.Kit.{arith, lt-ltb, le-ltb}
 use borrow.Author.Needs.{needs}
 use Rattle.frame.proofs.lowest.Statement.{statement}
 use Rattle.frame.proofs.lowest.Tie as tie

@@ -1,7 +1,5 @@
 -- A number that is not below 0 is its own bits; of one below 0 they are all ones less what −1 less it is.
-use Prim.Native.Nat.{ℕ, _-_}
-use mathlib.Core.Path.{ap, _∙_}
-use native.Mathlib.Omega.{arith}
+use Rattle.laws.specs.Kit.{ℕ, _-_, ap, _∙_, arith}
 use mir.Syntax.{w64}
 use mir.Val.{toZ, ofZ}
 use mir.Facts.{toZ-ofZ}

@@ -1,8 +1,5 @@
 -- Where b is at most a the difference is a − b as it is, else −1 less what b − a is above 1; both ends of i64 are reached.
-use Prim.Native.Nat.{_-_}
-use mathlib.Core.Path.{sym, ap, _∙_}
-use native.Mathlib.Omega.{arith}
-use lib.IntN.{negsuc}
+use Rattle.laws.specs.Kit.{_-_, sym, ap, _∙_, arith, negsuc}
 use mir.Syntax.{w64}
 use mir.Facts.{toZ-pos}
 use Rattle.grain.proofs.SignedRange.{below-zero, not-below, negative-fits, negative-is}

@@ -1,5 +1,5 @@
 -- The quotient is what was guessed, or one more, or divided out: where x lies above the guess's multiple of num tells which.
-use native.Mathlib.Omega.{arith}
+use Rattle.laws.specs.Kit.{arith}
 use Rattle.grain.proofs.InstantCount.{none-more, one-more, known-small}
 use borrow.Author.Needs.{needs}
 use Rattle.grain.proofs.divide_near.Statement.{statement}

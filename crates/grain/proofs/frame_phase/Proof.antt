@@ -1,10 +1,7 @@
 -- The rest of 27·t by the frame, and a frame more where the rest is below half of one: then the nearest start is the one before.
-use mathlib.Core.Path.{ap, _∙_}
-use Prim.Native.Nat.{ℕ, _+_, _*_}
-use native.Mathlib.Omega.{arith}
+use Rattle.laws.specs.Kit.{ap, _∙_, ℕ, _+_, arith, mod-lt}
 use Rattle.grain.specs.Paper.{grains}
 use Rattle.grain.proofs.Rounding.{phase-down, phase-up}
-use native.Mathlib.Nat.{mod-lt}
 use borrow.Author.Needs.{needs}
 use Rattle.grain.proofs.frame_phase.Statement.{statement}
 use Rattle.grain.proofs.frame_phase.Tie as tie

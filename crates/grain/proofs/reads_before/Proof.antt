@@ -1,6 +1,5 @@
 -- The reads before x are the spacings begun within the reach, at most n: the closed form of ReadCount.
-use mathlib.Core.Path.{sym}
-use native.Mathlib.Omega.{arith}
+use Rattle.laws.specs.Kit.{sym, arith}
 use Rattle.grain.proofs.ReadCount.{reads-closed, reads-none}
 use borrow.Author.Needs.{needs}
 use Rattle.grain.proofs.reads_before.Statement.{statement}

@@ -1,6 +1,5 @@
 -- 27 times the rest of t by m is below 27·m and fits; its rest is that of 27·t by the law of WideDivision.
-use native.Mathlib.Omega.{arith}
-use native.Mathlib.Nat.{mod-lt}
+use Rattle.laws.specs.Kit.{arith, mod-lt}
 use Rattle.grain.specs.Paper.{nanosecond}
 use Rattle.grain.proofs.WideDivision.{remainder}
 use borrow.Author.Needs.{needs}

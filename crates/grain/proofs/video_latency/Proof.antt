@@ -1,13 +1,9 @@
 -- VL is the rest of 27·t by the wrap less the timestamp's grains: the wraps that the arrival counts are the encoded time's too.
-use Prim.Native.Nat.{ℕ, _*_}
-use mathlib.Core.Path.{ap, _∙_}
-use native.Mathlib.Omega.{arith}
-use lib.IntN.{subℕ}
+use Rattle.laws.specs.Kit.{ℕ, _*_, ap, _∙_, arith, subℕ, mod-lt}
 use mir.Syntax.{w64}
 use mir.Facts.{toZ-ofZ}
 use Rattle.grain.specs.Paper.{grains, tick, wrap}
 use Rattle.grain.proofs.EncodedTime.{latency-is}
-use native.Mathlib.Nat.{mod-lt}
 use borrow.Author.Needs.{needs}
 use Rattle.grain.proofs.video_latency.Statement.{statement}
 use Rattle.grain.proofs.video_latency.Tie as tie

@@ -1,6 +1,5 @@
 -- The class that the code stands for is known in each arm; there the paper's formula is what was computed.
-use mathlib.Core.Path.{refl, ap, _∙_}
-use Prim.Native.Nat.{max}
+use Rattle.laws.specs.Kit.{refl, ap, _∙_, max}
 use Rattle.limits.specs.Paper.{cMax, activeRatio}
 use Rattle.limits.proofs.Laws.{c-max-told}
 use borrow.Author.Needs.{needs}

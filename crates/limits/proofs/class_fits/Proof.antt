@@ -1,5 +1,5 @@
 -- The class that the code stands for is known in each arm.
-use mathlib.Core.Path.{refl}
+use Rattle.laws.specs.Kit.{refl}
 use Rattle.limits.proofs.Laws.{class-fits-told}
 use borrow.Author.Needs.{needs}
 use Rattle.limits.proofs.class_fits.Statement.{statement}

@@ -1,7 +1,5 @@
 -- Each code looked up in the table of the paper, 0 and 3 together; a code past its end is unknown.
-use mathlib.Core.Path.{sym, ap}
-use mathlib.Core.Logic.{⊎-elim, inl, inr}
-use Prim.Native.Nat.{zero-le}
+use Rattle.laws.specs.Kit.{sym, ap, ⊎-elim, inl, inr, zero-le}
 use Rattle.limits.specs.Paper.{classOf}
 use Rattle.limits.proofs.Laws.{above, past-classes}
 use Rattle.limits.proofs.class_of.Statement.{statement}

@@ -1,5 +1,5 @@
 -- Each code looked up in the table of the paper; a code past its end has no frame.
-use Prim.Native.Nat.{zero-le}
+use Rattle.laws.specs.Kit.{zero-le}
 use Rattle.limits.specs.Paper.{frameLength}
 use borrow.Author.Needs.{needs}
 use Rattle.limits.proofs.Laws.{above, past-rates}

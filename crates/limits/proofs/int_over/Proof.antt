@@ -1,5 +1,5 @@
 -- One division after another is the division by the whole product; the bounds keep each product within 64 bits.
-use native.Mathlib.Omega.{arith}
+use Rattle.laws.specs.Kit.{arith}
 use Rattle.limits.proofs.Laws.{product-small, all-small, limit}
 use borrow.Author.Needs.{needs}
 use Rattle.limits.proofs.int_over.Statement.{statement}

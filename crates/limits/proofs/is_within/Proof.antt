@@ -1,5 +1,5 @@
 -- The second comparison is asked only where the first holds, as in `&&`.
-use borrow.Author.Tests.{le-leb, lt-leb}
+use Rattle.laws.specs.Kit.{le-leb, lt-leb}
 use Rattle.limits.proofs.is_within.Statement.{statement}
 use Rattle.limits.proofs.is_within.Tie as tie
 

@@ -1,7 +1,5 @@
 -- One of two numbers, or neither.
-use mathlib.Core.Path.{sym, ap}
-use mathlib.Core.Logic.{⊎-elim, inl, inr}
-use borrow.Author.Tests.{ne-eqb}
+use Rattle.laws.specs.Kit.{sym, ap, ⊎-elim, inl, inr, ne-eqb}
 use Rattle.limits.specs.Paper.{maxudpKnown}
 use Rattle.limits.proofs.maxudp_known.Statement.{statement}
 use Rattle.limits.proofs.maxudp_known.Tie as tie

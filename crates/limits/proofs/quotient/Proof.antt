@@ -1,7 +1,5 @@
 -- A division by nothing is 0 on both sides.
-use mathlib.Core.Path.{sym, ap, _∙_}
-use native.Mathlib.Nat.{div-zero}
-use Prim.Native.Nat.{ℕ, _/_}
+use Rattle.laws.specs.Kit.{sym, ap, _∙_, div-zero, ℕ, _/_}
 use borrow.Author.Needs.{needs}
 use Rattle.limits.proofs.quotient.Statement.{statement}
 use Rattle.limits.proofs.quotient.Tie as tie

@@ -1,6 +1,5 @@
 -- R has a denominator of at most 25.
-use native.Mathlib.Omega.{arith}
-use native.Mathlib.Nat.{mul-le-mul-right}
+use Rattle.laws.specs.Kit.{arith, mul-le-mul-right}
 use Rattle.limits.proofs.Laws.{den-small}
 use borrow.Author.Needs.{needs}
 use Rattle.limits.proofs.read_den.Statement.{statement}

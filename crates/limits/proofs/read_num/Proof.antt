@@ -1,6 +1,5 @@
 -- R has a numerator of at most 24.
-use native.Mathlib.Omega.{arith}
-use native.Mathlib.Nat.{mul-le-mul-right}
+use Rattle.laws.specs.Kit.{arith, mul-le-mul-right}
 use Rattle.limits.proofs.Laws.{num-small}
 use borrow.Author.Needs.{needs}
 use Rattle.limits.proofs.read_num.Statement.{statement}

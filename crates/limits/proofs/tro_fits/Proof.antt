@@ -1,5 +1,5 @@
 -- A default needs no comparison, as in `||`.
-use borrow.Author.Tests.{eq-eqb, ne-eqb}
+use Rattle.laws.specs.Kit.{eq-eqb, ne-eqb}
 use Rattle.limits.specs.Paper.{troFits}
 use borrow.Author.Needs.{needs}
 use Rattle.limits.proofs.tro_fits.Statement.{statement}

@@ -1,5 +1,5 @@
 -- Given, default for a tall picture, default for a low one: each is a share of the frame as a fraction.
-use borrow.Author.Tests.{eq-eqb, ne-eqb, le-leb, lt-leb}
+use Rattle.laws.specs.Kit.{eq-eqb, ne-eqb, le-leb, lt-leb}
 use Rattle.limits.specs.Paper.{troGrains, defaultTro}
 use Rattle.limits.proofs.Laws.{share}
 use borrow.Author.Needs.{needs}

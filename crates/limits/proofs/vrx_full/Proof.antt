@@ -1,5 +1,5 @@
 -- The class that the code stands for is known in each arm; there the paper's formula is what was computed.
-use mathlib.Core.Path.{refl}
+use Rattle.laws.specs.Kit.{refl}
 use Rattle.limits.specs.Paper.{vrxFull}
 use Rattle.limits.proofs.Laws.{vrx-full-told}
 use borrow.Author.Needs.{needs}

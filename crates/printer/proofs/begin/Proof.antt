@@ -1,5 +1,5 @@
 -- By the head that was read.
-use mathlib.Core.Path.{_∙_}
+use Rattle.laws.specs.Kit.{_∙_}
 use Rattle.printer.proofs.Answers.{begins}
 use borrow.Author.Needs.{needs}
 use Rattle.printer.proofs.begin.Statement.{statement}

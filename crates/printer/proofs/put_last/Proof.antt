@@ -1,5 +1,5 @@
 -- A refusal's line, else the sum's line where reading ends, else nothing.
-use mathlib.Core.Path.{sym, ap, _∙_}
+use Rattle.laws.specs.Kit.{sym, ap, _∙_}
 use Rattle.record.specs.declared.Next.{Next}
 use Rattle.printer.specs.Step.{lineOf}
 use Rattle.printer.proofs.Answers.{last-sum, last-none, line-is, line-none}

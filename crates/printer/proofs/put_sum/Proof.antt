@@ -1,7 +1,5 @@
 -- The line is that of the verdict which the state was asked for, whichever case it is.
-use mathlib.Core.Path.{sym, ap, subst, _∙_}
-use mathlib.Core.List.{List}
-use Prim.Native.Nat.{ℕ}
+use Rattle.laws.specs.Kit.{sym, ap, subst, _∙_, List, ℕ}
 use denote.Ref.{now}
 use borrow.Author.Needs.{needs}
 use Rattle.text.specs.Lines.{Line}

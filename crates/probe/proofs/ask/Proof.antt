@@ -1,8 +1,5 @@
 -- By what is found in turn, one law each (Asking): no state, 9, the scan's refusal, 15, or nothing to refuse.
-use mathlib.Core.Path.{sym, _∙_}
-use native.Mathlib.Omega.{arith}
-use mathlib.Core.Logic.{⊎-elim, inl, inr}
-use borrow.Author.Tests.{not-true, not-false, ltb-true, ltb-false}
+use Rattle.laws.specs.Kit.{sym, _∙_, arith, ⊎-elim, inl, inr, not-true, not-false, ltb-true, ltb-false}
 use Rattle.probe.proofs.Asking.{asked-nothing, asked-9, asked-refused, asked-short, asked-done}
 use borrow.Author.Needs.{needs}
 use Rattle.probe.proofs.ask.Statement.{statement}

@@ -1,5 +1,5 @@
 -- By the three tests, in order.
-use borrow.Author.Tests.{eq-eqb, ne-eqb}
+use Rattle.laws.specs.Kit.{eq-eqb, ne-eqb}
 use Rattle.probe.proofs.buffer_in.Statement.{statement}
 use Rattle.probe.proofs.buffer_in.Tie as tie
 

@@ -1,10 +1,5 @@
 -- What is left of the numbers, laid from the next place on, gives the end; each turn lays one.
-use mathlib.Core.Path.{_≡_, refl, _∙_}
-use Prim.Native.Nat.{_+_, _-_, _≤_}
-use native.Mathlib.Omega.{arith}
-use native.Mathlib.Nat.{zero-add}
-use lib.ListN.{length, drop, length-set}
-use lib.Seq.{sets}
+use Rattle.laws.specs.Kit.{_≡_, refl, _∙_, _+_, _-_, _≤_, arith, zero-add, length, drop, length-set, sets}
 use borrow.Author.Needs.{needs}
 use Rattle.laws.specs.Lay.{sets-turn, sets-done}
 use Rattle.probe.proofs.lay.Statement.{statement}

@@ -1,5 +1,5 @@
 -- By the one test.
-use borrow.Author.Tests.{eq-eqb, ne-eqb}
+use Rattle.laws.specs.Kit.{eq-eqb, ne-eqb}
 use Rattle.probe.proofs.network_in.Statement.{statement}
 use Rattle.probe.proofs.network_in.Tie as tie
 

@@ -1,5 +1,5 @@
 -- Too few words; then by the comparison of the words with those of what they are read as.
-use mathlib.Core.Path.{sym}
+use Rattle.laws.specs.Kit.{sym}
 use Rattle.probe.proofs.RoundTrip.{too-few, held-known, held-nothing}
 use borrow.Author.Needs.{needs}
 use Rattle.probe.proofs.read.Statement.{statement}

@@ -1,8 +1,5 @@
 -- The rest of the two, from where the loop is, is alike exactly where the whole is.
-use mathlib.Core.Path.{_≡_, refl, sym, _∙_}
-use Prim.Native.Nat.{_-_, _≤_}
-use native.Mathlib.Omega.{arith}
-use lib.ListN.{length, drop}
+use Rattle.laws.specs.Kit.{_≡_, refl, sym, _∙_, _-_, _≤_, arith, length, drop}
 use Rattle.probe.specs.Words as words
 use Rattle.probe.proofs.Alike.{unequal, alike-here, differ-here, alike-ends}
 use borrow.Author.Needs.{needs}

@@ -1,8 +1,5 @@
 -- The verdict of a state in range is the state's two answers, and the nine numbers are laid; there is no other case (timing's Answering).
-use mathlib.Core.Path.{sym, ap, _∙_}
-use mathlib.Core.List.{List}
-use Prim.Native.Nat.{ℕ}
-use lib.Seq.{sets}
+use Rattle.laws.specs.Kit.{sym, ap, _∙_, List, ℕ, sets}
 use denote.Ref.{now}
 use borrow.Author.Needs.{needs}
 use Rattle.timing.specs.declared.Verdict.{Verdict}

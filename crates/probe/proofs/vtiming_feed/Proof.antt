@@ -1,6 +1,6 @@
 -- No room for the summary, no state, refused, or accepted: one law each (Calls).
 use Rattle.probe.proofs.Calls.{enough-words, no-state, no-summary, call-refused, call-accepted}
-use mathlib.Core.Path.{sym, _∙_}
+use Rattle.laws.specs.Kit.{sym, _∙_}
 use Rattle.timing.proofs.Dealing.{fed-in-range}
 use borrow.Author.Needs.{needs}
 use Rattle.probe.proofs.vtiming_feed.Statement.{statement}

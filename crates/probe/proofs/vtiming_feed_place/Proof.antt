@@ -1,5 +1,5 @@
 -- The place of what is asked.
-use mathlib.Core.Path.{ap}
+use Rattle.laws.specs.Kit.{ap}
 use Rattle.probe.specs.declared.Answer.{Answer}
 use borrow.Author.Needs.{needs}
 use Rattle.probe.proofs.vtiming_feed_place.Statement.{statement}

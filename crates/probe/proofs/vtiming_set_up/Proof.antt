@@ -1,6 +1,5 @@
 -- Set-up's refusal, too few words, or the fresh state's words: one law each (Calls).
-use mathlib.Core.Path.{sym, _∙_}
-use native.Mathlib.Omega.{arith}
+use Rattle.laws.specs.Kit.{sym, _∙_, arith}
 use Rattle.probe.proofs.Calls.{not-set-up, no-room, set-up}
 use borrow.Author.Needs.{needs}
 use Rattle.probe.proofs.vtiming_set_up.Statement.{statement}

@@ -1,5 +1,5 @@
 -- The answers and the flag by their contracts, every other number as itself.
-use native.Mathlib.Omega.{arith}
+use Rattle.laws.specs.Kit.{arith}
 use Rattle.probe.specs.Words.{wordsOf}
 use borrow.Author.Needs.{needs}
 use Rattle.probe.proofs.words_of.Statement.{statement}

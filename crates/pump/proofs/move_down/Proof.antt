@@ -1,9 +1,6 @@
 -- Bytes move to the front one by one: what has moved and what is still to move are always what was there.
-use Prim.Native.Nat.{ℕ, _+_, _*_, _-_, _≤_, _<_}
-use mathlib.Core.Path.{_≡_, refl, sym, ap, _∙_}
+use Rattle.laws.specs.Kit.{ℕ, _-_, _≤_, _≡_, refl, sym, ap, _∙_, arith, length, take, drop}
 use denote.Ref.{now}
-use native.Mathlib.Omega.{arith}
-use lib.ListN.{length, take, drop}
 use Rattle.pump.proofs.Moving.{halfway, moved-none, moved-turn, moved-done}
 use borrow.Author.Needs.{needs}
 use Rattle.pump.proofs.move_down.Statement.{statement}

@@ -1,6 +1,5 @@
 -- A whole file: its head, and its packets, each by the law of its answer.
-use mathlib.Core.Path.{sym, _∙_}
-use native.Mathlib.Omega.{arith}
+use Rattle.laws.specs.Kit.{sym, _∙_, arith}
 use Rattle.record.proofs.Opening.{opens-not, opens-refused, opens-fine}
 use borrow.Author.Needs.{needs}
 use Rattle.record.proofs.check.Statement.{statement}

@@ -1,9 +1,6 @@
 -- The packets of a file. The invariant: what is left, read from where the cursor is into the tally so far, finishes as the whole does.
 -- Each turn is a law of one answer; a record takes 16 bytes, so the walk ends.
-use Prim.Native.Nat.{_-_, _≤_}
-use mathlib.Core.Path.{_≡_, sym, _∙_}
-use native.Mathlib.Omega.{arith}
-use lib.ListN.{length, drop}
+use Rattle.laws.specs.Kit.{_-_, _≤_, _≡_, sym, _∙_, arith, length, drop}
 use borrow.Author.Needs.{needs}
 use Rattle.packet.specs.Step.{nothing, noPackets}
 use Rattle.packet.proofs.Refusals.{accepted}

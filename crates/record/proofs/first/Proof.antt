@@ -1,5 +1,5 @@
 -- What follows the version byte, by the framing that was seen.
-use mathlib.Core.Path.{_∙_}
+use Rattle.laws.specs.Kit.{_∙_}
 use Rattle.record.proofs.Ways.{is-whole, head-framed}
 use borrow.Author.Needs.{needs}
 use Rattle.record.proofs.first.Statement.{statement}

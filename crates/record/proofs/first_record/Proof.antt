@@ -1,6 +1,5 @@
 -- Each return is one law, from the tests before it.
-use mathlib.Core.Path.{sym, _∙_}
-use borrow.Author.Tests.{not-true, not-false}
+use Rattle.laws.specs.Kit.{sym, _∙_, not-true, not-false}
 use Rattle.record.proofs.Format.{parameter-room}
 use Rattle.record.proofs.Ways.{first-22, first-23, first-ready}
 use borrow.Author.Needs.{needs}

@@ -1,6 +1,5 @@
 -- What stands in front of a window: each return is one law, from the tests before it.
-use mathlib.Core.Path.{refl, sym, _∙_}
-use native.Mathlib.Omega.{arith}
+use Rattle.laws.specs.Kit.{refl, sym, _∙_, arith}
 use Rattle.record.proofs.Format.{framed-scrap, framed-zero, framed-whole}
 use Rattle.record.proofs.Ways.{short-cut, short-waits}
 use borrow.Author.Needs.{needs}

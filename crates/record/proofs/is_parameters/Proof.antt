@@ -1,5 +1,5 @@
 -- The test that the paper's predicate is.
-use mathlib.Core.Path.{refl}
+use Rattle.laws.specs.Kit.{refl}
 use Rattle.record.specs.Paper.{isParameters}
 use Rattle.record.proofs.is_parameters.Statement.{statement}
 use Rattle.record.proofs.is_parameters.Tie as tie

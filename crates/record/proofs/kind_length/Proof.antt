@@ -1,5 +1,5 @@
 -- The length of each kind, by the two tests.
-use mathlib.Core.Path.{sym, _∙_}
+use Rattle.laws.specs.Kit.{sym, _∙_}
 use Rattle.record.proofs.Format.{length-14, length-16}
 use Rattle.record.proofs.Ways.{length-none}
 use borrow.Author.Needs.{needs}

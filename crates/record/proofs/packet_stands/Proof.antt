@@ -1,6 +1,5 @@
 -- The room, the body's length and the kind, in that order: one law each (Standing).
-use mathlib.Core.Path.{sym, _∙_}
-use native.Mathlib.Omega.{arith}
+use Rattle.laws.specs.Kit.{sym, _∙_, arith}
 use Rattle.record.proofs.Format.{length-14}
 use Rattle.record.proofs.Standing.{no-room, other-length, by-kind}
 use borrow.Author.Needs.{needs}

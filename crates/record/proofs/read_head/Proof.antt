@@ -1,6 +1,5 @@
 -- The version byte, and then the first record: each return is one law, from the tests before it.
-use mathlib.Core.Path.{sym, _∙_}
-use native.Mathlib.Omega.{arith}
+use Rattle.laws.specs.Kit.{sym, _∙_, arith}
 use Rattle.record.proofs.Ways.{head-none, head-waits, head-unknown, head-first, rest-all}
 use borrow.Author.Needs.{needs}
 use Rattle.record.proofs.read_head.Statement.{statement}

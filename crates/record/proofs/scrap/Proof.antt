@@ -1,6 +1,5 @@
 -- Too few bytes for a length: each return is one law, from the tests before it.
-use mathlib.Core.Path.{sym}
-use borrow.Author.Tests.{not-true, not-false}
+use Rattle.laws.specs.Kit.{sym, not-true, not-false}
 use Rattle.record.proofs.Ways.{scrap-more, scrap-nothing, scrap-cut}
 use Rattle.record.proofs.scrap.Statement.{statement}
 use Rattle.record.proofs.scrap.Tie as tie

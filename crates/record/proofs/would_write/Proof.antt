@@ -1,6 +1,5 @@
 -- What the writer answers: each return is one law, from what was refused before it.
-use mathlib.Core.Path.{refl, sym, _∙_}
-use native.Mathlib.Omega.{arith}
+use Rattle.laws.specs.Kit.{refl, sym, _∙_, arith}
 use borrow.Author.Needs.{needs}
 use Rattle.record.proofs.Writing.{scan-of, answers-set-up, answers-scan, answers-24, answers-done, few-packets}
 use Rattle.record.proofs.would_write.Statement.{statement}

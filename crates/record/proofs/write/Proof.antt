@@ -1,6 +1,5 @@
 -- The writer: refused, nothing is stored; else the stores are the whole file's, one after the other.
-use mathlib.Core.Path.{sym, _∙_}
-use native.Mathlib.Omega.{arith}
+use Rattle.laws.specs.Kit.{sym, _∙_, arith}
 use borrow.Author.Needs.{needs}
 use Rattle.record.proofs.Writing.{same-slices, was-written, leaves-all, writes-file}
 use Rattle.record.proofs.write.Statement.{statement}

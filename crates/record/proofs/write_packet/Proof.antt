@@ -1,8 +1,5 @@
 -- A packet, field by field: its stores are its record, stored.
-use mathlib.Core.Path.{ap}
-use native.Mathlib.Omega.{arith}
-use lib.ListN.{length, length-set}
-use lib.Seq.{length-sets}
+use Rattle.laws.specs.Kit.{ap, arith, length, length-set, length-sets}
 use borrow.Author.Needs.{needs}
 use Rattle.record.proofs.Stores.{packet-stored}
 use Rattle.record.proofs.write_packet.Statement.{statement}

@@ -1,9 +1,5 @@
 -- The packets' records. The invariant: storing what is left, from where the loop is, is storing them all; each record takes 16 bytes.
-use Prim.Native.Nat.{_+_, _*_, _-_, _≤_}
-use mathlib.Core.Path.{_≡_, refl, _∙_}
-use native.Mathlib.Omega.{arith}
-use lib.ListN.{length}
-use lib.Seq.{sets}
+use Rattle.laws.specs.Kit.{_+_, _*_, _-_, _≤_, _≡_, refl, _∙_, arith, length, sets}
 use borrow.Author.Needs.{needs}
 use Rattle.packet.specs.Paper.{packets, packetsFrom}
 use Rattle.record.specs.Layout.{recordsOf}

@@ -1,11 +1,6 @@
 -- The version byte and the parameters, field by field: their stores are the head of the file, stored. Each store leaves the length, which
 -- is said once for each call.
-use mathlib.Core.Path.{_≡_, ap, _∙_}
-use mathlib.Core.List.{List}
-use Prim.Native.Nat.{ℕ}
-use native.Mathlib.Omega.{arith}
-use lib.ListN.{length, length-set}
-use lib.Seq.{length-sets}
+use Rattle.laws.specs.Kit.{_≡_, ap, _∙_, List, ℕ, arith, length, length-set, length-sets}
 use denote.Ref.{now}
 use borrow.Author.Needs.{needs}
 use Rattle.record.proofs.Stores.{head-stored}

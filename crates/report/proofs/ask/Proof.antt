@@ -1,5 +1,5 @@
 -- The check's answer, and then the room: each return is one law (Asking).
-use mathlib.Core.Path.{sym, _∙_}
+use Rattle.laws.specs.Kit.{sym, _∙_}
 use Rattle.report.proofs.Asking.{asked-refused, asked-room, asked-15}
 use borrow.Author.Needs.{needs}
 use Rattle.report.proofs.ask.Statement.{statement}

@@ -1,5 +1,5 @@
 -- The room is divided, not the report multiplied: by the law of the room (Asking).
-use native.Mathlib.Omega.{arith}
+use Rattle.laws.specs.Kit.{arith}
 use Rattle.report.proofs.Asking.{too-few, enough-or-not}
 use Rattle.report.proofs.fits.Statement.{statement}
 use Rattle.report.proofs.fits.Tie as tie

@@ -1,10 +1,6 @@
 -- What is left of the file, from the state and the bytes so far, gives what the whole gives (Loop of Measuring): each need is one law of
 -- it. What is known where a packet was read stands once, in `here`.
-use Prim.Native.Nat.{_-_}
-use mathlib.Core.Path.{refl}
-use mathlib.Core.Logic.{⊎-elim}
-use native.Mathlib.Omega.{arith}
-use lib.ListN.{length}
+use Rattle.laws.specs.Kit.{_-_, refl, ⊎-elim, arith, length}
 use borrow.Author.Needs.{needs}
 use Rattle.timing.proofs.Running.{turn-marked, turn-plain}
 use Rattle.report.proofs.Bytes.{as-bytes}

@@ -1,7 +1,5 @@
 -- Where the lead-in is over the row is made and stored; else nothing is.
-use mathlib.Core.Path.{sym, ap}
-use Prim.Native.Nat.{ℕ, _+_}
-use native.Mathlib.Omega.{arith}
+use Rattle.laws.specs.Kit.{sym, ap, ℕ, _+_, arith}
 use Rattle.timing.proofs.Laying.{closedRow, row-fits, puts-one, puts-none}
 use Rattle.report.proofs.Bytes.{as-bytes, row-length}
 use borrow.Author.Needs.{needs}

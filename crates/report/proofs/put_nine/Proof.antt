@@ -1,9 +1,5 @@
 -- What is left of the nine numbers, stored from the next place on, gives the end; each turn stores one.
-use mathlib.Core.Path.{_≡_, refl, _∙_}
-use Prim.Native.Nat.{_-_, _*_, _≤_}
-use native.Mathlib.Omega.{arith}
-use lib.ListN.{length, drop}
-use lib.Seq.{sets}
+use Rattle.laws.specs.Kit.{_≡_, refl, _∙_, _-_, _*_, _≤_, arith, length, drop, sets}
 use Rattle.report.proofs.Bytes.{store-turn, store-done}
 use borrow.Author.Needs.{needs}
 use Rattle.timing.specs.Answers.{summaryWidth}

@@ -1,11 +1,5 @@
 -- What is left of the ten numbers, stored from the next place on, gives the end; each turn stores one.
-use mathlib.Core.Path.{_≡_, refl, ap, _∙_}
-use mathlib.Core.List.{map}
-use Prim.Native.Nat.{_+_, _-_, _*_, _≤_}
-use native.Mathlib.Omega.{arith}
-use native.Mathlib.Nat.{add-zero}
-use lib.ListN.{length, drop}
-use lib.Seq.{sets}
+use Rattle.laws.specs.Kit.{_≡_, refl, ap, _∙_, map, _+_, _-_, _*_, _≤_, arith, add-zero, length, drop, sets}
 use Rattle.frame.specs.Step.{rowWidth}
 use Rattle.report.proofs.Bytes.{length-signs, row-length, sign-passed, store-turn, store-done}
 use borrow.Author.Needs.{needs}

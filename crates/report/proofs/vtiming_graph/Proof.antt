@@ -1,7 +1,5 @@
 -- The graph's refusal, then the room, then the three stores: one law each (Calls).
-use mathlib.Core.Path.{_∙_}
-use native.Mathlib.Omega.{arith}
-use lib.ListN.{length-set}
+use Rattle.laws.specs.Kit.{_∙_, arith, length-set}
 use Rattle.report.proofs.Calls.{drawn-of, draws-refused, draws-short, draws-done}
 use borrow.Author.Needs.{needs}
 use Rattle.report.proofs.vtiming_graph.Statement.{statement}

@@ -1,7 +1,5 @@
 -- Set-up's refusal, then the room, then the four stores: one law each (Calls).
-use mathlib.Core.Path.{sym, _∙_}
-use native.Mathlib.Omega.{arith}
-use lib.ListN.{length-set}
+use Rattle.laws.specs.Kit.{sym, _∙_, arith, length-set}
 use Rattle.report.proofs.Calls.{limits-refused, limits-short, limits-done}
 use borrow.Author.Needs.{needs}
 use Rattle.report.proofs.vtiming_limits.Statement.{statement}

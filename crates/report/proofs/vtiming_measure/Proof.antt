@@ -1,6 +1,5 @@
 -- What is asked decides: refused, nothing is stored; fine, the rows are stored and then the nine numbers (Asking).
-use mathlib.Core.Path.{sym, ap, _∙_}
-use native.Mathlib.Omega.{arith}
+use Rattle.laws.specs.Kit.{sym, ap, _∙_, arith}
 use Rattle.report.specs.Paper.{Answer}
 use Rattle.report.proofs.Asking.{asked-fine, asked-answer, fits-measurable, refused-leaves, report-filled}
 use Rattle.report.proofs.Measuring.{measured-in-range}

@@ -1,5 +1,5 @@
 -- What is asked has the offset.
-use mathlib.Core.Path.{sym, ap, _∙_}
+use Rattle.laws.specs.Kit.{sym, ap, _∙_}
 use Rattle.report.specs.Paper.{Answer}
 use Rattle.report.proofs.Asking.{asked-answer}
 use borrow.Author.Needs.{needs}

@@ -1,6 +1,5 @@
 -- The check's count of frames is how long the report is; at most 1,000,000,000 of them, so that nothing overflows (Asking).
-use mathlib.Core.Path.{sym, _∙_}
-use native.Mathlib.Omega.{arith}
+use Rattle.laws.specs.Kit.{sym, _∙_, arith}
 use Rattle.report.proofs.Asking.{room-fine, few-closed, room-refused}
 use borrow.Author.Needs.{needs}
 use Rattle.report.proofs.vtiming_measure_room.Statement.{statement}

@@ -1,5 +1,5 @@
 -- The place in the answer that the writer would give.
-use mathlib.Core.Path.{sym, ap, _∙_}
+use Rattle.laws.specs.Kit.{sym, ap, _∙_}
 use Rattle.record.specs.Write.{writtenPlace}
 use borrow.Author.Needs.{needs}
 use Rattle.report.proofs.vtiming_write_place.Statement.{statement}

@@ -1,8 +1,7 @@
 -- The number itself falls: its tenth is put first, and then its last digit, which is the law of `digits` for one digit more.
-use native.Mathlib.Omega.{arith}
+use Rattle.laws.specs.Kit.{arith, ℕ, _<_}
 use borrow.Author.Needs.{needs}
 use Rattle.text.proofs.Digits.{number-one, number-room, number-more}
-use Prim.Native.Nat.{ℕ, _<_}
 use borrow.Fn.Kinds.{In}
 use borrow.Fn.PlainCycle.{Measures, is, falls, and}
 use Rattle.text.proofs.put_number.Reads as put-number

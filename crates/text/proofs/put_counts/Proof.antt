@@ -1,6 +1,5 @@
 -- Three words, each with its number behind it.
-use mathlib.Core.List.{append-assoc}
-use native.Mathlib.Omega.{arith}
+use Rattle.laws.specs.Kit.{append-assoc, arith}
 use borrow.Author.Needs.{needs}
 use Rattle.text.proofs.Parts.{part-then, part-is}
 use Rattle.text.proofs.put_counts.Statement.{statement}

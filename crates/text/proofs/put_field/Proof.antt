@@ -1,8 +1,5 @@
 -- The space, and behind it the number.
-use mathlib.Core.Path.{ap}
-use mathlib.Core.List.{_++_}
-use native.Mathlib.Omega.{arith}
-use lib.IntN.{ℤ}
+use Rattle.laws.specs.Kit.{ap, _++_, arith, ℤ}
 use mir.Facts.{toZ-ofZ}
 use Rattle.text.specs.Decimal.{codes, signed}
 use borrow.Author.Needs.{needs}

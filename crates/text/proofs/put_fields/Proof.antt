@@ -1,10 +1,6 @@
 -- After k turns the first k numbers are put, each with a space before it.
-use Prim.Native.Nat.{_*_, _-_, _≤_}
-use mathlib.Core.Path.{_≡_, _∙_}
-use native.Mathlib.Omega.{arith}
-use lib.ListN.{length, take}
+use Rattle.laws.specs.Kit.{_*_, _-_, _≤_, _≡_, _∙_, arith, length, take, pos}
 use Rattle.text.specs.Lines.{Part, fields}
-use lib.IntN.{pos}
 use mir.Syntax.{w64}
 use mir.Facts.{toZ-ofZ}
 use Rattle.frame.specs.Step.{rowWidth}

@@ -1,7 +1,5 @@
 -- The words of each answer, with its numbers behind them where it has some.
-use mathlib.Core.Path.{_≡_, sym, ap}
-use mathlib.Core.List.{_++_}
-use native.Mathlib.Omega.{arith}
+use Rattle.laws.specs.Kit.{_≡_, sym, ap, _++_, arith}
 use borrow.Author.Needs.{needs}
 use Rattle.bucket.specs.declared.Network.{Network}
 use Rattle.text.specs.Decimal.{codes}

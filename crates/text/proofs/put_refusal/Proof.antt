@@ -1,5 +1,5 @@
 -- The word and the two numbers, and behind them the line's end.
-use native.Mathlib.Omega.{arith}
+use Rattle.laws.specs.Kit.{arith}
 use borrow.Author.Needs.{needs}
 use Rattle.text.specs.Lines.{refusalLine}
 use Rattle.text.proofs.Parts.{part-then, part-put}

@@ -1,8 +1,5 @@
 -- The word, the ten numbers and the line's end, one behind the other.
-use mathlib.Core.Path.{ap}
-use mathlib.Core.List.{List, _++_}
-use native.Mathlib.Omega.{arith}
-use lib.IntN.{ℤ}
+use Rattle.laws.specs.Kit.{ap, List, _++_, arith, ℤ}
 use borrow.Author.Needs.{needs}
 use Rattle.text.specs.Decimal.{codes}
 use Rattle.text.specs.Lines.{fields, rowLine}

@@ -1,8 +1,5 @@
 -- Not below 0, the number's own digits; below 0, what −1 less it is has one less than its size, so the least i64 is right too.
-use mathlib.Core.Path.{ap, _∙_}
-use mathlib.Core.List.{_++_}
-use Prim.Native.Nat.{ℕ, _+_}
-use native.Mathlib.Omega.{arith}
+use Rattle.laws.specs.Kit.{ap, _∙_, _++_, ℕ, _+_, arith}
 use mir.Syntax.{w64}
 use mir.Val.{toZ, ofZ}
 use mir.Facts.{toZ-ofZ}

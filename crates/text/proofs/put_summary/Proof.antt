@@ -1,5 +1,5 @@
 -- The counts, the two answers and the line's end, one behind the other.
-use native.Mathlib.Omega.{arith}
+use Rattle.laws.specs.Kit.{arith}
 use borrow.Author.Needs.{needs}
 use Rattle.text.specs.Lines.{summaryLine}
 use Rattle.text.proofs.Parts.{part-then, part-is, part-put}

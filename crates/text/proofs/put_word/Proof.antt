@@ -1,12 +1,7 @@
 -- What is left of the word, laid from the next place on, gives the end; each turn lays one byte.
-use Prim.Native.Nat.{_+_, _-_, _≤_}
-use mathlib.Core.Path.{_≡_, refl, _∙_}
-use native.Mathlib.Nat.{add-zero}
+use Rattle.laws.specs.Kit.{_+_, _-_, _≤_, _≡_, refl, _∙_, add-zero, arith, length, drop, length-set, sets}
 use Rattle.laws.specs.Lay.{sets-turn, sets-done}
-use native.Mathlib.Omega.{arith}
 use denote.Ref.{now}
-use lib.ListN.{length, drop, length-set}
-use lib.Seq.{sets}
 use borrow.Author.Needs.{needs}
 use Rattle.text.proofs.put_word.Statement.{statement}
 use Rattle.text.proofs.put_word.Tie as tie

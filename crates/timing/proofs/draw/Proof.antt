@@ -1,6 +1,5 @@
 -- Each figure in turn: the first that no double holds refuses all three.
-use mathlib.Core.Path.{sym, _∙_}
-use borrow.Author.Tests.{not-true, not-false}
+use Rattle.laws.specs.Kit.{sym, _∙_, not-true, not-false}
 use Rattle.timing.specs.Answers.{graphOf, microsecondsOf}
 use Rattle.timing.proofs.Doubles.{back, holds, told}
 use borrow.Author.Needs.{needs}

@@ -1,5 +1,5 @@
 -- By the two ends.
-use mathlib.Core.Path.{sym, _∙_}
+use Rattle.laws.specs.Kit.{sym, _∙_}
 use lib.Ieee.{binary64, inFloat}
 use mir.Syntax.{w64}
 use mir.Val.{toZ, ofZ}

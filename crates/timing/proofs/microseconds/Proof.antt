@@ -1,6 +1,5 @@
 -- An exact conversion and one division.
-use mathlib.Core.Path.{ap, _∙_}
-use lib.IntN.{ℤ}
+use Rattle.laws.specs.Kit.{ap, _∙_, ℤ}
 use lib.Ieee.{Float, binary64, ofInt, ofBits, div}
 use Rattle.timing.specs.Answers.{microsecondsOf}
 use Rattle.timing.proofs.Doubles.{back, divisor}

@@ -1,6 +1,5 @@
 -- One read, by the laws of the pump's window.
-use mathlib.Core.Path.{ap}
-use native.Mathlib.Omega.{arith}
+use Rattle.laws.specs.Kit.{ap, arith}
 use denote.Ref.{now}
 use Rattle.pump.specs.declared.Pump.{Pump}
 use Rattle.pump.proofs.Program.{settled-within, answers, fetched}

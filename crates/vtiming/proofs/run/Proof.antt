@@ -1,11 +1,6 @@
 -- The loop of the program: where it is reached by reads and steps alone, and how it ends, by the laws of pump's Program.
-use Prim.Native.Nat.{ℕ, _+_, _*_, _-_, _≤_, _<_}
-use mathlib.Core.Path.{_≡_, refl, _∙_}
-use mathlib.Core.Logic.{⊎-elim}
+use Rattle.laws.specs.Kit.{_-_, _≡_, refl, _∙_, ⊎-elim, not-true, not-false, arith, length}
 use denote.Ref.{now}
-use borrow.Author.Tests.{not-true, not-false}
-use native.Mathlib.Omega.{arith}
-use lib.ListN.{length}
 use Rattle.pump.specs.Run.{InLoop}
 use Rattle.pump.proofs.Program.{reached-begins, reached-fits, reached-turns-over, spoken, reached-steps, reached-ends, reached-unwritten}
 use Rattle.pump.proofs.Program.{reached-wants, reached-roomy, reached-reads, reached-unread, joined}

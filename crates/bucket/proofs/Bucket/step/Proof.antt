@@ -1,5 +1,5 @@
 -- The step is its three parts: what is left, where the run began, and the bucket at the new level.
-use mathlib.Core.Path.{_∙_}
+use Rattle.laws.specs.Kit.{_∙_}
 use Rattle.bucket.specs.Step.{stepOf}
 use borrow.Author.Needs.{needs}
 use Rattle.bucket.proofs.Bucket.step.Statement.{statement}

@@ -1,5 +1,5 @@
 -- By the two questions, in the code's order.
-use mathlib.Core.Path.{sym, _∙_}
+use Rattle.laws.specs.Kit.{sym, _∙_}
 use Rattle.frame.specs.Step.{joined}
 use borrow.Author.Needs.{needs}
 use Rattle.frame.proofs.Buffer.then.Statement.{statement}

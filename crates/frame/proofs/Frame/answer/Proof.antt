@@ -1,6 +1,5 @@
 -- The answer by the kind and the two tests, in order.
-use mathlib.Core.Path.{_∙_}
-use native.Mathlib.Omega.{arith}
+use Rattle.laws.specs.Kit.{_∙_, arith}
 use Rattle.frame.proofs.FrameKinds.{answer-broken, answer-under, answer-over, answer-pass}
 use borrow.Author.Needs.{needs}
 use Rattle.frame.proofs.Frame.answer.Statement.{statement}

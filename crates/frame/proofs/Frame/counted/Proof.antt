@@ -1,6 +1,5 @@
 -- Each number of the frame by the function that makes it.
-use Prim.Native.Nat.{_+_, max}
-use mathlib.Core.Path.{_∙_, ap}
+use Rattle.laws.specs.Kit.{_+_, max, _∙_, ap}
 use Rattle.frame.specs.Step.{countedOf}
 use borrow.Author.Needs.{needs}
 use Rattle.frame.proofs.Frame.counted.Statement.{statement}

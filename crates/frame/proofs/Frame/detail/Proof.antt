@@ -1,5 +1,5 @@
 -- The detail by the kind.
-use borrow.Author.Tests.{eq-eqb, ne-eqb}
+use Rattle.laws.specs.Kit.{eq-eqb, ne-eqb}
 use Rattle.frame.proofs.Frame.detail.Statement.{statement}
 use Rattle.frame.proofs.Frame.detail.Tie as tie
 

@@ -1,5 +1,5 @@
 -- The kinds by their tests, in order.
-use native.Mathlib.Omega.{arith}
+use Rattle.laws.specs.Kit.{arith}
 use Rattle.frame.proofs.FrameKinds.{kind-short, kind-long, kind-stamp, kind-whole}
 use Rattle.frame.proofs.Frame.kind.Statement.{statement}
 use Rattle.frame.proofs.Frame.kind.Tie as tie

@@ -1,5 +1,5 @@
 -- The first packet sets arrival, timestamp and phase; any other leaves the frame as it is.
-use borrow.Author.Tests.{eq-eqb, ne-eqb}
+use Rattle.laws.specs.Kit.{eq-eqb, ne-eqb}
 use Rattle.frame.specs.Step.{openedOf}
 use borrow.Author.Needs.{needs}
 use Rattle.frame.proofs.Frame.opened.Statement.{statement}

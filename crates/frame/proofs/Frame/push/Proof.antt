@@ -1,6 +1,5 @@
 -- The frame opened, its reads counted from its first packet on, one packet more: the products fit by Opening.
-use native.Mathlib.Omega.{arith}
-use mathlib.Core.Path.{ap, _∙_}
+use Rattle.laws.specs.Kit.{arith, ap, _∙_}
 use Rattle.frame.specs.declared.Frame.{Frame}
 use Rattle.frame.specs.Step.{countedOf, readsOf}
 use Rattle.frame.proofs.Opening.{opened-timed, time-fits, guess-fits, reach-fits}

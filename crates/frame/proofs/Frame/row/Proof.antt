@@ -1,6 +1,5 @@
 -- The row of a whole frame, or of a broken one, by its kind.
-use mathlib.Core.Path.{_∙_}
-use native.Mathlib.Omega.{arith}
+use Rattle.laws.specs.Kit.{_∙_, arith}
 use Rattle.frame.proofs.FrameKinds.{row-whole, row-broken, kind-small, detail-small}
 use borrow.Author.Needs.{needs}
 use Rattle.frame.proofs.Frame.row.Statement.{statement}

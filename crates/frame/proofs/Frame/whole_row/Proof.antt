@@ -1,8 +1,5 @@
 -- Each of the ten numbers is read back as it was made, since it fits.
-use lib.IntN.{pos}
-use mathlib.Core.Path.{_∙_}
-use Prim.Native.Nat.{_*_, _-_}
-use native.Mathlib.Omega.{arith}
+use Rattle.laws.specs.Kit.{pos, _∙_, _-_, arith}
 use mir.Syntax.{w64}
 use mir.Facts.{toZ-pos, toZ-ofZ}
 use Rattle.grain.specs.Paper.{grains}

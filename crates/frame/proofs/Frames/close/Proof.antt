@@ -1,5 +1,5 @@
 -- A marker closes the open frame, with its answer after the answers so far, or ends the lead-in.
-use native.Mathlib.Nat.{add-zero}
+use Rattle.laws.specs.Kit.{add-zero}
 use Rattle.frame.specs.Step.{closeOf}
 use borrow.Author.Needs.{needs}
 use Rattle.frame.proofs.Frames.close.Statement.{statement}

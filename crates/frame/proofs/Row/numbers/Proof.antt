@@ -1,11 +1,7 @@
 -- Each number of the array is the row's own: it comes back from its bits as it was.
-use mathlib.Core.Path.{_≡_}
-use mathlib.Core.List.{[], _∷_}
-use lib.IntN.{ℤ}
+use Rattle.laws.specs.Kit.{_≡_, [], _∷_, ℤ, mag, _<_}
 use mir.Syntax.{w64}
 use mir.Val.{toZ, ofZ}
-use lib.Signed.{mag}
-use Prim.Native.Nat.{_<_}
 use mir.Facts.{toZ-ofZ}
 use Rattle.frame.proofs.Row.numbers.Statement.{statement}
 use Rattle.frame.proofs.Row.numbers.Tie as tie

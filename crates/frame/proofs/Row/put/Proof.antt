@@ -1,15 +1,8 @@
 -- What is left of the ten numbers, laid from the next place on, gives the end; each turn lays one.
 use Rattle.laws.specs.Lay.{sets-turn, sets-done}
-use lib.IntN.{pos}
+use Rattle.laws.specs.Kit.{pos, add-zero, _≡_, refl, ap, _∙_, drop, _+_, _-_, _≤_, arith, length, length-set, sets}
 use mir.Syntax.{w64}
 use mir.Facts.{toZ-ofZ}
-use native.Mathlib.Nat.{add-zero}
-use mathlib.Core.Path.{_≡_, refl, ap, _∙_}
-use lib.ListN.{drop}
-use Prim.Native.Nat.{_+_, _-_, _≤_}
-use native.Mathlib.Omega.{arith}
-use lib.ListN.{length, length-set}
-use lib.Seq.{sets}
 use Rattle.frame.specs.Step.{rowWidth}
 use borrow.Author.Needs.{needs}
 use Rattle.frame.proofs.Row.put.Statement.{statement}

@@ -1,8 +1,6 @@
 -- The seven questions, asked one after another. Where the code has passed k of them (`past1`, `past2`, ..), what answers those left answers
 -- all seven, so that each return adds one answer.
-use mathlib.Core.Path.{_≡_, ap, _∙_}
-use Prim.Native.Nat.{ℕ, suc}
-use lib.ListN.{drop}
+use Rattle.laws.specs.Kit.{_≡_, ap, _∙_, ℕ, suc, drop}
 use Rattle.limits.specs.declared.Parameters.{Parameters}
 use Rattle.limits.specs.Paper.{troFits, questions, setUpRefusal}
 use Rattle.limits.proofs.Laws.{First, passes, asked, refused, first}

@@ -1,5 +1,5 @@
 -- The first arrival with one more: by the test on how many came before.
-use borrow.Author.Tests.{eq-eqb, ne-eqb}
+use Rattle.laws.specs.Kit.{eq-eqb, ne-eqb}
 use Rattle.packet.proofs.Past.first_with.Statement.{statement}
 use Rattle.packet.proofs.Past.first_with.Tie as tie
 

@@ -1,6 +1,5 @@
 -- The refusal of a packet: each return is one of the refusals in their order, from the tests before it.
-use mathlib.Core.Path.{sym}
-use native.Mathlib.Omega.{arith}
+use Rattle.laws.specs.Kit.{sym, arith}
 use borrow.Author.Needs.{needs}
 use Rattle.packet.proofs.Refusals.{refused-11, refused-12, refused-13, refused-14, accepted-0}
 use Rattle.packet.proofs.Past.refusal.Statement.{statement}

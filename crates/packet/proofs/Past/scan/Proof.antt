@@ -1,8 +1,5 @@
 -- The scan of three lent slices: the tests on their lengths choose between 10 and the scan of slices of one length.
-use mathlib.Core.Path.{sym, _∙_}
-use mathlib.Core.Logic.{⊎-elim}
-use native.Mathlib.Omega.{arith}
-use borrow.Author.Tests.{eqb-true, eqb-false, not-true, not-false}
+use Rattle.laws.specs.Kit.{sym, _∙_, ⊎-elim, arith, eqb-true, eqb-false, not-true, not-false}
 use Rattle.packet.proofs.Turn.{lengths-differ, lengths-same}
 use Rattle.packet.proofs.Past.scan.Statement.{statement}
 use Rattle.packet.proofs.Past.scan.Tie as tie

@@ -1,9 +1,6 @@
 -- The scan of three slices of one length. The invariant: scanning what is left, from the tally so far, is scanning the whole.
 -- Each turn is a law of one packet; no more frames closed than packets came, so their number fits.
-use Prim.Native.Nat.{_-_, _≤_}
-use mathlib.Core.Path.{_≡_, refl, sym, _∙_}
-use native.Mathlib.Omega.{arith}
-use lib.ListN.{length}
+use Rattle.laws.specs.Kit.{_-_, _≤_, _≡_, refl, sym, _∙_, arith, length}
 use borrow.Author.Needs.{needs}
 use Rattle.packet.specs.Paper.{packets, packetsFrom}
 use Rattle.packet.specs.Step.{scanOf}

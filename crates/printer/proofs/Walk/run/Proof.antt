@@ -1,10 +1,6 @@
 -- Whatever ends what is left of the window, from the walk and the lines so far, ends the whole call (Loop of Turning): each need is one
 -- law of it. What is known where a packet is taken stands once, in `here`.
-use Prim.Native.Nat.{_-_}
-use mathlib.Core.Path.{sym, _∙_}
-use mathlib.Core.Logic.{⊎-elim}
-use native.Mathlib.Omega.{arith}
-use lib.ListN.{length}
+use Rattle.laws.specs.Kit.{_-_, sym, _∙_, ⊎-elim, arith, length}
 use denote.Ref.{now}
 use borrow.Author.Needs.{needs}
 use Rattle.timing.proofs.Running.{turn-marked, turn-plain}

@@ -1,8 +1,6 @@
 -- The call by its branches: no room for a line, 9, or record by record (Turning).
-use mathlib.Core.Path.{sym, _∙_}
-use native.Mathlib.Omega.{arith}
+use Rattle.laws.specs.Kit.{sym, _∙_, arith, not-true, not-false}
 use denote.Ref.{now}
-use borrow.Author.Tests.{not-true, not-false}
 use Rattle.timing.proofs.InRange.{sound-of}
 use Rattle.printer.proofs.Turning.{stays-takes, take-full, take-9, take-runs}
 use borrow.Author.Needs.{needs}

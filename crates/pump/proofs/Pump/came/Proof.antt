@@ -1,7 +1,5 @@
 -- The answer by its cases (Reading).
-use native.Mathlib.Omega.{arith}
-use lib.ListN.{length}
-use Prim.Native.Nat.{_-_}
+use Rattle.laws.specs.Kit.{arith, length, _-_}
 use denote.Ref.{now}
 use Rattle.pump.proofs.Reading.{read-fails, read-on, read-casts, read-within}
 use Rattle.pump.proofs.Pump.came.Statement.{statement}

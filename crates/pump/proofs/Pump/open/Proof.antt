@@ -1,5 +1,5 @@
 -- The start of the file by its answer.
-use mathlib.Core.Path.{sym, _∙_}
+use Rattle.laws.specs.Kit.{sym, _∙_}
 use Rattle.pump.proofs.Stepping.{opened-more, opened-refused, opened-ready}
 use borrow.Author.Needs.{needs}
 use Rattle.pump.proofs.Pump.open.Statement.{statement}

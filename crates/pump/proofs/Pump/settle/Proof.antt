@@ -1,5 +1,5 @@
 -- What is held stands at the front.
-use mathlib.Core.Path.{refl}
+use Rattle.laws.specs.Kit.{refl}
 use denote.Ref.{now}
 use Rattle.pump.proofs.Stepping.{settled-shown}
 use borrow.Author.Needs.{needs}

@@ -1,5 +1,5 @@
 -- A step by its stage.
-use lib.ListN.{length}
+use Rattle.laws.specs.Kit.{length}
 use denote.Ref.{now}
 use Rattle.pump.specs.declared.Stage.the-variants.{Head, Walking}
 use Rattle.pump.proofs.Stepping.{step-by}

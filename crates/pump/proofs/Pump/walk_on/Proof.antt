@@ -1,6 +1,5 @@
 -- The call's answer, and where the walk stands after it.
-use native.Mathlib.Omega.{arith}
-use lib.ListN.{length}
+use Rattle.laws.specs.Kit.{arith, length}
 use denote.Ref.{now}
 use Rattle.printer.proofs.Inside.{take-inside}
 use Rattle.pump.specs.Step.{shown}

@@ -1,9 +1,5 @@
 -- A packet's record that stands there is the answer (Standing); else any record is read, of the last window.
-use mathlib.Core.Path.{sym, ap, _∙_}
-use native.Mathlib.Omega.{arith}
-use mathlib.Core.Bool.{true}
-use Prim.Native.Nat.{ℕ}
-use mathlib.Core.List.{List}
+use Rattle.laws.specs.Kit.{sym, ap, _∙_, arith, true, ℕ, List}
 use Rattle.record.specs.Step.{nextPiece}
 use Rattle.record.proofs.Ways.{rest-all, rest-none}
 use Rattle.record.proofs.Standing.{stands, stands-packet}

@@ -1,5 +1,5 @@
 -- What stands at the cursor, by the framing that was seen.
-use mathlib.Core.Path.{_∙_}
+use Rattle.laws.specs.Kit.{_∙_}
 use Rattle.record.proofs.Ways.{is-whole, next-framed}
 use borrow.Author.Needs.{needs}
 use Rattle.record.proofs.Cursor.read_any.Statement.{statement}

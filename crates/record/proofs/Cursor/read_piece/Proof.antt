@@ -1,6 +1,5 @@
 -- A packet's record that stands in front is the answer (Standing); else any record is read.
-use mathlib.Core.Path.{sym, _∙_}
-use native.Mathlib.Omega.{arith}
+use Rattle.laws.specs.Kit.{sym, _∙_, arith}
 use Rattle.record.proofs.Standing.{stands, stands-packet}
 use borrow.Author.Needs.{needs}
 use Rattle.record.proofs.Cursor.read_piece.Statement.{statement}

@@ -1,7 +1,5 @@
 -- Each part by the crate below that makes it.
-use Prim.Native.Nat.{ℕ, _*_, _-_}
-use native.Mathlib.Omega.{arith}
-use mathlib.Core.Path.{_≡_, ap, _∙_}
+use Rattle.laws.specs.Kit.{ℕ, _-_, arith, _≡_, ap, _∙_}
 use Rattle.grain.specs.Paper.{grains as grainsOf, instants}
 use Rattle.bucket.specs.Step as B
 use Rattle.packet.specs.Step.{elapsedOf}

@@ -1,6 +1,5 @@
 -- The call by its branches: 9, the scan's refusal, 15, or the run (Feeding).
-use mathlib.Core.Path.{sym, _∙_}
-use borrow.Author.Tests.{not-true, not-false}
+use Rattle.laws.specs.Kit.{sym, _∙_, not-true, not-false}
 use denote.Ref.{now}
 use Rattle.timing.proofs.Feeding.{fed-9, fed-refused, fed-15, one-length, runs, fed}
 use borrow.Author.Needs.{needs}

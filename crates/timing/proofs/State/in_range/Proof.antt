@@ -1,6 +1,5 @@
 -- Set-up's answer first, and then each part by its own answer; what set-up accepts has a plan.
-use mathlib.Core.Path.{_∙_, sym, subst}
-use borrow.Author.Tests.{eq-eqb, ne-eqb}
+use Rattle.laws.specs.Kit.{_∙_, sym, subst, eq-eqb, ne-eqb}
 use Rattle.laws.specs.Every.{after}
 use Rattle.frame.specs.Range.{Planned}
 use Rattle.timing.specs.declared.Rules.{Rules}

@@ -1,6 +1,5 @@
 -- Where the lead-in is over the row is made and laid; else nothing is.
-use mathlib.Core.Path.{refl}
-use native.Mathlib.Omega.{arith}
+use Rattle.laws.specs.Kit.{refl, arith}
 use Rattle.timing.proofs.Laying.{row-fits, puts-one, puts-none}
 use Rattle.timing.proofs.Sink.{as-numbers}
 use borrow.Author.Needs.{needs}

@@ -1,17 +1,12 @@
 -- What is left of the packets, run from the state and the rows so far, gives what the whole call gives (Loop of Running): each need is one
 -- law of it. That the turn's packet is the first of what is left stands once, in `first`.
-use mathlib.Core.Path.{_≡_}
-use mathlib.Core.Logic.{⊎-elim}
+use Rattle.laws.specs.Kit.{_≡_, ⊎-elim, _∷_, _+_, _-_, _≤_, arith, length}
 use denote.Ref.{now}
 use Rattle.packet.specs.Paper.{packets, packetsFrom, lent}
 use Rattle.packet.proofs.Lent.{packets-cons, packets-none}
 use Rattle.timing.proofs.Running.{Loop, loop-begins, loop-next, loop-ends, loop-arrives, loop-lays, loop-closed}
 use Rattle.timing.proofs.Sink.{as-numbers}
 use Rattle.timing.proofs.Running.{turn-marked, turn-plain}
-use mathlib.Core.List.{_∷_}
-use Prim.Native.Nat.{_+_, _-_, _≤_}
-use native.Mathlib.Omega.{arith}
-use lib.ListN.{length}
 use borrow.Author.Needs.{needs}
 use Rattle.timing.proofs.State.run.Statement.{statement}
 use Rattle.timing.proofs.State.run.Tie as tie

@@ -1,6 +1,5 @@
 -- By whether the state is in range.
-use mathlib.Core.Path.{sym, _∙_}
-use borrow.Author.Tests.{not-true, not-false}
+use Rattle.laws.specs.Kit.{sym, _∙_, not-true, not-false}
 use Rattle.timing.specs.Answers.{verdictOf}
 use borrow.Author.Needs.{needs}
 use Rattle.timing.proofs.State.verdict.Statement.{statement}

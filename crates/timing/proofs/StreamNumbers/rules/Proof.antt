@@ -1,5 +1,5 @@
 -- Each rule by the function of `limits` that makes it; no frame length is above 2^32.
-use native.Mathlib.Omega.{arith}
+use Rattle.laws.specs.Kit.{arith}
 use Rattle.limits.specs.Facts.{frame-most}
 use Rattle.timing.specs.Step.{rulesOf}
 use borrow.Author.Needs.{needs}

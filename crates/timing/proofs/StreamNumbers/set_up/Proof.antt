@@ -1,6 +1,5 @@
 -- By the refusal's number.
-use mathlib.Core.Path.{sym, _∙_}
-use borrow.Author.Tests.{eq-eqb, ne-eqb}
+use Rattle.laws.specs.Kit.{sym, _∙_, eq-eqb, ne-eqb}
 use Rattle.timing.specs.Answers.{setUpAs}
 use borrow.Author.Needs.{needs}
 use Rattle.timing.proofs.StreamNumbers.set_up.Statement.{statement}
