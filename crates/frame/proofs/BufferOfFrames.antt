@@ -160,7 +160,7 @@ module _ (plan : Plan) (p : Planned plan) (h : History) (ordered : Climbs (h .ti
     tops : (j : ℕ) → j < plan .packets → suc j ≤ kept .top + readsTo plan h s j
     tops j l = rw (top-is w) (D.top-bound (frame w) j l)
 
-    -- "The buffer runs dry where least is below 0.": where there was a lack
+    -- P19: "The buffer runs dry where least is below 0.": where there was a lack
     pub is-dry : 0 < kept .deficit → Dry plan h s
     is-dry l = (
       subℕ 0 (kept .deficit),
@@ -190,7 +190,7 @@ module _ (plan : Plan) (p : Planned plan) (h : History) (ordered : Climbs (h .ti
         (differ-sub (suc (m .0)) read) (rw (m .2) at (o .2)) in
         omega (arith, tops (m .0) (m .1))
 
-    -- "A whole frame runs dry exactly when one of its packets comes after its read time."
+    -- D3e: "A whole frame runs dry exactly when one of its packets comes after its read time."
     pub dry-late : Dry plan h s → (j : ℕ) × (j < plan .packets) × (late plan h s j ≡ true)
     dry-late d = go (decLt 0 (kept .deficit))
       where
@@ -257,6 +257,6 @@ module _ (plan : Plan) (p : Planned plan) (h : History) (ordered : Climbs (h .ti
   buffer-to (suc m) l = decides-next (AnswerIs plan h) (answer-unique plan h) m (bufferAt plan h m) (answerAt plan h m)
       (buffer-to m (omega arith)) (answered m l)
 
-  -- "Buffer: none (no whole frame yet); pass; under [..]; over [..]. The first failing frame decides; in one frame under goes first."
+  -- V7, V8: "Buffer: none (no whole frame yet); pass; under [..]; over [..]. The first failing frame decides; in one frame under goes first."
   pub buffer-is : BufferIs plan h (bufferAt plan h (h .packets))
   buffer-is = buffer-to (h .packets) (omega arith)

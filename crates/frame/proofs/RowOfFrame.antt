@@ -118,9 +118,11 @@ module _ {plan : Plan} {h : History} {i : ℕ} (w : WholeFrame plan h i) where
   unfolding keptOf
   deficit-is = ap (λ (f : Frame). f .deficit) (held-is plan h i) ∙ most-kept (λ j r. r - j)
 
+  -- P17: the greatest level that is kept is the frame's peak
   pub peak-is : PeakIs plan h s (pos (kept .top))
   peak-is = rw top-is (record { bound = D.peak-bound frame; met = D.peak-met frame (w .planned .some) })
 
+  -- P15, P18: the greatest lack that is kept, below 0, is the frame's least
   pub least-is : LeastIs plan h s (subℕ 0 (kept .deficit))
   least-is = rw deficit-is (record { bound = D.least-bound frame; met = D.least-met frame (w .planned .some) })
 
@@ -160,6 +162,7 @@ module _ {plan : Plan} {h : History} {i : ℕ} (w : WholeFrame plan h i) where
       (differ-same (pos (grains (from - to))) (subℕ (grains from) (grains to)) (grains (from - to)) 0 (grains from) (grains to)
       (omega arith) (differ-sub (grains from) (grains to)) (omega arith))
 
+  -- P8, P10, P11, P12, P13: the five times of the row are the frame's
   pub times-are : closesAt h i ≡ true → Times plan h s (wholeRow plan (numberAt h i) (markedTime plan h i) kept)
   unfolding wholeRow
   times-are e = record {
