@@ -64,6 +64,6 @@ module _ (h : History) (p : 0 < h .frame) (mono : Climbs (drains h) (h .packets)
       let run = found-while (suc i) (drains h i) (omega arith) (drains h (suc i)) (mono i l) (λ k x y. sees i k l x y) in
       omega (arith, mono i l)
 
-  -- so the step's level is the paper's
+  -- so the step's level is document 01's
   pub level-is : (i : ℕ) → i < h .packets → levelAt (drains h) i ≡ level h i
   level-is i l = omega (arith, conserved i l)

@@ -194,7 +194,7 @@ module _ (h : History) (p : 0 < h .frame) (ordered : Ordered h) where
       ap (λ (m : ℕ). (bucketAt (drains h) limit m) .level) e ∙ level-at limit last in
       omega (arith, conserved h p drains-grow last (omega arith))
 
-  -- the level that the bucket holds after packet i is the paper's
+  -- the level that the bucket holds after packet i is document 01's
   pub level-of : (limit i : ℕ) → i < h .packets → (bucketAt (drains h) limit (suc i)) .level ≡ level h i
   level-of limit i l = level-at limit i ∙ level-is h p drains-grow i l
 

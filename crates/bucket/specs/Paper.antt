@@ -86,7 +86,7 @@ module _ (h : History) where
   NetworkIs limit Pass = (a b : ℕ) → IsRun a b → ¬ Fails limit a b
   NetworkIs limit (Burst r) = FirstFailing limit (r .first) (r .last)
 
--- C2: The paper's numbers for each case of the answer: "network 0 pass or 1 burst, first, last [..] 0 where there is none".
+-- C2: Document 01's numbers for each case of the answer: "network 0 pass or 1 burst, first, last [..] 0 where there is none".
 abbrev pub networkNumber : Network → ℕ
 networkNumber Pass = 0
 networkNumber (Burst r) = 1

@@ -29,7 +29,7 @@ pub struct Bucket {
 }
 
 impl Network {
-    // The paper's numbers for the answer: 0 pass or 1 burst, the run's first and last packet, 0 where there is none.
+    // Document 01's numbers for the answer: 0 pass or 1 burst, the run's first and last packet, 0 where there is none.
     pub fn number(self) -> u64
         ensures { λ r. ⌜ r ≡ networkNumber self ⌝ }
     {

@@ -2,7 +2,7 @@
 -- it says, and its proof cites the crate that did the work. To believe a theorem read the definitions that it names; they stand in the
 -- specs/ of the crates below, each under its rule (docs/RULES.md), and nowhere else.
 --
--- 1. Cases: the twelve cases, both sides of each limit. The definitions give the paper's numbers, so they mean what the paper means.
+-- 1. Cases: document 01's twelve cases, both sides of each limit. The definitions give its numbers, so they mean what it means.
 pub mod Cases
 -- 2. Measurement: the owner's three demands on what is measured, call after call.
 pub mod Measurement

@@ -121,7 +121,7 @@ module _ (h : AcceptedHistory) where
       → take rowWidth (drop (rowWidth * numberAt (frames h) i) (sets lent 0 (numbers (rowsTo (h .stream) (h .packets) (size h))))) ≡ numbersOf r
   numbers-of-row i r lent = numbers-of-frame (h .stream) (h .packets) i (size h) r lent
 
-  -- D2a, S6, S7, S9, S10, P14: C_MAX and VRX_FULL are the largest whole numbers not greater than the paper's fractions, a TRO is as given
+  -- D2a, S6, S7, S9, S10, P14: C_MAX and VRX_FULL are the largest whole numbers not greater than document 01's fractions, a TRO is as given
   -- or all of its fraction, and the reads lie exactly R·F/n apart
   pub limits-are : let p = h .stream .parameters in
       let F = frameOf (h .stream) in

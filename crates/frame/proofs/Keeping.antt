@@ -1,5 +1,5 @@
 -- What the open frame keeps, packet by packet, is what its packets say: one step goes from what k
--- packets say to what k + 1 say. And its times, taken from the first packet on, are those of the paper.
+-- packets say to what k + 1 say. And its times, taken from the first packet on, are those of document 01.
 use Rattle.laws.specs.Kit.{_≡_, refl, sym, _∙_, Bool, true, false, ℕ, zero, suc, _+_, _-_, _*_, _≤_, _<_, arith, add-mul, eqb·suc-zero}
 use Rattle.laws.specs.Kit.{ltb-true, ltb-false, lt-ltb, le-ltb}
 use native.Mathlib.Numerals.{add-one}
@@ -33,7 +33,7 @@ reads-shift n base num den x base′ x′ s s′ e f =
     count-same (readBefore base num den x) (readBefore base′ num den x′) n
     (λ j h. sym (shift base num den x s j) ∙ rw (e, f) (shift base′ num den x′ s′ j))
 
--- so the code's reads, from one period before the frame's start on, are the paper's
+-- so the code's reads, from one period before the frame's start on, are document 01's
 pub reads-are : (plan : Plan) (time stamp : ℕ → ℕ) (j : ℕ) → 0 < plan .period → time 0 ≤ time j
     → readsFrom plan time stamp j ≡ readsBefore (plan .packets) (frameTime (grains (time 0)) (plan .period) + plan .tro) (plan .reads .num)
     (plan .reads .den) (grains (time j))

@@ -1,5 +1,5 @@
 -- A closed frame's row is the row of its stretch of the history, and one row only is so: each number that was kept, packet by packet, is
--- the paper's number over the frame's arrivals (Duality).
+-- document 01's number over the frame's arrivals (Duality).
 use Rattle.laws.specs.Kit.{_≡_, refl, sym, ap, _∙_, subst, Bool, true, false, _&&_, ℕ, suc, pred, _+_, _-_, _≤_, _<_, arith, add-zero}
 use Rattle.laws.specs.Kit.{ltb, eqb, ℤ, pos, subℕ, ltb-false, eqb-true, eqb-false}
 use Rattle.laws.specs.Choose.{pick, false-true}
@@ -96,7 +96,7 @@ module _ {plan : Plan} {h : History} {i : ℕ} (w : WholeFrame plan h i) where
     up = λ j k l g. omega (arith, in-order j k l g);
   }
 
-  -- what was kept of the reads is what the paper counts
+  -- what was kept of the reads is what document 01 counts
   abbrev reads : ℕ → ℕ
   reads = readsFrom plan (λ k. h .time (s + k)) (λ k. h .stamp (s + k))
 

@@ -216,7 +216,7 @@ module _ (plan : Plan) (h : History) where
   abbrev pub BufferIs : Buffer → Type 0
   BufferIs b = FirstDecides AnswerIs (h .packets) b
 
--- C2: The paper's numbers for each case of the answer: "buffer 0 none, 1
+-- C2: Document 01's numbers for each case of the answer: "buffer 0 none, 1
 -- pass, 2 under or 3 over, frame, packet or peak; 0 where there is none".
 abbrev pub bufferNumber : Buffer → ℕ
 bufferNumber None = 0

@@ -289,7 +289,7 @@ impl Row {
 }
 
 impl Buffer {
-    // The paper's numbers for the answer: 0 none, 1 pass, 2 under, 3 over; the frame, and the packet's place
+    // Document 01's numbers for the answer: 0 none, 1 pass, 2 under, 3 over; the frame, and the packet's place
     // or the peak, 0 where there is none.
     pub fn number(self) -> u64
         ensures { λ r. ⌜ r ≡ bufferNumber self ⌝ }

@@ -1,4 +1,4 @@
--- The limits as exact fractions, with no division: each is what its sentence of document 01 says of the paper's fraction, and one number
+-- The limits as exact fractions, with no division: each is what document 01 says of its fraction, and one number
 -- only is so. That the definitions of Paper are these is proved here for any frame length.
 use Rattle.laws.specs.Kit.{_≡_, refl, sym, _∙_, _↔_, Bool, true, false, ℕ, zero, suc, _*_, _≤_, _<_, max, arith, mul-one, eqb, eqb-true}
 use Rattle.laws.specs.Kit.{eqb-false}

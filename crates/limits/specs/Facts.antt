@@ -1,4 +1,4 @@
--- What holds of the definitions: laws for any frame length, and one computed test over the table where the paper speaks of its rates.
+-- What holds of the definitions: laws for any frame length, and one computed test over the table where document 01 speaks of its rates.
 use Rattle.laws.specs.Kit.{_≡_, refl, _⊎_, inl, inr, Bool, true, false, _&&_, List, [], _∷_, ℕ, zero, suc, _*_, _%_, _≤_, _<_, arith}
 use Rattle.laws.specs.Kit.{mul-one, div-add-mod', div-lt-iff-lt-mul, not-suc-le-zero, le-of-suc-le-suc, leb-true, eqb-true, eqb-false}
 use Rattle.laws.specs.Kit.{leb, eqb, getD, length}

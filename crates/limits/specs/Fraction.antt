@@ -1,4 +1,4 @@
--- Exact fractions of whole numbers, so that a formula can stand as the paper writes it; nothing is rounded and nothing reduced.
+-- Exact fractions of whole numbers, so that a formula can stand as document 01 writes it; nothing is rounded and nothing reduced.
 use Rattle.laws.specs.Kit.{_≡_, _↔_, ℕ, _*_, _/_, _≤_, _<_, le-div-iff-mul-le}
 
 pub record Fraction : Type 0 where

@@ -38,7 +38,7 @@ classes = Wide ∷ Narrow ∷ NarrowLinear ∷ Wide ∷ []
 unfoldable pub classOf : ℕ → Class
 classOf class = getD classes class Unknown
 
--- The six formulas, for any frame length F. A class that set-up refuses has 0, which no sentence of the paper speaks of.
+-- The six formulas, for any frame length F. A class that set-up refuses has 0, which no sentence of document 01 speaks of.
 
 -- S9: "C_MAX: narrow MAX(4, INT(n/(43200·R·T))); narrow linear MAX(4, INT(n/(43200·T))); wide MAX(16, INT(n/(21600·T)))."
 unfoldable pub cMax : Class → ℕ → ℕ → ℕ → ℕ

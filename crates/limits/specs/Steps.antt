@@ -1,4 +1,4 @@
--- What the code of a limit asks of the number that it is given from the paper's formula, and what the parameters' types hold.
+-- What the code of a limit asks of the number that it is given from document 01's formula, and what the parameters' types hold.
 use Rattle.laws.specs.Kit.{_≡_, ℕ, _*_, _/_, _≤_, _<_}
 use Rattle.limits.specs.declared.Parameters.{Parameters}
 use Rattle.limits.specs.Paper.{second}

@@ -69,7 +69,7 @@ pub fn class_of(class: u8) -> Class
 }
 
 impl Parameters {
-    // The first of them, in the paper's order, that is refused; 0 where none is.
+    // The first of them, in document 01's order, that is refused; 0 where none is.
     pub fn refusal(self) -> u8
         ensures { λ r. ⌜ r ≡ setUpRefusal self ⌝ }
     {
@@ -173,7 +173,7 @@ fn active_den(schedule: u8) -> u64
     if schedule == GAPPED { 25 } else { 1 }
 }
 
-// C_MAX: a bucket that ever holds more has failed. R is 1 where the paper's formula has none.
+// C_MAX: a bucket that ever holds more has failed. R is 1 where document 01's formula has none.
 pub fn c_max(class: u8, schedule: u8, frame: u64, n: u32) -> u64
     ensures { λ r. ⌜ r ≡ cMax (classOf class) schedule frame n ⌝ }
 {

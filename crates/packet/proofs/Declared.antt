@@ -1,4 +1,4 @@
--- The scan from the start is what the paper declares of the whole history. By place: what the scan carries at place i is a function
+-- The scan from the start is what document 01 declares of the whole history. By place: what the scan carries at place i is a function
 -- of the history, one equation for each part, and it moves on by one packet until the lowest refused place or the end.
 use Rattle.laws.specs.Kit.{_≡_, refl, sym, _∙_, Bool, true, false, _||_, or-false, or-true, List, ℕ, zero, suc, _+_, _≤_, _<_, arith}
 use Rattle.laws.specs.Kit.{add-zero, decLe, ltb, eqb·suc-zero, length, drop, drop-cons, drop-length, ltb-true, ltb-false, lt-ltb, le-ltb}

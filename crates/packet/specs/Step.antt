@@ -84,7 +84,7 @@ abbrev pub Ready : Scanned → ℕ → Type 0
 Ready (Fine closed) room = closed ≤ room
 Ready (Refused r) room = ⊥
 
--- The paper's number, 0 where nothing is refused, the place, and the frames that close, for each case of the answer.
+-- Document 01's number, 0 where nothing is refused, the place, and the frames that close, for each case of the answer.
 abbrev pub scannedNumber : Scanned → ℕ
 scannedNumber (Fine closed) = 0
 scannedNumber (Refused r) = r .number

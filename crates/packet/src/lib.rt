@@ -28,7 +28,7 @@ pub struct Tally {
     pub closed: usize,
 }
 
-// The paper's number, and the refused packet's place in the history, from 0; place 0 for number 10.
+// Document 01's number, and the refused packet's place in the history, from 0; place 0 for number 10.
 pub struct Refusal {
     pub number: u8,
     pub place: u64,

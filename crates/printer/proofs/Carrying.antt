@@ -1,5 +1,5 @@
 -- What was to be printed is what a call writes, and then what is still to be printed. One record at a time: what stands at the walk is
--- what stands there in the whole file, and each answer's line is the paper's. By the turns still allowed.
+-- what stands there in the whole file, and each answer's line is document 01's. By the turns still allowed.
 use Rattle.laws.specs.Kit.{_≡_, refl, sym, ap, subst, _∙_, Bool, true, false, List, [], _∷_, _++_, append-nil, append-assoc, ℕ, zero, suc}
 use Rattle.laws.specs.Kit.{_+_, _-_, _^_, _≤_, _<_, arith, mod-eq-of-lt, eqb, ltb, length, drop, length-append, drop-drop, drop-append-le}
 use Rattle.laws.specs.Kit.{eqb-true, eqb-false}

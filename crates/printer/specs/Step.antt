@@ -44,7 +44,7 @@ headBy (head.Refused number offset) = Unopened number offset
 unfoldable pub beginOf : List ℕ → Bool → Opened
 beginOf w last = headBy (headPiece w last)
 
--- the paper's number, 0 where nothing is refused, and its offset
+-- document 01's number, 0 where nothing is refused, and its offset
 abbrev pub openedNumber : Opened → ℕ
 openedNumber Wanting = 0
 openedNumber (Unopened number offset) = number

@@ -35,7 +35,7 @@ enum Held {
     Nothing,
 }
 
-// The paper's number, 0 where the call is accepted, and the place.
+// Document 01's number, 0 where the call is accepted, and the place.
 struct Answer {
     number: u8,
     place: u64,
@@ -53,7 +53,7 @@ fn flag(b: bool) -> u64
     if b { 1 } else { 0 }
 }
 
-// The paper's numbers for the network answer and for the buffer answer.
+// Document 01's numbers for the network answer and for the buffer answer.
 fn verdict_words(s: State) -> [u64; 6]
     ensures { λ r. ⌜ r ≡ verdictWords s ⌝ }
 {

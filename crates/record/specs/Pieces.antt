@@ -33,7 +33,7 @@ taken End = 0
 taken More = 0
 taken (Refused number offset size) = 0
 
--- the paper's number, 0 where nothing is refused, and its offset
+-- document 01's number, 0 where nothing is refused, and its offset
 abbrev pub readNumber : Next → ℕ
 readNumber (Packet p c) = 0
 readNumber End = 0

@@ -1,5 +1,5 @@
 -- What the reader answers: how a record is framed, and from that the head of a file and what comes after it, of the whole rest of a file
--- and of a piece of it. What the contracts cite; proofs/Saying.antt says what it is in the paper's words.
+-- and of a piece of it. What the contracts cite; proofs/Saying.antt says what it is in document 01's words.
 use Rattle.laws.specs.Kit.{_≡_, Bool, true, _&&_, List, ℕ, _+_, _%_, _^_, _≤_, _<_, ltb, leb, eqb, length, drop, getD}
 use Rattle.laws.specs.Choose.{pick}
 use Rattle.record.specs.declared.Cursor.{Cursor}

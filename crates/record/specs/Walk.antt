@@ -22,7 +22,7 @@ asChecked (refused number offset) = Refused number offset
 unfoldable pub checkedOf : List ℕ → Checked
 checkedOf s = asChecked (fileOf s)
 
--- the paper's number, 0 where nothing is refused, and its offset
+-- document 01's number, 0 where nothing is refused, and its offset
 abbrev pub checkedNumber : Checked → ℕ
 checkedNumber (Fine numbers packets closed) = 0
 checkedNumber (Refused number offset) = number

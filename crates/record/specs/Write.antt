@@ -32,7 +32,7 @@ writtenOf s ts ss ms room =
     (scanning (scannedOf nothing false ts ss ms) (fileLength (length ts)) room)
     (Refused (setUpRefusal s) 0)
 
--- the paper's number, 0 where it wrote, and the place
+-- document 01's number, 0 where it wrote, and the place
 abbrev pub writtenNumber : Written → ℕ
 writtenNumber (Done needed) = 0
 writtenNumber (Refused number place) = number

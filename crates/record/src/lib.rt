@@ -75,7 +75,7 @@ pub enum Checked {
     },
 }
 
-// The bytes that were written, or the paper's number and the refused packet's place; place 0 for 1 to 10 and 24.
+// The bytes that were written, or document 01's number and the refused packet's place; place 0 for 1 to 10 and 24.
 pub enum Written {
     Done { bytes: usize },
     Refused { number: u8, place: u64 },

@@ -33,7 +33,7 @@ asAsked size room (refused number offset) = Refused number offset
 unfoldable pub askedOf : List ℕ → ℕ → Asked
 askedOf s room = asAsked (length s) room (fileOf s)
 
--- the paper's number, 0 where nothing is refused, and its offset
+-- document 01's number, 0 where nothing is refused, and its offset
 abbrev pub askedNumber : Asked → ℕ
 askedNumber (Fine x) = 0
 askedNumber (Refused number offset) = number

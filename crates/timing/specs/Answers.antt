@@ -72,7 +72,7 @@ graphOf fpt margin latency =
 abbrev pub graphNumber : ℤ → ℤ → ℤ → ℕ
 graphNumber fpt margin latency = pick (inFloat binary64 fpt && (inFloat binary64 margin && inFloat binary64 latency)) 0 16
 
--- For each answer that is an enum, the paper's number, 0 where nothing is refused, and its place.
+-- For each answer that is an enum, document 01's number, 0 where nothing is refused, and its place.
 abbrev pub fedNumber : Fed → ℕ
 fedNumber (Accepted s) = 0
 fedNumber (Fed-Refused number place s) = number

@@ -47,7 +47,7 @@ pub struct State {
     pub frames: Frames,
 }
 
-// The state after the call's packets; or the paper's number and the place, with the state as it was.
+// The state after the call's packets; or document 01's number and the place, with the state as it was.
 pub enum Fed {
     Accepted(State),
     Refused {

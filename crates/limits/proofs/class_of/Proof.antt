@@ -1,4 +1,4 @@
--- Each code looked up in the table of the paper, 0 and 3 together; a code past its end is unknown.
+-- Each code looked up in the table of document 01, 0 and 3 together; a code past its end is unknown.
 use Rattle.laws.specs.Kit.{sym, ap, ⊎-elim, inl, inr, zero-le}
 use Rattle.limits.specs.Paper.{classOf}
 use Rattle.limits.proofs.Laws.{above, past-classes}

@@ -1,4 +1,4 @@
--- Each code looked up in the table of the paper; a code past its end has no frame.
+-- Each code looked up in the table of document 01; a code past its end has no frame.
 use Rattle.laws.specs.Kit.{zero-le}
 use Rattle.limits.specs.Paper.{frameLength}
 use borrow.Author.Needs.{needs}

@@ -1,4 +1,4 @@
--- Both INTs are those of the paper; R = 1 drops out of the second.
+-- Both INTs are those of document 01; R = 1 drops out of the second.
 use Rattle.limits.proofs.Laws.{ratio, linear-limit}
 use borrow.Author.Needs.{needs}
 use Rattle.limits.proofs.full.Statement.{statement}

@@ -1,4 +1,4 @@
--- The class that the code stands for is known in each arm; there the paper's formula is what was computed.
+-- The class that the code stands for is known in each arm; there document 01's formula is what was computed.
 use Rattle.laws.specs.Kit.{refl}
 use Rattle.limits.specs.Paper.{vrxFull}
 use Rattle.limits.proofs.Laws.{vrx-full-told}

@@ -1,4 +1,4 @@
--- The test that the paper's predicate is.
+-- The test that document 01's predicate is.
 use Rattle.laws.specs.Kit.{refl}
 use Rattle.record.specs.Paper.{isParameters}
 use Rattle.record.proofs.is_parameters.Statement.{statement}
