@@ -1,5 +1,5 @@
--- The program's output on one page: however a file is cut into pieces and whatever room each call has, the lines put together are the
--- paper's output of the file; and it always comes to that. The work on one call is in Carrying, on the start of a file in Beginning.
+-- The program's output, call by call: however a file is cut into pieces and whatever room each call has, the lines put together are the
+-- output that document 01 gives the file; and it always comes to that. One call is in Carrying, the start of a file in Beginning.
 use Rattle.laws.specs.Kit.{_≡_, refl, sym, ap, subst, _∙_, _⊎_, Bool, true, false, List, [], _++_, append-nil, ℕ, zero, suc, _≤_, _<_}
 use Rattle.laws.specs.Kit.{arith, length, drop, getD, length-drop}
 use Rattle.laws.specs.Choose.{pick}
