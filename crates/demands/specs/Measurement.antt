@@ -33,7 +33,6 @@ use Rattle.timing.proofs.Feeding.{refused-stays, feed-slices, nothing-fed}
 use Rattle.timing.proofs.Declared.{state-declared, rows-declared}
 use Rattle.timing.proofs.Dealing.{stays-in-range}
 use Rattle.timing.proofs.Stopping.{all-stop}
-use Rattle.timing.proofs.Numbered.{numbers-of-frame}
 use Rattle.timing.proofs.Accepting as proved
 
 -- ---- Demand 1: "Bad input gets the numbered refusal of document 01, exactly when its table says, with the state and lent rows as they
@@ -117,9 +116,9 @@ module _ (h : AcceptedHistory) where
 
   -- D2b, V1: its ten numbers stand at 10·k to 10·k + 9 of the lent ones, k being the frame's number
   pub numbers-of-row : (i : ℕ) (r : Row) (lent : List ℤ) → i < size h → rowsAt (plan h) (frames h) i ≡ r ∷ []
-      → length (numbers (rowsTo (h .stream) (h .packets) (size h))) ≤ length lent
-      → take rowWidth (drop (rowWidth * numberAt (frames h) i) (sets lent 0 (numbers (rowsTo (h .stream) (h .packets) (size h))))) ≡ numbersOf r
-  numbers-of-row i r lent = numbers-of-frame (h .stream) (h .packets) i (size h) r lent
+      → length (numbers (rowsOfAll h)) ≤ length lent
+      → take rowWidth (drop (rowWidth * numberAt (frames h) i) (sets lent 0 (numbers (rowsOfAll h)))) ≡ numbersOf r
+  numbers-of-row = proved.numbers-at h
 
   -- D2a, S6, S7, S9, S10, P14: C_MAX and VRX_FULL are the largest whole numbers not greater than document 01's fractions, a TRO is as given
   -- or all of its fraction, and the reads lie exactly R·F/n apart

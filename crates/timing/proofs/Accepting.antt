@@ -1,7 +1,7 @@
 -- What an accepted history is known to be, in the owner's words. The state that feeding it reaches is the declared one, and `as-declared`
 -- carries over to it what the crates below show of the declared bucket and the declared frames.
 use Rattle.laws.specs.Kit.{_≡_, refl, sym, ap, subst, _∙_, ⊎-elim, _↔_, true, List, [], _∷_, ℕ, suc, _+_, _-_, _*_, _≤_, _<_, arith, ℤ}
-use Rattle.laws.specs.Kit.{length}
+use Rattle.laws.specs.Kit.{length, take, drop, sets}
 use Rattle.laws.specs.Climb.{Climbs}
 use Rattle.laws.specs.Count.{count}
 use Rattle.grain.specs.Paper.{InstantBy}
@@ -16,7 +16,7 @@ use Rattle.bucket.specs.Paper as bucket
 use Rattle.bucket.proofs.Owner as proved-bucket
 use Rattle.frame.specs.declared.Row.{Row}
 use Rattle.frame.specs.Paper.{closesAt, kindAt, numberAt, since, RowIs, BufferIs, Dry, SomeLate}
-use Rattle.frame.specs.Step.{rowOf}
+use Rattle.frame.specs.Step.{rowWidth, rowOf, numbersOf}
 use Rattle.frame.specs.ByPlace.{markedTime, closedAt, framesAt, rowsAt}
 use Rattle.frame.proofs.RowOfFrame.{row-is}
 use Rattle.frame.proofs.BufferOfFrames.{buffer-is, dry-late, late-dry}
@@ -29,9 +29,10 @@ use Rattle.timing.specs.History.{stateAt, AcceptedHistory, reached, rows
 use Rattle.timing.proofs.Planning.{planned, frame-long}
 use Rattle.timing.proofs.InRange.{sound-fresh, of-sound}
 use Rattle.timing.proofs.Scanning.{numbers-length}
-use Rattle.timing.proofs.Declared.{arrivals-climb, state-declared}
+use Rattle.timing.proofs.Declared.{arrivals-climb, state-declared, rows-declared}
 use Rattle.timing.proofs.Dealing.{accepts, deals}
 use Rattle.timing.proofs.Stopping.{passes, sound-reached}
+use Rattle.timing.proofs.Numbered.{numbers-of-frame}
 
 module _ (h : AcceptedHistory) where
   -- what holds of the declared state holds of the state reached
@@ -124,6 +125,15 @@ module _ (h : AcceptedHistory) where
     rw e,
     row-is (plan h) (frames h) in-order i b (planned (h .stream) (h .set-up)) e,
   )
+
+  -- its numbers among those of all the rows, laid into lent ones
+  pub numbers-at : (i : ℕ) (r : Row) (lent : List ℤ) → i < size h → rowsAt (plan h) (frames h) i ≡ r ∷ []
+      → length (numbers (rowsOfAll h)) ≤ length lent
+      → take rowWidth (drop (rowWidth * numberAt (frames h) i) (sets lent 0 (numbers (rowsOfAll h)))) ≡ numbersOf r
+  numbers-at i r lent =
+      let There : List Row → Type 0 = λ rows. i < size h → rowsAt (plan h) (frames h) i ≡ r ∷ [] → length (numbers rows) ≤ length lent
+      → take rowWidth (drop (rowWidth * numberAt (frames h) i) (sets lent 0 (numbers rows))) ≡ numbersOf r in
+      subst There (sym (rows-declared (h .stream) (h .packets))) (numbers-of-frame (h .stream) (h .packets) i (size h) r lent)
 
   pub buffer-reached : BufferIs (plan h) (frames h) (reached h .frames .buffer)
   unfolding stateAt framesAt
