@@ -3,9 +3,11 @@
 use Rattle.laws.specs.Kit.{_≡_, refl, ap, _∙_, _⊎_, inl, inr, Bool, true, false, ℕ, zero, suc, _+_, _-_, _*_, _/_, _≤_, _<_, min, arith}
 use Rattle.laws.specs.Kit.{le-suc-iff, sub-self, zero-mul, zero-div, div-lt-iff-lt-mul, le-div-iff-mul-le, ltb, ltb-true, ltb-false}
 use Rattle.laws.specs.Kit.{lt-ltb, le-ltb}
-use Rattle.laws.specs.Climb.{Climbs, climbs-le}
+use Rattle.laws.specs.Climb.{Climbs}
+use Rattle.laws.proofs.Climb.{climbs-le}
 use Rattle.laws.specs.Choose.{pick}
-use Rattle.laws.specs.Count.{count, count-up-to, count-same}
+use Rattle.laws.specs.Count.{count}
+use Rattle.laws.proofs.Count.{count-up-to, count-same}
 use Rattle.bucket.specs.Paper.{History, elapsed, drains, comesBefore, arrivedBefore, found, level}
 use Rattle.bucket.specs.Step.{levelAt}
 

@@ -2,11 +2,13 @@
 -- peak, answer and conservation. The idea: sums of naturals (Levels, Runs) are turned into the signed excess once, here.
 use Rattle.laws.specs.Kit.{_≡_, refl, sym, ap, _∙_, _↔_, Bool, true, false, _&&_, ℕ, zero, suc, _+_, _-_, _*_, _≤_, _<_, arith}
 use Rattle.laws.specs.Kit.{le-div-iff-mul-le, div-lt-iff-lt-mul, leb, ltb, leb→le, ℤ, pos, _≤ℤ_, leb-true, le-leb, ltb-true, lt-ltb}
-use Rattle.laws.specs.Climb.{Climbs, climbs-le}
-use Rattle.laws.specs.Choose.{false-true}
+use Rattle.laws.specs.Climb.{Climbs}
+use Rattle.laws.proofs.Climb.{climbs-le}
+use Rattle.laws.proofs.Choose.{false-true}
 use Rattle.laws.specs.Most.{most}
-use Rattle.laws.specs.Count.{count, count-between}
-use Rattle.laws.specs.Differ.{differ-sub, differ-same, differ-le, differ-lt, lt-differ}
+use Rattle.laws.specs.Count.{count}
+use Rattle.laws.proofs.Count.{count-between}
+use Rattle.laws.proofs.Differ.{differ-sub, differ-same, differ-le, differ-lt, lt-differ}
 use Rattle.grain.specs.Paper.{InstantBy}
 use Rattle.grain.proofs.InstantCount.{instants-are, instants-grow}
 use Rattle.bucket.specs.declared.Network.{Network}

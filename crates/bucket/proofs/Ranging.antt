@@ -1,7 +1,9 @@
 -- A bucket passes its tests exactly where it is in range, fact by fact; the empty one is, and a packet keeps it so.
 use Rattle.laws.specs.Kit.{_≡_, Bool, true, false, ℕ, _+_, _≤_, arith, leb}
-use Rattle.laws.specs.Choose.{pick, pick-either}
-use Rattle.laws.specs.Every.{every, All, facts, of-facts, _and_}
+use Rattle.laws.specs.Choose.{pick}
+use Rattle.laws.proofs.Choose.{pick-either}
+use Rattle.laws.specs.Every.{every, All}
+use Rattle.laws.proofs.Every.{facts, of-facts, _and_}
 use Rattle.bucket.specs.declared.Bucket.{Bucket}
 use Rattle.bucket.specs.declared.Network.{Network}
 use Rattle.bucket.specs.declared.Network.the-variants.{Pass, Burst}

@@ -3,8 +3,9 @@
 use Rattle.laws.specs.Kit.{_≡_, refl, Bool, true, false, ℕ, zero, suc, _+_, _-_, _≤_, _<_, arith, not-suc-le-zero, ltb, ltb-true}
 use Rattle.laws.specs.Kit.{ltb-false}
 use Rattle.laws.specs.Climb.{Climbs}
-use Rattle.laws.specs.Choose.{up-to}
-use Rattle.laws.specs.Most.{most, most-is}
+use Rattle.laws.proofs.Choose.{up-to}
+use Rattle.laws.specs.Most.{most}
+use Rattle.laws.proofs.Most.{most-is}
 use Rattle.bucket.specs.declared.Network.{Network}
 use Rattle.bucket.specs.declared.Network.the-variants.{Pass, Burst}
 use Rattle.bucket.specs.Step.{levelAt, startAt, judged, networkAt}

@@ -4,7 +4,7 @@
 -- its arrivals); and the Paper.antt of each crate below.
 use Rattle.laws.specs.Kit.{_≡_, _↔_, true, List, [], _∷_, _++_, ℕ, suc, _+_, _-_, _*_, _≤_, _<_, ℤ, length, take, drop, sets}
 use Rattle.laws.specs.Count.{count}
-use Rattle.laws.specs.Lay.{sets-front}
+use Rattle.laws.proofs.Lay.{sets-front}
 use Rattle.grain.specs.Paper.{InstantBy}
 use Rattle.limits.specs.Fraction.{Same}
 use Rattle.limits.specs.Paper.{classOf, readSpacing}

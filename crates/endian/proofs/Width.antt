@@ -5,7 +5,7 @@ use Rattle.laws.specs.Kit.{length, take, drop, getD, set, length-append, length
 use native.Mathlib.Numerals.{add-one}
 use lib.Arith.{digits-lt, digits-div, digits-mod}
 use lib.Pow.{pow-add}
-use Rattle.laws.specs.Lay.{sets-join}
+use Rattle.laws.proofs.Lay.{sets-join}
 use Rattle.endian.specs.Number.{numberOf, numberAt, bytesOf, Bytes, Room}
 
 positive : (k : ℕ) → 0 < 256 ^ k

@@ -2,10 +2,12 @@
 -- decide the frame's own answer; the answers are then joined place by place.
 use Rattle.laws.specs.Kit.{_≡_, refl, sym, ap, _∙_, subst, Bool, true, false, ℕ, zero, suc, _+_, _≤_, _<_, arith, not-suc-le-zero, decLt}
 use Rattle.laws.specs.Kit.{ltb, eqb, ℤ, pos, negsuc, subℕ, _<ℤ_, ltb-true, lt-ltb, eqb-true, eqb-false}
-use Rattle.laws.specs.Choose.{pick, false-true, up-to}
+use Rattle.laws.specs.Choose.{pick}
+use Rattle.laws.proofs.Choose.{false-true, up-to}
 use Rattle.laws.specs.Climb.{Climbs}
-use Rattle.laws.specs.Seek.{seek, seek-is, seek-same, Lowest, lowest-unique}
-use Rattle.laws.specs.Differ.{differ-sub, differ-lt, lt-differ}
+use Rattle.laws.specs.Seek.{seek, Lowest}
+use Rattle.laws.proofs.Seek.{seek-is, seek-same, lowest-unique}
+use Rattle.laws.proofs.Differ.{differ-sub, differ-lt, lt-differ}
 use Rattle.frame.specs.declared.Plan.{Plan}
 use Rattle.frame.specs.declared.Frame.{Frame}
 use Rattle.frame.specs.declared.Place.{Place}

@@ -2,9 +2,11 @@
 -- the greatest lack at an arrival, the peak is the greatest level, and the buffer runs dry exactly when a packet comes after its read.
 use Rattle.laws.specs.Kit.{_≡_, refl, sym, _∙_, Bool, true, false, ℕ, suc, _+_, _-_, _*_, _≤_, _<_, arith, mul-le-mul-right, decLt, ltb}
 use Rattle.laws.specs.Kit.{leb, pos, subℕ, _≤ℤ_, ltb-true, lt-ltb, leb-true, le-leb}
-use Rattle.laws.specs.Most.{most, most-is}
-use Rattle.laws.specs.Count.{count, count-le, UpTo, falls-up-to}
-use Rattle.laws.specs.Differ.{differ-sub, differ-le, differ-same}
+use Rattle.laws.specs.Most.{most}
+use Rattle.laws.proofs.Most.{most-is}
+use Rattle.laws.specs.Count.{count, UpTo}
+use Rattle.laws.proofs.Count.{count-le, falls-up-to}
+use Rattle.laws.proofs.Differ.{differ-sub, differ-le, differ-same}
 use Rattle.grain.specs.Paper.{readBefore, readsBefore}
 
 -- n packets that come in order, packet i at a i; read j is num / den times j after base

@@ -1,10 +1,11 @@
 -- Kind, row and answer of a frame, case by case, each from the facts that its branch of the code has found.
-use Rattle.laws.specs.Kit.{_≡_, ℕ, _≤_, _<_, arith, eqb, ltb, lt-ltb, le-ltb, eq-eqb, ne-eqb}
-use Rattle.laws.specs.Choose.{pick-either}
+use Rattle.laws.specs.Kit.{_≡_, refl, length, ℕ, _≤_, _<_, arith, eqb, ltb, lt-ltb, le-ltb, eq-eqb, ne-eqb}
+use Rattle.laws.proofs.Choose.{pick-either}
 use Rattle.frame.specs.declared.Plan.{Plan}
 use Rattle.frame.specs.declared.Frame.{Frame}
+use Rattle.frame.specs.declared.Row.{Row}
 use Rattle.frame.specs.declared.Buffer.the-variants.{None, Pass, Under, Over}
-use Rattle.frame.specs.Step.{kindOf, detailOf, wholeRow, brokenRow, rowOf, answerOf}
+use Rattle.frame.specs.Step.{kindOf, detailOf, wholeRow, brokenRow, rowOf, numbersOf, rowWidth, answerOf}
 
 module _ (f : Frame) (n : ℕ) where
   pub kind-short : f .held < n → 1 ≡ kindOf f n
@@ -61,3 +62,7 @@ module _ (plan : Plan) (number : ℕ) (f : Frame) where
   pub answer-pass : kindOf f (plan .packets) ≡ 0 → f .deficit ≤ 0 → f .top ≤ plan .full → Pass ≡ answerOf plan number f
   unfolding answerOf
   answer-pass e d t = rw (eq-eqb (kindOf f (plan .packets)) 0 e, le-ltb 0 (f .deficit) d, le-ltb (plan .full) (f .top) t)
+
+-- every row has as many numbers
+pub row-width : (r : Row) → length (numbersOf r) ≡ rowWidth
+row-width r = refl

@@ -3,7 +3,7 @@
 use Rattle.laws.specs.Kit.{_≡_, refl, sym, _∙_, Bool, true, false, ℕ, zero, suc, _+_, _-_, _*_, _≤_, _<_, arith, add-mul, eqb·suc-zero}
 use Rattle.laws.specs.Kit.{ltb-true, ltb-false, lt-ltb, le-ltb}
 use native.Mathlib.Numerals.{add-one}
-use Rattle.laws.specs.Count.{count-same}
+use Rattle.laws.proofs.Count.{count-same}
 use Rattle.grain.specs.Paper.{grains, frameTime, phase, readBefore, readsBefore}
 use Rattle.grain.proofs.Rounding.{phase-from}
 use Rattle.frame.specs.declared.Plan.{Plan}

@@ -1,9 +1,11 @@
 -- Frames pass their tests exactly where each number is in its range; it stays there, packet by packet, and from
 -- these ranges the code's own demands follow.
 use Rattle.laws.specs.Kit.{_≡_, refl, sym, _∙_, Bool, true, false, not, ℕ, _+_, _-_, _*_, _≤_, _<_, arith, ltb, eqb, eqb-false}
-use Rattle.laws.specs.Choose.{pick, pick-either, false-true}
-use Rattle.laws.specs.Count.{count-le}
-use Rattle.laws.specs.Every.{every, All, facts, of-facts, _and_}
+use Rattle.laws.specs.Choose.{pick}
+use Rattle.laws.proofs.Choose.{pick-either, false-true}
+use Rattle.laws.proofs.Count.{count-le}
+use Rattle.laws.specs.Every.{every, All}
+use Rattle.laws.proofs.Every.{facts, of-facts, _and_}
 use Rattle.grain.specs.Paper.{grains, readBefore}
 use Rattle.frame.specs.declared.Plan.{Plan}
 use Rattle.frame.specs.declared.Frame.{Frame}

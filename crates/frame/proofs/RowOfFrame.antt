@@ -2,11 +2,15 @@
 -- document 01's number over the frame's arrivals (Duality).
 use Rattle.laws.specs.Kit.{_≡_, refl, sym, ap, _∙_, subst, Bool, true, false, _&&_, ℕ, suc, pred, _+_, _-_, _≤_, _<_, arith, add-zero}
 use Rattle.laws.specs.Kit.{ltb, eqb, ℤ, pos, subℕ, ltb-false, eqb-true, eqb-false}
-use Rattle.laws.specs.Choose.{pick, false-true}
-use Rattle.laws.specs.Climb.{Climbs, climbs-le}
-use Rattle.laws.specs.Most.{most, most-same}
-use Rattle.laws.specs.Seek.{seek, seek-same}
-use Rattle.laws.specs.Differ.{differ-sub, differ-same, both-ways}
+use Rattle.laws.specs.Choose.{pick}
+use Rattle.laws.proofs.Choose.{false-true}
+use Rattle.laws.specs.Climb.{Climbs}
+use Rattle.laws.proofs.Climb.{climbs-le}
+use Rattle.laws.specs.Most.{most}
+use Rattle.laws.proofs.Most.{most-same}
+use Rattle.laws.specs.Seek.{seek}
+use Rattle.laws.proofs.Seek.{seek-same}
+use Rattle.laws.proofs.Differ.{differ-sub, differ-same, both-ways}
 use Rattle.grain.specs.Paper.{grains, firstPacketTime, latency, phase}
 use Rattle.grain.proofs.Rounding.{phase-less}
 use Rattle.grain.proofs.EncodedTime.{offset-is, margin-is}

@@ -4,8 +4,8 @@ use Rattle.laws.specs.Kit.{refl, subst, List, [], _∷_, _++_, ℕ, zero, suc, 
 use Rattle.laws.specs.Kit.{_-ℤ_, getD}
 use mir.Syntax.{w64}
 use mir.Val.{SFits}
-use Rattle.laws.specs.Choose.{pick-either}
-use Rattle.laws.specs.Differ.{differ-sub}
+use Rattle.laws.proofs.Choose.{pick-either}
+use Rattle.laws.proofs.Differ.{differ-sub}
 use Rattle.grain.specs.Paper.{grains, tick, wrap, latency}
 use Rattle.grain.proofs.SignedRange.{differ-fits, back-fits}
 use Rattle.grain.proofs.EncodedTime.{latency-is, offset-made, offset-read}

@@ -2,7 +2,8 @@
 -- place, after a marker and with none since; and it is there from the second marker on.
 use Rattle.laws.specs.Kit.{_≡_, refl, sym, _∙_, Bool, true, false, ℕ, zero, suc, pred, _+_, _-_, _≤_, _<_, arith, not-suc-le-zero}
 use Rattle.laws.specs.Kit.{add-zero, ltb, ltb-true, lt-ltb}
-use Rattle.laws.specs.Choose.{pick, false-true, up-to}
+use Rattle.laws.specs.Choose.{pick}
+use Rattle.laws.proofs.Choose.{false-true, up-to}
 use Rattle.laws.specs.Count.{count}
 use Rattle.frame.specs.Paper.{History, begunAt, since, Began}
 use Rattle.frame.specs.ByPlace.{markedTime}

@@ -1,5 +1,5 @@
 -- The frames step by step, as the code goes: the open frame by one packet more, its row and its answer, and what a marker closes.
-use Rattle.laws.specs.Kit.{Bool, true, false, not, _&&_, List, [], _∷_, _≡_, refl, ℕ, _+_, _-_, max, ltb, eqb, length, ℤ, pos, subℕ}
+use Rattle.laws.specs.Kit.{Bool, true, false, not, _&&_, List, [], _∷_, ℕ, _+_, _-_, max, ltb, eqb, ℤ, pos, subℕ}
 use Rattle.laws.specs.Kit.{_-ℤ_}
 use Rattle.laws.specs.Choose.{pick}
 use Rattle.grain.specs.Paper.{grains, phase, latency, readsBefore}
@@ -104,12 +104,9 @@ abbrev pub numbersOf : Row → List ℤ
 numbersOf r =
     r .number ∷ r .kind ∷ r .detail ∷ r .fpt ∷ r .offset ∷ r .latency ∷ r .margin ∷ r .gap ∷ r .peak ∷ r .least ∷ []
 
--- how many they are, for every row: `row-width`
+-- how many they are, for every row: `row-width` in proofs/FrameKinds.antt
 abbrev pub rowWidth : ℕ
 rowWidth = 10
-
-pub row-width : (r : Row) → length (numbersOf r) ≡ rowWidth
-row-width r = refl
 
 -- V7, V8, E3: "under (least below 0) [..]; over (VRX peak above VRX_FULL) [..]; in one frame under goes first." A broken frame is not
 -- judged.

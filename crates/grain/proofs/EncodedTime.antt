@@ -3,7 +3,8 @@ use Rattle.laws.specs.Kit.{ℕ, suc, _+_, _*_, _/_, _%_, _≤_, _<_, _≡_, sym
 use Rattle.laws.specs.Kit.{subℕ, _-ℤ_}
 use mir.Syntax.{w64}
 use mir.Val.{SFits, toZ, ofZ}
-use Rattle.laws.specs.Differ.{Differ, differ-sub, differ-same, differ-minus}
+use Rattle.laws.specs.Differ.{Differ}
+use Rattle.laws.proofs.Differ.{differ-sub, differ-same, differ-minus}
 use Rattle.grain.proofs.Rounding.{phase-from}
 use Rattle.grain.proofs.SignedRange.{differ-fits, less-fits, less-is}
 use Rattle.grain.specs.Paper.{frameTime, phase, firstPacketTime, tick, wrap, encoded, rtpOffset, latency}

@@ -1,7 +1,7 @@
 -- Reads before a time, counted one by one, are the closed form: read j is before x exactly when j·num is below the reach (x − base)·den.
 use Rattle.laws.specs.Kit.{ℕ, suc, _+_, _*_, _-_, _/_, _≤_, _<_, min, _≡_, sym, ap, _∙_, arith, le-div-iff-mul-le, mul-le-mul-right}
 use Rattle.laws.specs.Kit.{add-sub-of-le, add-mul, suc-mul, zero-mul, sub-eq-zero-of-le, decLe, ltb-true, lt-ltb}
-use Rattle.laws.specs.Count.{count-up-to}
+use Rattle.laws.proofs.Count.{count-up-to}
 use Rattle.grain.specs.Paper.{readBefore, readsBefore}
 
 module _ (n base num den : ℕ) (p : 0 < num) (x : ℕ) where

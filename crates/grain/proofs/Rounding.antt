@@ -1,7 +1,7 @@
 -- N = round(g/F), halves up, is the one N that is nearest; FPT lies in [−F/2, F/2); and N is told by the rest of g divided by F. For any F.
 use Rattle.laws.specs.Kit.{ℕ, _+_, _*_, _-_, _/_, _%_, _≤_, _<_, _≡_, ap, _∙_, arith, div-add-mod', mod-lt, div-mul-le-self}
 use Rattle.laws.specs.Kit.{lt-div-mul-add, mul-le-mul-right, suc-mul, add-mul, pos, negℤ, subℕ, _≤ℤ_, _<ℤ_}
-use Rattle.laws.specs.Differ.{differ-sub, differ-le, differ-lt, differ-neg, sub-same}
+use Rattle.laws.proofs.Differ.{differ-sub, differ-le, differ-lt, differ-neg, sub-same}
 use Rattle.grain.specs.Paper.{Nearest, nearest, frameTime, phase, firstPacketTime}
 
 -- P7: the quotient is the nearest

@@ -1,14 +1,6 @@
--- What never falls from one place to the next never falls from one place to any later.
-use Rattle.laws.specs.Kit.{_≡_, ap, _⊎_, inl, inr, ℕ, zero, suc, _≤_, _<_, arith, le-suc-iff}
+-- What never falls from one place to the next.
+use Rattle.laws.specs.Kit.{ℕ, suc, _≤_, _<_}
 
 -- f 0 ≤ f 1 ≤ .. ≤ f (m - 1)
 abbrev pub Climbs : (ℕ → ℕ) → ℕ → Type 0
 Climbs f m = (i : ℕ) → suc i < m → f i ≤ f (suc i)
-
-pub climbs-le : (f : ℕ → ℕ) (m : ℕ) → Climbs f m → (i j : ℕ) → i ≤ j → j < m → f i ≤ f j
-climbs-le f m up i zero h k = let z : i ≡ 0 = omega arith in omega (arith, ap f z)
-climbs-le f m up i (suc j) h k = go (climbs-le f m up i j) (le-suc-iff .0 h)
-  where
-    go : (i ≤ j → j < m → f i ≤ f j) → (i ≤ j) ⊎ (i ≡ suc j) → f i ≤ f (suc j)
-    go before (inl l) = omega (arith, before l (omega arith), up j k)
-    go before (inr e) = omega (arith, ap f e)

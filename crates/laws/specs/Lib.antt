@@ -6,6 +6,5 @@ pub mod Seek
 pub mod Fold
 pub mod Lay
 pub mod Differ
-pub mod Unique
 pub mod Every
 pub mod Kit

@@ -1,4 +1,4 @@
-// The mathematics that has no video in it, all but two functions of numbers in specs/: the greatest, the count and the lowest
+// The mathematics that has no video in it, all but two functions of numbers in specs/ and proofs/: the greatest, the count and the lowest
 // below a number; folding a list from the left and cutting it; differences of naturals as integers; tests and what they mean.
 // It knows nothing and must never know a rate, a packet or a frame.
 ghost use Rattle.laws.specs.Kit.{_≡_, _-_, max};

@@ -3,7 +3,7 @@
 use Rattle.laws.specs.Kit.{_≡_, refl, sym, ap, _∙_, Bool, true, false, not, List, [], _∷_, ℕ, zero, suc, _*_, _/_, _≤_, _<_, arith}
 use Rattle.laws.specs.Kit.{mul-one, one-mul, mul-comm, mul-assoc, mul-left-comm, mul-le-mul, div-div-eq-div-mul, mul-div-mul-left}
 use Rattle.laws.specs.Kit.{div-le-of-le-mul, List·getD-eq-default}
-use Rattle.laws.specs.Choose.{false-true}
+use Rattle.laws.proofs.Choose.{false-true}
 use Rattle.limits.specs.Fraction.{whole, _·_, _÷_, int}
 use Rattle.limits.specs.Paper.{second, frameLengths, frameLength, activeRatio, seconds, classes, classOf, cMax, vrxFull, classFits}
 use Rattle.limits.specs.Paper.{firstNo}

@@ -1,10 +1,8 @@
--- What it means that set-up refuses nothing: each of the seven numbers is in its place, said with no test and no list; and back.
-use Rattle.laws.specs.Kit.{_≡_, refl, _⊎_, inl, inr, Bool, true, false, _&&_, _||_, ℕ, suc, _*_, _≤_, _<_, arith, leb-true, le-leb}
-use Rattle.laws.specs.Kit.{eqb-true, ltb-true, lt-ltb, leb, ltb, eqb}
-use Rattle.laws.specs.Choose.{pick, false-true}
+-- What it means that set-up refuses nothing: each of the seven numbers is in its place, said with no test and no list. Both ways: proofs/Accepting.antt.
+use Rattle.laws.specs.Kit.{_≡_, _⊎_, true, _*_, _≤_, _<_}
 use Rattle.limits.specs.declared.Parameters.{Parameters}
 use Rattle.limits.specs.Paper.{microsecond, frameLength, classOf, allOnes}
-use Rattle.limits.specs.Paper.{within, classFits, maxudpKnown, troFits, firstNo, setUpRefusal}
+use Rattle.limits.specs.Paper.{classFits}
 
 pub record Accepted (p : Parameters) : Type 0 where
   pub rate-known : (1 ≤ p .rate) × (p .rate ≤ 8)
@@ -14,87 +12,3 @@ pub record Accepted (p : Parameters) : Type 0 where
   pub n-fits : (1 ≤ p .n) × (p .n ≤ 20000)
   pub maxudp-known : (p .maxudp ≡ 1460) ⊎ (p .maxudp ≡ 8960)
   pub tro-fits : (p .tro ≡ allOnes) ⊎ (microsecond * p .tro < frameLength (p .rate))
-
--- tests as facts
-
-pub both : (s t : Bool) → (s && t) ≡ true → (s ≡ true) × (t ≡ true)
-both true t e = (refl, e)
-both false t e = absurd (false-true e)
-
-one-of : (s t : Bool) → (s || t) ≡ true → (s ≡ true) ⊎ (t ≡ true)
-one-of true t e = inl refl
-one-of false t e = inr e
-
-within-facts : (low high x : ℕ) → within low high x ≡ true → (low ≤ x) × (x ≤ high)
-within-facts low high x e =
-    let b = both (leb low x) (leb x high) e in (leb-true low x (b .0), leb-true x high (b .1))
-
-facts-within : (low high x : ℕ) → low ≤ x → x ≤ high → within low high x ≡ true
-facts-within low high x h k = rw (le-leb low x h, le-leb x high k)
-
-udp-facts : (x : ℕ) → maxudpKnown x ≡ true → (x ≡ 1460) ⊎ (x ≡ 8960)
-udp-facts x e = go (one-of (eqb x 1460) (eqb x 8960) e)
-  where
-    go : (eqb x 1460 ≡ true) ⊎ (eqb x 8960 ≡ true) → (x ≡ 1460) ⊎ (x ≡ 8960)
-    go (inl f) = inl (eqb-true x 1460 f)
-    go (inr f) = inr (eqb-true x 8960 f)
-
-facts-udp : (x : ℕ) → (x ≡ 1460) ⊎ (x ≡ 8960) → maxudpKnown x ≡ true
-facts-udp x (inl e) = rw e
-facts-udp x (inr e) = rw e
-
-tro-facts : (F tro : ℕ) → troFits F tro ≡ true → (tro ≡ allOnes) ⊎ (microsecond * tro < F)
-unfolding troFits
-tro-facts F tro e = go (one-of (eqb tro allOnes) (ltb (microsecond * tro) F) e)
-  where
-    go : (eqb tro allOnes ≡ true) ⊎ (ltb (microsecond * tro) F ≡ true) → (tro ≡ allOnes) ⊎ (microsecond * tro < F)
-    go (inl f) = inl (eqb-true tro allOnes f)
-    go (inr f) = inr (ltb-true (microsecond * tro) F f)
-
-facts-tro : (F tro : ℕ) → (tro ≡ allOnes) ⊎ (microsecond * tro < F) → troFits F tro ≡ true
-unfolding troFits
-facts-tro F tro (inl e) = rw e
-facts-tro F tro (inr h) = rw (lt-ltb (microsecond * tro) F h) (go (eqb tro allOnes))
-  where
-    go : (t : Bool) → (t || true) ≡ true
-    go true = refl
-    go false = refl
-
--- a list of questions that stops at no number, counted from one, has no question answered no
-answered : (t : Bool) (k r : ℕ) → pick t r (suc k) ≡ 0 → (t ≡ true) × (r ≡ 0)
-answered true k r e = (refl, e)
-answered false k r e = absurd (omega arith)
-
-module _ (p : Parameters) where
-  pub accepted : setUpRefusal p ≡ 0 → Accepted p
-  unfolding setUpRefusal firstNo
-  accepted e0 =
-      let e1 = answered (within 1 8 (p .rate)) 0 _ e0 in
-      let e2 = answered (within 0 1 (p .schedule)) 1 _ (e1 .1) in
-      let e3 = answered (classFits (classOf (p .class)) (p .schedule)) 2 _ (e2 .1) in
-      let e4 = answered (within 1 65535 (p .height)) 3 _ (e3 .1) in
-      let e5 = answered (within 1 20000 (p .n)) 4 _ (e4 .1) in
-      let e6 = answered (maxudpKnown (p .maxudp)) 5 _ (e5 .1) in
-      let e7 = answered (troFits (frameLength (p .rate)) (p .tro)) 6 _ (e6 .1) in
-      record {
-        rate-known = within-facts 1 8 (p .rate) (e1 .0);
-        schedule-known = within-facts 0 1 (p .schedule) (e2 .0) .1;
-        class-fits = e3 .0;
-        height-fits = within-facts 1 65535 (p .height) (e4 .0);
-        n-fits = within-facts 1 20000 (p .n) (e5 .0);
-        maxudp-known = udp-facts (p .maxudp) (e6 .0);
-        tro-fits = tro-facts (frameLength (p .rate)) (p .tro) (e7 .0);
-      }
-
-  pub accepts : Accepted p → setUpRefusal p ≡ 0
-  unfolding setUpRefusal firstNo
-  accepts a =
-      rw (
-        facts-within 1 8 (p .rate) (a .rate-known .0) (a .rate-known .1),
-        facts-within 0 1 (p .schedule) (omega arith) (a .schedule-known),
-        a .class-fits,
-        facts-within 1 65535 (p .height) (a .height-fits .0) (a .height-fits .1),
-        facts-within 1 20000 (p .n) (a .n-fits .0) (a .n-fits .1),
-        facts-udp (p .maxudp) (a .maxudp-known),
-        facts-tro (frameLength (p .rate)) (p .tro) (a .tro-fits),
-      )

@@ -1,5 +1,5 @@
 -- Exact fractions of whole numbers, so that a formula can stand as document 01 writes it; nothing is rounded and nothing reduced.
-use Rattle.laws.specs.Kit.{_≡_, _↔_, ℕ, _*_, _/_, _≤_, _<_, le-div-iff-mul-le}
+use Rattle.laws.specs.Kit.{_≡_, ℕ, _*_, _/_}
 
 pub record Fraction : Type 0 where
   pub num : ℕ
@@ -20,11 +20,6 @@ x ÷ y = record { num = x .num * y .den; den = x .den * y .num }
 abbrev pub Same : Fraction → Fraction → Type 0
 Same x y = x .num * y .den ≡ y .num * x .den
 
--- S8: INT, document 001: the largest whole number not greater than the fraction
+-- S8: INT, document 001: the largest whole number not greater than the fraction (int-largest, proofs/Exactness.antt)
 unfoldable pub int : Fraction → ℕ
 int x = x .num / x .den
-
--- and this says that it is: of all k, those up to INT and no others are not greater than the fraction
-pub int-largest : (x : Fraction) (k : ℕ) → 0 < x .den → (k ≤ int x) ↔ (k * x .den ≤ x .num)
-unfolding int
-int-largest x k h = le-div-iff-mul-le h

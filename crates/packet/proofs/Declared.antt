@@ -4,10 +4,12 @@ use Rattle.laws.specs.Kit.{_≡_, refl, sym, _∙_, Bool, true, false, _||_, or
 use Rattle.laws.specs.Kit.{add-zero, decLe, ltb, eqb·suc-zero, length, drop, drop-cons, drop-length, ltb-true, ltb-false, lt-ltb, le-ltb}
 use Rattle.laws.specs.Kit.{eqb-true, not-false, not-true, eqb-false}
 use native.Mathlib.Numerals.{add-one}
-use Rattle.laws.specs.Choose.{pick, pick-either}
+use Rattle.laws.specs.Choose.{pick}
+use Rattle.laws.proofs.Choose.{pick-either}
 use Rattle.laws.specs.Count.{count}
-use Rattle.laws.specs.Seek.{seek-is, Lowest}
-use Rattle.laws.specs.Fold.{fold-states}
+use Rattle.laws.specs.Seek.{Lowest}
+use Rattle.laws.proofs.Seek.{seek-is}
+use Rattle.laws.proofs.Fold.{fold-states}
 use Rattle.packet.specs.declared.Tally.{Tally}
 use Rattle.packet.specs.declared.Scanned.the-variants.{Fine, Refused}
 use Rattle.packet.specs.declared.Packet.{Packet}

@@ -1,7 +1,8 @@
 -- A past passes its tests exactly where it is in range, fact by fact; that of no packets is, and an accepted packet keeps it so.
 use Rattle.laws.specs.Kit.{_≡_, refl, true, ℕ, _≤_, arith, eqb}
-use Rattle.laws.specs.Choose.{pick-either}
-use Rattle.laws.specs.Every.{every, All, facts, of-facts, _and_}
+use Rattle.laws.proofs.Choose.{pick-either}
+use Rattle.laws.specs.Every.{every, All}
+use Rattle.laws.proofs.Every.{facts, of-facts, _and_}
 use Rattle.packet.specs.declared.Past.{Past}
 use Rattle.packet.specs.Step.{nothing, firstOf, nextOf}
 use Rattle.packet.specs.Range.{ranges, Ranged}

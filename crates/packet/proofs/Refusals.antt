@@ -1,7 +1,7 @@
 -- The refusals 11 to 14 in their order, each from what brings it about; and no refusal exactly where a packet keeps all four limits.
 -- By the tests, one after the other.
 use Rattle.laws.specs.Kit.{_≡_, ℕ, _≤_, _<_, arith, ltb, leb, lt-ltb, le-ltb, le-leb, lt-leb, ltb-false, leb-false}
-use Rattle.laws.specs.Choose.{pick-either}
+use Rattle.laws.proofs.Choose.{pick-either}
 use Rattle.packet.specs.declared.Past.{Past}
 use Rattle.packet.specs.Step.{elapsedOf, refusalOf}
 

@@ -2,7 +2,8 @@
 -- By the test on its refusal.
 use Rattle.laws.specs.Kit.{_≡_, refl, sym, ap, subst, _∙_, Bool, true, false, _&&_, _||_, or-false, List, [], _∷_, ℕ, _+_, _≤_, arith}
 use Rattle.laws.specs.Kit.{add-zero, eqb, length, eq-eqb, ne-eqb, eqb-true, eqb-false}
-use Rattle.laws.specs.Choose.{pick, pick-either}
+use Rattle.laws.specs.Choose.{pick}
+use Rattle.laws.proofs.Choose.{pick-either}
 use Rattle.packet.specs.declared.Past.{Past}
 use Rattle.packet.specs.declared.Refusal.{Refusal}
 use Rattle.packet.specs.declared.Tally.{Tally}

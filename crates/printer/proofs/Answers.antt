@@ -3,9 +3,9 @@ use Rattle.laws.specs.Kit.{_≡_, refl, sym, ap, subst, _∙_, Bool, true, fals
 use Rattle.laws.specs.Kit.{drop}
 use types.Run.{OneOf, miss}
 use denote.Enum.Declared.{tagOf}
-use Rattle.laws.specs.Choose.{false-true}
+use Rattle.laws.proofs.Choose.{false-true}
 use Rattle.frame.specs.declared.Row.{Row}
-use Rattle.laws.specs.Lay.{put-none}
+use Rattle.laws.proofs.Lay.{put-none}
 use Rattle.text.specs.Lines.{Line, rowLine}
 use Rattle.record.specs.declared.Head.{Head}
 use Rattle.record.specs.declared.Next.{Next}

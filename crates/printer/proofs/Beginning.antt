@@ -2,7 +2,7 @@
 -- of the file's output is still to come. By what the head says of the file.
 use Rattle.laws.specs.Kit.{_≡_, refl, sym, ap, subst, _∙_, Bool, true, false, List, [], _++_, append-nil, ℕ, _≤_, _<_, arith, eqb, length}
 use Rattle.laws.specs.Kit.{drop, drop-append-le, eqb-true, eqb-false}
-use Rattle.laws.specs.Choose.{pick-either, false-true}
+use Rattle.laws.proofs.Choose.{pick-either, false-true}
 use Rattle.packet.specs.Step.{nothing}
 use Rattle.text.specs.Lines.{refusalLine}
 use Rattle.record.specs.declared.Cursor.{Cursor}

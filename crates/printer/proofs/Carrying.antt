@@ -3,7 +3,8 @@
 use Rattle.laws.specs.Kit.{_≡_, refl, sym, ap, subst, _∙_, Bool, true, false, List, [], _∷_, _++_, append-nil, append-assoc, ℕ, zero, suc}
 use Rattle.laws.specs.Kit.{_+_, _-_, _^_, _≤_, _<_, arith, mod-eq-of-lt, eqb, ltb, length, drop, length-append, drop-drop, drop-append-le}
 use Rattle.laws.specs.Kit.{eqb-true, eqb-false}
-use Rattle.laws.specs.Choose.{pick, pick-either}
+use Rattle.laws.specs.Choose.{pick}
+use Rattle.laws.proofs.Choose.{pick-either}
 use Rattle.laws.specs.Fold.{fold}
 use Rattle.packet.specs.declared.Past.{Past}
 use Rattle.packet.specs.declared.Packet as packet

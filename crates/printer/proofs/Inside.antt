@@ -1,6 +1,6 @@
 -- What is used of a window lies within it: a record for each packet that was shown, and the head before the first. By the turns still allowed.
 use Rattle.laws.specs.Kit.{_≡_, refl, sym, ap, subst, _∙_, Bool, List, ℕ, zero, suc, _-_, _≤_, arith, eqb, ltb, length, drop, length-drop}
-use Rattle.laws.specs.Choose.{pick-either}
+use Rattle.laws.proofs.Choose.{pick-either}
 use Rattle.packet.specs.Step.{numberOf}
 use Rattle.record.specs.declared.Cursor.{Cursor}
 use Rattle.limits.specs.declared.Parameters.{Parameters}

@@ -1,6 +1,6 @@
 -- The contract of a call on a piece, a record of equations and a bound, admits one answer and one content of the lent bytes.
 use Rattle.laws.specs.Kit.{_≡_, List, ℕ}
-use Rattle.laws.specs.Unique.{one-answer}
+use Rattle.laws.proofs.Unique.{one-answer}
 use Rattle.printer.specs.declared.TakeAnswer.{TakeAnswer}
 use Rattle.printer.specs.Step.{TakeOutcome, TakeGives}
 

@@ -1,7 +1,7 @@
 -- A call that neither ended nor used a byte had no room for a line, or wanted more bytes: every other answer ends it or takes a record.
 use Rattle.laws.specs.Kit.{_≡_, refl, sym, ap, _∙_, _⊎_, inl, inr, Bool, false, List, ℕ, _/_, _≤_, _<_, arith, ℕ-discrete, eqb, ltb}
 use Rattle.laws.specs.Kit.{length, drop, ltb-true}
-use Rattle.laws.specs.Choose.{pick-either, false-true}
+use Rattle.laws.proofs.Choose.{pick-either, false-true}
 use Rattle.packet.specs.Step.{numberOf}
 use Rattle.record.specs.declared.Next.{Next}
 use Rattle.record.specs.declared.Next.the-variants.{Packet, End, More, Refused}

@@ -4,7 +4,8 @@ use Rattle.laws.specs.Kit.{_≡_, refl, sym, ap, subst, _∙_, Bool, true, fals
 use Rattle.laws.specs.Kit.{length, take, drop, length-drop, length-append, length-sets, drop-drop, ne-eqb, lt-ltb, le-ltb}
 use types.Run.{OneOf, miss}
 use denote.Enum.Declared.{tagOf}
-use Rattle.laws.specs.Lay.{Put, put-length, sets-join}
+use Rattle.laws.specs.Lay.{Put}
+use Rattle.laws.proofs.Lay.{put-length, sets-join}
 use Rattle.packet.specs.declared.Packet as packet
 use Rattle.packet.specs.Step.{numberOf}
 use Rattle.frame.specs.declared.Row.{Row}

@@ -2,7 +2,7 @@
 use Rattle.laws.specs.Kit.{_≡_, refl, ap, Bool, true, false, _&&_, List, [], _∷_, ℕ, _+_, _<_, eqb, length, drop, getD, drop-cons}
 use Rattle.laws.specs.Kit.{drop-length, eq-eqb, ne-eqb, eqb-true}
 use native.Mathlib.Numerals.{add-one}
-use Rattle.laws.specs.Choose.{false-true}
+use Rattle.laws.proofs.Choose.{false-true}
 use Rattle.probe.specs.Words.{same}
 
 pub alike : (a : List ℕ) → same a a ≡ true

@@ -4,7 +4,7 @@ use Rattle.laws.specs.Kit.{_≡_, sym, ap, _∙_, subst, Bool, true, false, Lis
 use Rattle.laws.specs.Kit.{take-at}
 use Rattle.laws.specs.Choose.{pick}
 use Rattle.laws.specs.Fold.{fold}
-use Rattle.laws.specs.Lay.{sets-front}
+use Rattle.laws.proofs.Lay.{sets-front}
 use Rattle.packet.specs.declared.Packet.{Packet}
 use Rattle.packet.specs.Paper.{marked}
 use Rattle.frame.specs.Step as F

@@ -1,6 +1,6 @@
 -- Each contract here that is a record of equations admits one answer: what meets it is what it names.
 use Rattle.laws.specs.Kit.{_≡_, List, ℕ, ℤ}
-use Rattle.laws.specs.Unique.{one-answer}
+use Rattle.laws.proofs.Unique.{one-answer}
 use Rattle.timing.specs.declared.StreamNumbers.{StreamNumbers}
 use Rattle.probe.specs.Calls.{SetUpGives, CallOutcome, CallGives}
 

@@ -1,6 +1,6 @@
 -- The contract of a step admits one answer, and one text at the front of the lent bytes; what lies behind the text is nobody's.
 use Rattle.laws.specs.Kit.{_≡_, sym, ap, _∙_, List, ℕ, length, take, length-take-le}
-use Rattle.laws.specs.Unique.{one-answer}
+use Rattle.laws.proofs.Unique.{one-answer}
 use Rattle.pump.specs.declared.Stepped.{Stepped}
 use Rattle.pump.specs.Step.{Did, StepGives}
 

@@ -5,7 +5,7 @@ use mir.Syntax.{w64}
 use mir.Val.{SFits}
 use mir.Facts.{toZ-ofZ}
 use borrow.Rule.Slice.PartMut.{midOf, putMid, same-len-mid, take-put}
-use Rattle.laws.specs.Choose.{false-true}
+use Rattle.laws.proofs.Choose.{false-true}
 use Rattle.libc.specs.Io.{Moved}
 use Rattle.text.specs.Lines.{lineRoom}
 use Rattle.printer.specs.declared.Opened.{Opened}

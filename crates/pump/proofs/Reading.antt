@@ -4,7 +4,7 @@ use Rattle.laws.specs.Kit.{nonNeg, ltb-true}
 use mir.Syntax.{w64}
 use mir.Val.{Fits, SFits, toZ, ofZ}
 use mir.Facts.{toZ-ofZ, fits-natAbs}
-use Rattle.laws.specs.Choose.{false-true}
+use Rattle.laws.proofs.Choose.{false-true}
 use Rattle.libc.specs.Io.{Moved}
 use Rattle.pump.specs.declared.Pump.{Pump}
 use Rattle.pump.specs.declared.Came.the-variants.{Failed, On}

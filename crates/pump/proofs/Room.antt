@@ -1,7 +1,7 @@
 -- A step that wants more leaves room for a read, in a window of 65,538 bytes: a read into no room is never made.
 use Rattle.laws.specs.Kit.{_≡_, sym, subst, true, false, List, [], _∷_, ℕ, zero, suc, _+_, _-_, _≤_, _<_, arith, decLe, length, take}
 use Rattle.laws.specs.Kit.{drop, getD, getD-drop, eqb-true}
-use Rattle.laws.specs.Choose.{false-true}
+use Rattle.laws.proofs.Choose.{false-true}
 use Rattle.record.proofs.InPieces.{head-suffices}
 use Rattle.text.specs.Lines.{lineRoom}
 use Rattle.printer.specs.declared.Opened.{Opened}

@@ -1,7 +1,7 @@
 -- A run, by reads of any size: what was handed over is a front of the file's output, and all of it where the last line is out.
 use Rattle.laws.specs.Kit.{_≡_, refl, sym, ap, subst, _∙_, Bool, true, false, List, [], _++_, append-nil, append-assoc, ℕ, _+_, _-_, _≤_}
 use Rattle.laws.specs.Kit.{arith, length, take, drop, take-add, drop-drop, eqb-true}
-use Rattle.laws.specs.Choose.{false-true}
+use Rattle.laws.proofs.Choose.{false-true}
 use Rattle.record.specs.Paper.{headBytes}
 use Rattle.text.specs.Lines.{lineRoom}
 use Rattle.printer.specs.declared.Walk.{Walk}

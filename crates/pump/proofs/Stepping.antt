@@ -1,7 +1,7 @@
 -- The parts of a step, over plain values: what each return of the code has to show.
 use Rattle.laws.specs.Kit.{_≡_, refl, sym, ap, subst, _∙_, true, false, List, ℕ, _+_, _-_, _≤_, arith, eqb, length, take, drop}
 use Rattle.laws.specs.Kit.{length-drop, sets, length-sets, take-append-seam, length-take-le}
-use Rattle.laws.specs.Lay.{sets-front, put-length}
+use Rattle.laws.proofs.Lay.{sets-front, put-length}
 use Rattle.record.specs.Paper.{headBytes}
 use Rattle.text.specs.Lines.{lineRoom, Line, refusalLine}
 use Rattle.printer.specs.declared.Walk.{Walk}

@@ -1,7 +1,8 @@
 -- The reader's answers, call after call, are the records that the file reads as: by the bytes that are left, one record a step.
 use Rattle.laws.specs.Kit.{_≡_, refl, sym, ap, _∙_, subst, Bool, true, false, List, [], _∷_, _++_, ℕ, zero, suc, _+_, _*_, _^_, _≤_, _<_}
 use Rattle.laws.specs.Kit.{arith, mod-eq-of-lt, ℕ-discrete, length, drop, length-drop, drop-drop}
-use Rattle.laws.specs.Choose.{pick, false-true}
+use Rattle.laws.specs.Choose.{pick}
+use Rattle.laws.proofs.Choose.{false-true}
 use Rattle.laws.specs.Fold.{fold}
 use Rattle.limits.specs.declared.Parameters.{Parameters}
 use Rattle.limits.specs.Paper.{setUpRefusal}

@@ -2,7 +2,8 @@
 -- cut short, or a whole one; and what none of the three says of a record. By the tests, one after the other.
 use Rattle.laws.specs.Kit.{_≡_, refl, _∙_, Bool, true, false, _&&_, List, ℕ, _+_, _≤_, _<_, arith, ℕ-discrete, decLe, ltb, eqb, length}
 use Rattle.laws.specs.Kit.{lt-ltb, le-ltb, eq-eqb, ne-eqb, ltb-false, eqb-true, eqb-false}
-use Rattle.laws.specs.Choose.{pick, pick-either}
+use Rattle.laws.specs.Choose.{pick}
+use Rattle.laws.proofs.Choose.{pick-either}
 use Rattle.endian.specs.Number.{Room}
 use Rattle.record.specs.declared.Framed.the-variants as framed
 use Rattle.record.specs.Paper.{parametersLength, packetLength, parametersBytes, packetBytes}

@@ -1,6 +1,6 @@
 -- The writer's contract, a record of two equations, admits one answer and one content of the lent bytes.
 use Rattle.laws.specs.Kit.{_≡_, sym, ap, _∙_, List, ℕ}
-use Rattle.laws.specs.Unique.{one-answer}
+use Rattle.laws.proofs.Unique.{one-answer}
 use Rattle.packet.specs.Paper.{packets}
 use Rattle.limits.specs.declared.Parameters.{Parameters}
 use Rattle.record.specs.declared.Written.{Written}

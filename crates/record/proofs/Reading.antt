@@ -2,7 +2,8 @@
 -- By the number of records still allowed, of which as many as there are bytes is always enough.
 use Rattle.laws.specs.Kit.{_≡_, refl, sym, ap, _∙_, true, false, List, ℕ, zero, suc, _+_, _-_, _≤_, _<_, arith, ℕ-discrete, eqb, length}
 use Rattle.laws.specs.Kit.{drop, length-drop, drop-drop, eq-eqb, ne-eqb, eqb-true, eqb-false, not-true}
-use Rattle.laws.specs.Choose.{pick-either, orElse}
+use Rattle.laws.specs.Choose.{orElse}
+use Rattle.laws.proofs.Choose.{pick-either}
 use Rattle.packet.specs.declared.Past.{Past}
 use Rattle.packet.specs.Step.{nothing, nextOf}
 use Rattle.record.specs.Paper.{parametersLength, packetLength, parametersBytes, packetBytes, headBytes}

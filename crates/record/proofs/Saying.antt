@@ -1,7 +1,8 @@
 -- What the reader answers, in the words of the rules: a predicate on the answer, proved once for every answer. By what stands in front.
 use Rattle.laws.specs.Kit.{_≡_, refl, sym, ap, subst, _∙_, Bool, true, false, List, [], _∷_, ℕ, _≤_, _<_, arith, ℕ-discrete, eqb, length}
 use Rattle.laws.specs.Kit.{drop, eqb-true}
-use Rattle.laws.specs.Choose.{pick, pick-either}
+use Rattle.laws.specs.Choose.{pick}
+use Rattle.laws.proofs.Choose.{pick-either}
 use Rattle.limits.specs.declared.Parameters.{Parameters}
 use Rattle.limits.specs.Paper.{setUpRefusal}
 use Rattle.packet.specs.Step.{nothing}

@@ -2,7 +2,7 @@
 -- length and its kind, which are all that the format looks at.
 use Rattle.laws.specs.Kit.{_≡_, refl, sym, ap, _∙_, Bool, true, false, _&&_, and-false, List, ℕ, _≤_, _<_, arith, leb, eqb, length}
 use Rattle.laws.specs.Kit.{eq-eqb, ne-eqb, le-leb, lt-leb, leb-true, eqb-true}
-use Rattle.laws.specs.Choose.{false-true}
+use Rattle.laws.proofs.Choose.{false-true}
 use Rattle.record.specs.Paper.{packetLength, packetBytes, bodyLength, kindOf}
 use Rattle.record.specs.Step.{after, packetOf, wholeOf, nextBy, nextPiece, standsIn, Whole}
 use Rattle.record.proofs.Format.{packet-2, length-14, framed-whole}

@@ -3,7 +3,7 @@ use Rattle.laws.specs.Kit.{_≡_, sym, _∙_, List, ℕ, _+_, _≤_, _<_, div-o
 use Rattle.laws.specs.Kit.{length-append, sets}
 use Rattle.endian.specs.Number.{bytesOf}
 use Rattle.endian.specs.Fields.{fieldBytes}
-use Rattle.laws.specs.Lay.{sets-join}
+use Rattle.laws.proofs.Lay.{sets-join}
 use Rattle.endian.proofs.Width.{length-bytes, two-stored}
 use Rattle.packet.specs.declared.Packet.{Packet}
 use Rattle.packet.specs.Paper.{OneLength, lent, packetsFrom}

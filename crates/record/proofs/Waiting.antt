@@ -2,7 +2,7 @@
 -- tells apart. By what the window lacks: with nothing after it there is no record or it is cut short, with enough after it, it is not.
 use Rattle.laws.specs.Kit.{_≡_, refl, sym, ap, _∙_, Bool, true, false, List, [], _∷_, _++_, append-nil, ℕ, _+_, _*_, arith, eqb}
 use Rattle.laws.specs.Kit.{replicate, length-append, length-replicate}
-use Rattle.laws.specs.Choose.{pick-either, false-true}
+use Rattle.laws.proofs.Choose.{pick-either, false-true}
 use Rattle.endian.specs.Number.{numberOf}
 use Rattle.record.specs.declared.Framed.{Framed}
 use Rattle.record.specs.declared.Framed.the-variants as framed

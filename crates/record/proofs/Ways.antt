@@ -2,7 +2,8 @@
 use Rattle.laws.specs.Kit.{_≡_, refl, sym, ap, subst, _∙_, Bool, true, false, List, _∷_, ℕ, _+_, _-_, _≤_, _<_, arith, ltb, eqb, length}
 use Rattle.laws.specs.Kit.{getD, take, drop, length-drop, drop-of-length-le, take-all, drop-length, eq-eqb, ne-eqb, eqb-true, eqb-false}
 use Rattle.laws.specs.Kit.{ltb-false}
-use Rattle.laws.specs.Choose.{pick, pick-either}
+use Rattle.laws.specs.Choose.{pick}
+use Rattle.laws.proofs.Choose.{pick-either}
 use Rattle.record.specs.declared.Framed.{Framed}
 use Rattle.record.specs.declared.Framed.the-variants as framed
 use Rattle.record.specs.declared.Head.the-variants as head

@@ -3,7 +3,8 @@
 use Rattle.laws.specs.Kit.{_≡_, refl, sym, ap, _∙_, Bool, true, false, List, [], _∷_, _++_, ℕ, _+_, _≤_, _<_, arith, eqb, length, take}
 use Rattle.laws.specs.Kit.{drop, getD, length-append, length-drop, List·getD-append, take-append-le, drop-append-le, length-take-le}
 use Rattle.laws.specs.Kit.{eqb-true}
-use Rattle.laws.specs.Choose.{pick, pick-either, false-true}
+use Rattle.laws.specs.Choose.{pick}
+use Rattle.laws.proofs.Choose.{pick-either, false-true}
 use Rattle.endian.specs.Number.{numberAt, Bytes}
 use Rattle.endian.proofs.Width.{number-small, bytes-take}
 use Rattle.record.specs.declared.Framed.{Framed}

@@ -2,7 +2,8 @@
 use Rattle.laws.specs.Kit.{_≡_, refl, sym, ap, _∙_, false, List, [], _∷_, _++_, ℕ, suc, _+_, _*_, _≤_, _<_, arith, zero-add, length, take}
 use Rattle.laws.specs.Kit.{drop, getD, length-append, sets, sets-eq, take-at, leb, eqb, eq-eqb, ne-eqb, le-leb, lt-leb, leb-true}
 use Rattle.laws.specs.Kit.{eqb-true}
-use Rattle.laws.specs.Choose.{pick, pick-either}
+use Rattle.laws.specs.Choose.{pick}
+use Rattle.laws.proofs.Choose.{pick-either}
 use Rattle.packet.specs.declared.Past.{Past}
 use Rattle.packet.specs.declared.Refusal.{Refusal}
 use Rattle.packet.specs.declared.Scanned.{Scanned}
@@ -14,7 +15,7 @@ use Rattle.packet.proofs.Lent.{packets-length}
 use Rattle.packet.proofs.Turn.{scanned-fine}
 use Rattle.packet.proofs.Declared.{scan-declared, fine-few}
 use Rattle.endian.specs.Fields.{fieldBytes}
-use Rattle.laws.specs.Lay.{sets-join}
+use Rattle.laws.proofs.Lay.{sets-join}
 use Rattle.endian.proofs.Width.{length-bytes}
 use Rattle.limits.specs.declared.Parameters.{Parameters}
 use Rattle.record.specs.declared.Written.{Written}

@@ -2,7 +2,7 @@
 use Rattle.laws.specs.Kit.{_≡_, refl, sym, ap, _∙_, Bool, true, false, List, _++_, map, append-nil, ℕ, _+_, _*_, _≤_, arith, leb}
 use Rattle.laws.specs.Kit.{ℤ, pos, length, drop, sets, drop-length, le-leb}
 use Rattle.laws.specs.Choose.{pick}
-use Rattle.laws.specs.Lay.{sets-front}
+use Rattle.laws.proofs.Lay.{sets-front}
 use Rattle.packet.specs.declared.Packet.{Packet}
 use Rattle.timing.specs.declared.State.{State}
 use Rattle.timing.specs.declared.Fed.the-variants.{Accepted}

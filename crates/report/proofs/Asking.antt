@@ -3,7 +3,8 @@
 use Rattle.laws.specs.Kit.{_≡_, refl, sym, ap, subst, _∙_, Bool, true, false, List, _++_, map, ℕ, _+_, _-_, _*_, _/_, _≤_, _<_, arith}
 use Rattle.laws.specs.Kit.{leb, pos, length, drop, length-append, length-map, sets, le-leb, lt-leb, leb-true, leb-false}
 use Rattle.laws.specs.Choose.{pick}
-use Rattle.laws.specs.Count.{count, count-le}
+use Rattle.laws.specs.Count.{count}
+use Rattle.laws.proofs.Count.{count-le}
 use Rattle.packet.specs.declared.Scanned.the-variants as scan
 use Rattle.packet.specs.declared.Packet.{Packet}
 use Rattle.packet.specs.Paper.{closesAt}

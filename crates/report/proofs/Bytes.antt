@@ -7,7 +7,7 @@ use mir.Syntax.{w64}
 use mir.Val.{SFits, toZ, ofZ}
 use mir.Facts.{toZ-ofZ}
 use Rattle.endian.specs.Number.{bytesOf}
-use Rattle.laws.specs.Lay.{sets-join}
+use Rattle.laws.proofs.Lay.{sets-join}
 use Rattle.endian.proofs.Width.{length-bytes}
 use Rattle.frame.specs.declared.Row.{Row}
 use Rattle.frame.specs.Step.{rowWidth, numbersOf}

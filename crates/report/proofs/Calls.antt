@@ -5,7 +5,7 @@ use lib.Ieee.{Float, binary64, inFloat}
 use mir.Syntax.{w64}
 use mir.Val.{SFits, toZ, ofZ}
 use mir.Facts.{toZ-ofZ}
-use Rattle.laws.specs.Choose.{pick-either}
+use Rattle.laws.proofs.Choose.{pick-either}
 use Rattle.packet.specs.declared.Scanned.{Scanned}
 use Rattle.packet.specs.declared.Scanned.the-variants as scan
 use Rattle.packet.specs.Paper.{packets}

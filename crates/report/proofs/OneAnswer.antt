@@ -2,7 +2,7 @@
 -- equations, or what a run gives and what is put (timing's `ran-unique`, laws' `put-unique`).
 use Rattle.laws.specs.Kit.{_≡_, List, ℕ, ℤ}
 use lib.Ieee.{Float}
-use Rattle.laws.specs.Unique.{one-answer}
+use Rattle.laws.proofs.Unique.{one-answer}
 use Rattle.timing.specs.declared.StreamNumbers.{StreamNumbers}
 use Rattle.limits.specs.declared.Parameters.{Parameters}
 use Rattle.report.specs.Step.{CallGives, WriteGives, LimitsGives, DrawGives}

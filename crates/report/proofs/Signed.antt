@@ -5,7 +5,7 @@ use Rattle.laws.specs.Kit.{pow-le-pow-right, eqb, ℤ, pos, length, take, drop,
 use mir.Syntax.{w64}
 use mir.Val.{toZ}
 use mir.Facts.{fits-ofZ, toZ-ofZ}
-use Rattle.laws.specs.Choose.{pick-either}
+use Rattle.laws.proofs.Choose.{pick-either}
 use Rattle.endian.specs.Number.{numberOf, numberAt, bytesOf, Bytes}
 use Rattle.endian.proofs.Width.{length-bytes, number-small, number-bytes, bytes-take, bytes-drop}
 use Rattle.packet.specs.declared.Past.{Past}

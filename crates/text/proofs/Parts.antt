@@ -1,6 +1,6 @@
 -- Two parts of a line, put one behind the other, are one part: what was laid first and what was laid behind it were laid at once.
 use Rattle.laws.specs.Kit.{_≡_, refl, ap, _∙_, List, [], _∷_, _++_, ℕ, _+_, _≤_, arith, length, set, length-append}
-use Rattle.laws.specs.Lay.{sets-join, put-length}
+use Rattle.laws.proofs.Lay.{sets-join, put-length}
 use Rattle.text.specs.Lines.{lineRoom, Line, Part}
 
 pub part-then : {m n at k r : ℕ} {a b before between after : List ℕ} → Part m a at before k between → Part n b k between r after

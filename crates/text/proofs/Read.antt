@@ -2,7 +2,8 @@
 -- By recursion on how many digits there may be: each step takes the last digit off.
 use Rattle.laws.specs.Kit.{_≡_, sym, ap, subst, _∙_, Bool, true, false, List, [], _∷_, _++_, ℕ, zero, suc, _+_, _-_, _*_, _/_, _%_, _^_}
 use Rattle.laws.specs.Kit.{_≤_, _<_, arith, div-add-mod', mod-lt, le-div-iff-mul-le, decLt, ltb, length, ℤ, pos, negsuc, natAbs}
-use Rattle.laws.specs.Fold.{fold, fold-cut}
+use Rattle.laws.specs.Fold.{fold}
+use Rattle.laws.proofs.Fold.{fold-cut}
 use Rattle.laws.specs.Choose.{pick}
 use Rattle.text.specs.Decimal.{digitsOf, digits, signed, value, Digits, Leads}
 use Rattle.text.proofs.Digits.{tenth, one-digit, more-digits, digits-length}

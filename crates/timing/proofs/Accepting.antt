@@ -7,9 +7,11 @@ use Rattle.laws.specs.Count.{count}
 use Rattle.grain.specs.Paper.{InstantBy}
 use Rattle.limits.specs.Fraction.{Same}
 use Rattle.limits.specs.Paper.{classOf, readSpacing}
-use Rattle.limits.specs.Accepted.{Accepted, accepted}
-use Rattle.limits.specs.Facts.{spacing}
-use Rattle.limits.specs.Exact.{CMaxIs, VrxFullIs, TroIs, c-max-is, vrx-full-is, tro-is}
+use Rattle.limits.specs.Accepted.{Accepted}
+use Rattle.limits.proofs.Accepting.{accepted}
+use Rattle.limits.proofs.Facts.{spacing}
+use Rattle.limits.specs.Exact.{CMaxIs, VrxFullIs, TroIs}
+use Rattle.limits.proofs.Exactness.{c-max-is, vrx-full-is, tro-is}
 use Rattle.packet.specs.declared.Packet.{Packet}
 use Rattle.packet.specs.Paper.{at, declared}
 use Rattle.bucket.specs.Paper as bucket

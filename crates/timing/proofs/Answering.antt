@@ -2,7 +2,8 @@
 use Rattle.laws.specs.Kit.{_≡_, refl, sym, _∙_, Bool, true, false, _&&_, List, ℕ, _*_, _≤_, _<_, arith, eqb, leb, ℤ, length, eqb-true}
 use Rattle.laws.specs.Kit.{eq-eqb, ne-eqb, le-leb, lt-leb}
 use lib.Ieee.{binary64, inFloat}
-use Rattle.laws.specs.Choose.{pick, pick-either, orElse}
+use Rattle.laws.specs.Choose.{pick, orElse}
+use Rattle.laws.proofs.Choose.{pick-either}
 use Rattle.packet.specs.declared.Scanned.{Scanned}
 use Rattle.packet.specs.declared.Scanned.the-variants.{Fine, Refused as Scan-Refused}
 use Rattle.packet.specs.declared.Refusal.{Refusal}

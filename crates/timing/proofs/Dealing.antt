@@ -3,7 +3,8 @@
 use Rattle.laws.specs.Kit.{_≡_, refl, sym, ap, _∙_, subst, Bool, true, false, List, [], _∷_, _++_, ℕ, _+_, _*_, _≤_, arith, ℤ, length}
 use Rattle.laws.specs.Kit.{length-append, le-leb, eq-eqb}
 use Rattle.laws.specs.Choose.{pick}
-use Rattle.laws.specs.Fold.{fold, fold-cut}
+use Rattle.laws.specs.Fold.{fold}
+use Rattle.laws.proofs.Fold.{fold-cut}
 use Rattle.packet.specs.declared.Past.{Past}
 use Rattle.packet.specs.declared.Scanned.{Scanned}
 use Rattle.packet.specs.declared.Scanned.the-variants.{Fine, Refused as Scan-Refused}

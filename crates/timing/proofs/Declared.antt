@@ -2,7 +2,8 @@
 use Rattle.laws.specs.Kit.{_≡_, refl, sym, ap, _∙_, subst, Bool, true, false, List, [], _∷_, _++_, append-assoc, append-nil, ℕ, zero, suc}
 use Rattle.laws.specs.Kit.{_+_, _-_, _*_, _≤_, arith, sub-zero, ltb, leb, eqb·suc-zero, length, take, take-suc, take-length, ltb-false}
 use Rattle.laws.specs.Choose.{pick}
-use Rattle.laws.specs.Fold.{fold, fold-up-to, fold-states}
+use Rattle.laws.specs.Fold.{fold}
+use Rattle.laws.proofs.Fold.{fold-up-to, fold-states}
 use Rattle.grain.specs.Paper.{grains, instants}
 use Rattle.laws.specs.Climb.{Climbs}
 use Rattle.packet.specs.declared.Refusal.{Refusal}

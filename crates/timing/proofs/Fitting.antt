@@ -3,7 +3,7 @@
 use Rattle.laws.specs.Kit.{_≡_, sym, ap, subst, _&&_, List, [], _∷_, map, ℕ, suc, _≤_, _<_, arith, pos}
 use mir.Syntax.{w64}
 use mir.Val.{SFits}
-use Rattle.laws.specs.Choose.{pick-either}
+use Rattle.laws.proofs.Choose.{pick-either}
 use Rattle.packet.specs.declared.Past.{Past}
 use Rattle.packet.specs.declared.Packet.{Packet}
 use Rattle.packet.specs.Paper.{marked, at}
@@ -23,7 +23,7 @@ use Rattle.timing.specs.Step.{rulesOf, arriveOf, markOf, stepOf, rowsOf,
 use Rattle.timing.specs.Answers.{summaryWith, summaryOf}
 use Rattle.timing.specs.Range.{Sound}
 use Rattle.timing.specs.Feed.{Passes}
-use Rattle.laws.specs.Every.{and-right}
+use Rattle.laws.proofs.Every.{and-right}
 use Rattle.timing.proofs.Planning.{planned}
 use Rattle.timing.proofs.Staying.{sound-step, rows-made}
 use Rattle.timing.proofs.Running.{step-numbers, step-past}

@@ -1,7 +1,8 @@
 -- A state is in range, by the tests of the code, exactly when each of its numbers is, as a fact; the fresh state of accepted numbers is.
 -- Each part's table is one test (`by-parts`), which is the part's own fact (its Ranging).
 use Rattle.laws.specs.Kit.{_≡_, sym, _∙_, true, _&&_, List, [], _∷_, _++_, arith, eqb, leb}
-use Rattle.laws.specs.Every.{Test, at-most, same, is, after, every, All, facts, of-facts, _and_, tests, after-front, after-all}
+use Rattle.laws.specs.Every.{Test, at-most, same, is, after, every, All, tests}
+use Rattle.laws.proofs.Every.{facts, of-facts, _and_, after-front, after-all}
 use Rattle.packet.specs.Range as P
 use Rattle.packet.proofs.Ranging as PR
 use Rattle.bucket.specs.Range as B

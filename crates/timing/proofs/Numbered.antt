@@ -4,7 +4,7 @@ use Rattle.laws.specs.Kit.{_≡_, refl, sym, ap, _∙_, Bool, true, false, _⊎
 use Rattle.laws.specs.Kit.{zero, suc, _+_, _*_, _≤_, _<_, arith, le-suc-iff, ℤ, length, take, drop, length-append, sets}
 use Rattle.laws.specs.Choose.{pick}
 use Rattle.laws.specs.Count.{count}
-use Rattle.laws.specs.Lay.{part-stands}
+use Rattle.laws.proofs.Lay.{part-stands}
 use Rattle.packet.specs.declared.Packet.{Packet}
 use Rattle.frame.specs.declared.Row.{Row}
 use Rattle.frame.specs.Paper.{closesAt, numberAt}

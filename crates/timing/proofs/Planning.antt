@@ -2,8 +2,9 @@
 -- demand, for every rate at once: by the table's greatest and least length.
 use Rattle.laws.specs.Kit.{_≡_, ℕ, zero, suc, _*_, _≤_, _<_, arith, mul-le-mul, mul-le-mul-left, div-mul-le-self}
 use Rattle.limits.specs.Paper.{activeRatio, readNum, readDen}
-use Rattle.limits.specs.Accepted.{Accepted, accepted}
-use Rattle.limits.specs.Facts.{frame-most, frame-least, tro-below}
+use Rattle.limits.specs.Accepted.{Accepted}
+use Rattle.limits.proofs.Accepting.{accepted}
+use Rattle.limits.proofs.Facts.{frame-most, frame-least, tro-below}
 use Rattle.grain.specs.Paper.{grains, instants}
 use Rattle.frame.specs.declared.Plan.{Plan}
 use Rattle.frame.specs.Range.{Planned}

@@ -2,9 +2,10 @@
 -- the rest of the run needs still holds. Each loop of the code adds how it reads its packets.
 use Rattle.laws.specs.Kit.{_≡_, refl, sym, ap, _∙_, subst, true, false, List, [], _∷_, _++_, ℕ, _+_, _≤_, arith, length, length-append}
 use Rattle.laws.specs.Kit.{eq-eqb, ne-eqb}
-use Rattle.laws.specs.Choose.{pick-either}
+use Rattle.laws.proofs.Choose.{pick-either}
 use Rattle.laws.specs.Fold.{fold}
-use Rattle.laws.specs.Lay.{Put, put-none, Putting, putting-begins, putting-on, putting-ends}
+use Rattle.laws.specs.Lay.{Put, Putting}
+use Rattle.laws.proofs.Lay.{put-none, putting-begins, putting-on, putting-ends}
 use Rattle.packet.specs.declared.Packet.{Packet}
 use Rattle.packet.specs.Paper.{marked}
 use Rattle.packet.specs.Step.{numberOf, nextOf}

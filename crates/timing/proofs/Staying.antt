@@ -1,7 +1,7 @@
 -- An accepted packet keeps a state in range: each part by its own step. So
 -- accepted calls stay in range, and no demand of the code is ever missed.
 use Rattle.laws.specs.Kit.{_≡_, true, _+_, _≤_, _<_, arith, ne-eqb}
-use Rattle.laws.specs.Choose.{pick-either}
+use Rattle.laws.proofs.Choose.{pick-either}
 use Rattle.packet.specs.declared.Packet.{Packet}
 use Rattle.packet.specs.Paper.{marked}
 use Rattle.packet.specs.Step.{firstOf, elapsedOf, numberOf}

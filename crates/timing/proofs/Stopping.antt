@@ -2,7 +2,8 @@
 use Rattle.laws.specs.Kit.{_≡_, refl, sym, ap, _∙_, subst, false, List, [], _∷_, _++_, append-assoc, append-nil, ℕ}
 use Rattle.laws.specs.Count.{count}
 use Rattle.laws.specs.Seek.{seek}
-use Rattle.laws.specs.Fold.{fold, fold-cut}
+use Rattle.laws.specs.Fold.{fold}
+use Rattle.laws.proofs.Fold.{fold-cut}
 use Rattle.packet.specs.declared.Refusal.{Refusal}
 use Rattle.packet.specs.declared.Scanned.{Scanned}
 use Rattle.packet.specs.declared.Scanned.the-variants.{Fine, Refused}

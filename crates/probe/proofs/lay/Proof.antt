@@ -1,7 +1,7 @@
 -- What is left of the numbers, laid from the next place on, gives the end; each turn lays one.
 use Rattle.laws.specs.Kit.{_≡_, refl, _∙_, _+_, _-_, _≤_, arith, zero-add, length, drop, length-set, sets}
 use borrow.Author.Needs.{needs}
-use Rattle.laws.specs.Lay.{sets-turn, sets-done}
+use Rattle.laws.proofs.Lay.{sets-turn, sets-done}
 use Rattle.probe.proofs.lay.Statement.{statement}
 use Rattle.probe.proofs.lay.Tie as tie
 

@@ -1,6 +1,6 @@
 -- What is left of the word, laid from the next place on, gives the end; each turn lays one byte.
 use Rattle.laws.specs.Kit.{_+_, _-_, _≤_, _≡_, refl, _∙_, add-zero, arith, length, drop, length-set, sets}
-use Rattle.laws.specs.Lay.{sets-turn, sets-done}
+use Rattle.laws.proofs.Lay.{sets-turn, sets-done}
 use denote.Ref.{now}
 use borrow.Author.Needs.{needs}
 use Rattle.text.proofs.put_word.Statement.{statement}

@@ -1,5 +1,5 @@
 -- What is left of the ten numbers, laid from the next place on, gives the end; each turn lays one.
-use Rattle.laws.specs.Lay.{sets-turn, sets-done}
+use Rattle.laws.proofs.Lay.{sets-turn, sets-done}
 use Rattle.laws.specs.Kit.{pos, add-zero, _≡_, refl, ap, _∙_, drop, _+_, _-_, _≤_, arith, length, length-set, sets}
 use mir.Syntax.{w64}
 use mir.Facts.{toZ-ofZ}

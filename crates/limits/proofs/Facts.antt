@@ -2,12 +2,14 @@
 use Rattle.laws.specs.Kit.{_≡_, refl, _⊎_, inl, inr, Bool, true, false, _&&_, List, [], _∷_, ℕ, zero, suc, _*_, _%_, _≤_, _<_, arith}
 use Rattle.laws.specs.Kit.{mul-one, div-add-mod', div-lt-iff-lt-mul, not-suc-le-zero, le-of-suc-le-suc, leb-true, eqb-true, eqb-false}
 use Rattle.laws.specs.Kit.{leb, eqb, getD, length}
-use Rattle.laws.specs.Choose.{pick, pick-either}
+use Rattle.laws.specs.Choose.{pick}
+use Rattle.laws.proofs.Choose.{pick-either}
 use Rattle.limits.specs.Fraction.{Fraction, whole, _÷_, Same, int}
 use Rattle.limits.specs.Paper.{microsecond, frameLengths, frameLength, activeRatio, allOnes, defaultTro, troGrains}
 use Rattle.limits.specs.Paper.{readSpacing, readNum, readDen}
 use Rattle.limits.specs.declared.Parameters.{Parameters}
-use Rattle.limits.specs.Accepted.{Accepted, both}
+use Rattle.limits.specs.Accepted.{Accepted}
+use Rattle.limits.proofs.Accepting.{both}
 
 -- S1: "R = 24/25, from 1080/1125"
 pub gapped-ratio : Same (activeRatio 0) (whole 1080 ÷ whole 1125)

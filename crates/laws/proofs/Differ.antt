@@ -1,0 +1,65 @@
+-- Each fact about a difference of naturals is one of sums of naturals. By the signs of the integers.
+use Rattle.laws.specs.Kit.{_≡_, refl, ap, Bool, true, false, cond, ℕ, zero, suc, _+_, _-_, _≤_, _<_, arith, ltb, le→leb, leb→le, ℤ}
+use Rattle.laws.specs.Kit.{pos, negsuc, negℤ, subℕ, _-ℤ_, _≤ℤ_, _<ℤ_, ltb-true, ltb-false}
+use Rattle.laws.specs.Differ.{Differ}
+
+pub differ-sub : (a b : ℕ) → Differ (subℕ a b) a b
+differ-sub a b = go (ltb a b) refl
+  where
+    go : (t : Bool) → ltb a b ≡ t → Differ (cond t (negsuc (b - suc a)) (pos (a - b))) a b
+    go true e = omega (arith, ltb-true a b e)
+    go false e = omega (arith, ltb-false a b e)
+
+-- a - b is c - d where a + d is c + b
+pub differ-same : (z w : ℤ) (a b c d : ℕ) → Differ z a b → Differ w c d → a + d ≡ c + b → z ≡ w
+differ-same (pos n) (pos m) a b c d p q e = ap pos (omega arith)
+differ-same (pos n) (negsuc m) a b c d p q e = absurd (omega arith)
+differ-same (negsuc n) (pos m) a b c d p q e = absurd (omega arith)
+differ-same (negsuc n) (negsuc m) a b c d p q e = ap negsuc (omega arith)
+
+pub sub-same : (a b c d : ℕ) → a + d ≡ c + b → subℕ a b ≡ subℕ c d
+sub-same a b c d e = differ-same (subℕ a b) (subℕ c d) a b c d (differ-sub a b) (differ-sub c d) e
+
+pub differ-le : (z w : ℤ) (a b c d : ℕ) → Differ z a b → Differ w c d → a + d ≤ c + b → z ≤ℤ w
+differ-le (pos n) (pos m) a b c d p q e = record { le = le→leb n m (omega arith) }
+differ-le (pos n) (negsuc m) a b c d p q e = absurd (omega arith)
+differ-le (negsuc n) (pos m) a b c d p q e = record { le = tt }
+differ-le (negsuc n) (negsuc m) a b c d p q e = record { le = le→leb m n (omega arith) }
+
+pub differ-lt : (z w : ℤ) (a b c d : ℕ) → Differ z a b → Differ w c d → a + d < c + b → z <ℤ w
+differ-lt (pos n) (pos m) a b c d p q e = record { lt = le→leb (suc n) m (omega arith) }
+differ-lt (pos n) (negsuc m) a b c d p q e = absurd (omega arith)
+differ-lt (negsuc n) (pos m) a b c d p q e = record { lt = tt }
+differ-lt (negsuc n) (negsuc m) a b c d p q e = record { lt = le→leb (suc m) n (omega arith) }
+
+-- and back: an order of differences is an order of cross sums
+pub lt-differ : (z w : ℤ) (a b c d : ℕ) → Differ z a b → Differ w c d → z <ℤ w → a + d < c + b
+lt-differ (pos n) (pos m) a b c d p q e = omega (arith, leb→le (suc n) m (e .lt))
+lt-differ (pos n) (negsuc m) a b c d p q e = absurd (e .lt)
+lt-differ (negsuc n) (pos m) a b c d p q e = omega arith
+lt-differ (negsuc n) (negsuc m) a b c d p q e = omega (arith, leb→le (suc m) n (e .lt))
+
+pub both-ways : (z w : ℤ) → z ≤ℤ w → w ≤ℤ z → z ≡ w
+both-ways (pos n) (pos m) h k = ap pos (omega (arith, leb→le n m (h .le), leb→le m n (k .le)))
+both-ways (pos n) (negsuc m) h k = absurd (h .le)
+both-ways (negsuc n) (pos m) h k = absurd (k .le)
+both-ways (negsuc n) (negsuc m) h k = ap negsuc (omega (arith, leb→le m n (h .le), leb→le n m (k .le)))
+
+pub differ-neg : (n : ℕ) → Differ (negℤ (pos n)) 0 n
+differ-neg zero = omega arith
+differ-neg (suc n) = omega arith
+
+-- one integer is the difference of every pair that has the same cross sum
+through : (x y a b : ℕ) → x + b ≡ a + y → (v : ℤ) → Differ v x y → Differ v a b
+through x y a b e (pos k) r = omega arith
+through x y a b e (negsuc k) r = omega arith
+
+-- (a - b) - (c - d) is (a + d) - (c + b)
+pub differ-minus : (z w : ℤ) (a b c d : ℕ) → Differ z a b → Differ w c d → Differ (z -ℤ w) (a + d) (c + b)
+differ-minus (pos n) (pos zero) a b c d p q = omega arith
+differ-minus (pos n) (pos (suc m)) a b c d p q = through n (suc m) (a + d) (c + b) (omega arith) (subℕ n (suc m)) (differ-sub n (suc m))
+differ-minus (pos n) (negsuc m) a b c d p q = omega arith
+differ-minus (negsuc n) (pos zero) a b c d p q = through 0 (suc n) (a + d) (c + b) (omega arith) (subℕ 0 (suc n)) (differ-sub 0 (suc n))
+differ-minus (negsuc n) (pos (suc m)) a b c d p q = omega arith
+differ-minus (negsuc n) (negsuc m) a b c d p q = through (suc m) (suc n) (a + d) (c + b) (omega arith) (subℕ (suc m) (suc n))
+    (differ-sub (suc m) (suc n))
