@@ -70,7 +70,7 @@ troGrains F height tro = pick (eqb tro allOnes) (int (defaultTro F height)) (mic
 abbrev pub readSpacing : ℕ → ℕ → ℕ → Fraction
 readSpacing schedule F n = activeRatio schedule · whole F ÷ whole n
 
--- the same spacing as the code keeps it: a numerator that depends on F, a denominator that depends on n (Facts: `spacing`)
+-- the same spacing as the code keeps it: a numerator that depends on F, a denominator that depends on n (proofs/Facts.antt: `spacing`)
 abbrev pub readNum : ℕ → ℕ → ℕ
 readNum schedule F = activeRatio schedule .num * F
 
