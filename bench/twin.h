@@ -20,7 +20,9 @@
 enum { NARROW = 1, NARROW_LINEAR = 2, WIDE = 3 };
 enum { NONE, PASS, UNDER, OVER };
 
-static const uint64_t frame_lengths[9] = {0, 1126125000, 1125000000, 1080000000, 900900000, 900000000, 540000000, 450450000, 450000000};
+#define FRAME(num, den) (SECOND * (den) / (num)) /* grains in a frame, at num/den frames a second */
+static const uint64_t frame_lengths[9] = {
+    0, FRAME(24000, 1001), FRAME(24, 1), FRAME(25, 1), FRAME(30000, 1001), FRAME(30, 1), FRAME(50, 1), FRAME(60000, 1001), FRAME(60, 1)};
 
 static uint64_t larger(uint64_t a, uint64_t b) { return a < b ? b : a; }
 

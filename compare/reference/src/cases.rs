@@ -371,10 +371,8 @@ fn fixed_limits() -> Vec<Call> {
         change(&mut numbers);
         Call::Limits(numbers)
     };
-    vec![
+    let mut calls = vec![
         with(|_| {}),
-        with(|n| n.rate = 0),
-        with(|n| n.rate = 9),
         with(|n| n.schedule = 2),
         with(|n| n.schedule = 1),
         with(|n| n.class = 2),
@@ -396,7 +394,10 @@ fn fixed_limits() -> Vec<Call> {
         with(|n| n.packets_per_frame = 4859),
         with(|n| n.packets_per_frame = 4860),
         with(|n| n.packets_per_frame = 4320),
-    ]
+    ];
+    // Every frame length, and a code on either side of them.
+    calls.extend((0..=9).map(|rate| Call::Limits(Numbers { rate, ..NARROW })));
+    calls
 }
 
 /// Lists that document 01 speaks of, with the numbers they need.

@@ -6,7 +6,7 @@ use Rattle.laws.specs.Count.{count}
 use Rattle.laws.specs.Fold.{fold}
 use Rattle.grain.specs.Paper.{grains, nearest, phase, firstPacketTime, encoded, latency}
 use Rattle.limits.specs.Fraction.{int}
-use Rattle.limits.specs.Paper.{frameLength, activeRatio, classOf, cMax, vrxFull, defaultTro, troGrains, troFits, firstNo, setUpRefusal, given}
+use Rattle.limits.specs.Paper.{rateOf, frameLength, activeRatio, classOf, cMax, vrxFull, defaultTro, troGrains, troFits, firstNo, setUpRefusal, given}
 use Rattle.packet.specs.declared.Packet.{Packet}
 use Rattle.packet.specs.Step.{refusalOf}
 use Rattle.bucket.specs.Paper.{networkNumber, networkFirst, networkLast}
@@ -129,7 +129,7 @@ cases =
 
 -- K1, K2, K3, K4, K5, K6, K7, K8, K9, K10, K11, K12: what the definitions give is what document 01 gives
 pub cases-hold : map (λ c. c .got) cases ≡ map (λ c. c .want) cases
-unfolding cases setUpRefusal firstNo troFits frameLength activeRatio classOf cMax vrxFull int troGrains defaultTro nearest phase encoded
+unfolding cases setUpRefusal firstNo troFits rateOf frameLength activeRatio classOf cMax vrxFull int troGrains defaultTro nearest phase encoded
     count fold rulesOf arriveOf markOf stepOf rowsAfter numbers summaryWith B.stepOf F.openedOf F.countedOf F.kindOf F.wholeRow
     F.rowOf F.answerOf F.joined F.arriveOf F.closeOf F.rowsOf since readingOf packetsBy formatRefusal isParameters kindLength numberOf
     refusalOf

@@ -4,11 +4,13 @@
 --
 -- 1. Cases: document 01's twelve cases, both sides of each limit. The definitions give its numbers, so they mean what it means.
 pub mod Cases
--- 2. Measurement: the owner's three demands on what is measured, call after call.
+-- 2. Rates: where the eight frame lengths come from.
+pub mod Rates
+-- 3. Measurement: the owner's three demands on what is measured, call after call.
 pub mod Measurement
--- 3. RoundTrips: the record file read and written, both ways, whole and in pieces.
+-- 4. RoundTrips: the record file read and written, both ways, whole and in pieces.
 pub mod RoundTrips
--- 4. Calls: what a host in C gets back, and what is left in the memory that it lent.
+-- 5. Calls: what a host in C gets back, and what is left in the memory that it lent.
 pub mod Calls
--- 5. Output: what the program prints of a file, however it comes.
+-- 6. Output: what the program prints of a file, however it comes.
 pub mod Output

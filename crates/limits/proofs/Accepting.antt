@@ -1,12 +1,15 @@
--- Set-up refuses nothing exactly where each of the seven numbers is in its place: each test is its fact, both ways.
-use Rattle.laws.specs.Kit.{_≡_, refl, _⊎_, inl, inr, Bool, true, false, _&&_, _||_, ℕ, suc, _*_, _≤_, _<_, arith, leb-true, le-leb}
-use Rattle.laws.specs.Kit.{eqb-true, ltb-true, lt-ltb, leb, ltb, eqb}
+-- Set-up refuses nothing exactly where each of the seven numbers is in its place, and by 1 exactly where the rate's code is not in the table:
+-- each test is its fact, both ways.
+use Rattle.laws.specs.Kit.{_≡_, refl, sym, ap, _∙_, _↔_, _⊎_, inl, inr, Bool, true, false, _&&_, _||_, List, [], _∷_, ℕ, zero, suc, _*_, _≤_}
+use Rattle.laws.specs.Kit.{_<_, arith, leb-true, le-leb, leb-false, eqb-true, ltb-true, lt-ltb, leb, ltb, eqb}
 use Rattle.laws.specs.Choose.{pick}
 use Rattle.laws.proofs.Choose.{false-true}
 use Rattle.limits.specs.declared.Parameters.{Parameters}
-use Rattle.limits.specs.Paper.{microsecond, frameLength, classOf, allOnes}
+use Rattle.limits.specs.Paper.{microsecond, rateOf, frameLength, classOf, allOnes}
 use Rattle.limits.specs.Paper.{within, classFits, maxudpKnown, troFits, firstNo, setUpRefusal}
 use Rattle.limits.specs.Accepted.{Accepted}
+use Rattle.limits.proofs.Laws.{past-rates}
+use Rattle.limits.proofs.Rates.{frame-least}
 
 -- tests as facts
 
@@ -91,3 +94,38 @@ module _ (p : Parameters) where
         facts-udp (p .maxudp) (a .maxudp-known),
         facts-tro (frameLength (p .rate)) (p .tro) (a .tro-fits),
       )
+
+-- ---- refused by 1
+
+-- a question's number is the answer exactly where it is the first that is answered no
+later : (k j : ℕ) (l : List Bool) → suc j < k → firstNo k l ≡ suc j → ⊥
+unfolding firstNo
+later k j [] h e = omega arith
+later k j (true ∷ l) h e = later (suc k) j l (omega arith) e
+later k j (false ∷ l) h e = omega arith
+
+first-no : (k : ℕ) (t : Bool) (more : List Bool) → (firstNo (suc k) (t ∷ more) ≡ suc k) ↔ (t ≡ false)
+unfolding firstNo
+first-no k true more = (λ e. absurd (later (suc (suc k)) k more (omega arith) e), λ e. absurd (false-true (sym e)))
+first-no k false more = (λ e. refl, λ e. refl)
+
+no-frame : (code : ℕ) → within 1 8 code ≡ false → frameLength code ≡ 0
+unfolding rateOf frameLength
+no-frame zero e = refl
+no-frame (suc i) e =
+    let low : true ≡ leb 1 (suc i) = sym (le-leb 1 (suc i) (omega arith)) in
+    let high : leb (suc i) 8 ≡ false = ap (λ (t : Bool). t && leb (suc i) 8) low ∙ e in
+    sym (past-rates (suc i) (leb-false (suc i) 8 high))
+
+some-frame : (code : ℕ) → frameLength code ≡ 0 → within 1 8 code ≡ false
+some-frame code e = go (within 1 8 code) refl
+  where
+    go : (t : Bool) → within 1 8 code ≡ t → within 1 8 code ≡ false
+    go false f = f
+    go true f = absurd (omega (arith, e, frame-least (within-facts 1 8 code f)))
+
+-- G3, N2: 1 refuses exactly the codes outside of the table, which have no frame
+pub refused-outside : (p : Parameters) → (setUpRefusal p ≡ 1) ↔ (frameLength (p .rate) ≡ 0)
+unfolding setUpRefusal
+refused-outside p =
+    let first = first-no 0 (within 1 8 (p .rate)) _ in (λ e. no-frame (p .rate) (first .0 e), λ e. first .1 (some-frame (p .rate) e))

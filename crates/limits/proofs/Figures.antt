@@ -2,22 +2,22 @@
 -- Rate code 6 is 50. A figure is read as a whole number of its last place, rounded down: 764,444 thousandths, 44,444 ten-thousandths.
 use Rattle.laws.specs.Kit.{_≡_, refl}
 use Rattle.limits.specs.Fraction.{whole, _·_, _÷_, Same, int}
-use Rattle.limits.specs.Paper.{microsecond, frameLength, activeRatio, allOnes, defaultTro, troGrains, readSpacing}
+use Rattle.limits.specs.Paper.{microsecond, rateOf, frameLength, activeRatio, allOnes, defaultTro, troGrains, readSpacing}
 
 pub tro-grains : troGrains (frameLength 6) 1080 allOnes ≡ 20640000
-unfolding frameLength troGrains defaultTro int
+unfolding rateOf frameLength troGrains defaultTro int
 tro-grains = refl
 
 -- S7: the default TRO
 pub tro-figure : int (whole (troGrains (frameLength 6) 1080 allOnes) · whole 1000 ÷ whole microsecond) ≡ 764444
-unfolding frameLength troGrains defaultTro int
+unfolding rateOf frameLength troGrains defaultTro int
 tro-figure = refl
 
 pub spacing-grains : Same (readSpacing 0 (frameLength 6) 4320) (whole 120000)
-unfolding frameLength activeRatio
+unfolding rateOf frameLength activeRatio
 spacing-grains = refl
 
 -- P14: the spacing of the reads
 pub spacing-figure : int (readSpacing 0 (frameLength 6) 4320 · whole 10000 ÷ whole microsecond) ≡ 44444
-unfolding frameLength activeRatio int
+unfolding rateOf frameLength activeRatio int
 spacing-figure = refl

@@ -5,7 +5,7 @@ use Rattle.laws.specs.Kit.{mul-one, one-mul, mul-comm, mul-assoc, mul-left-comm
 use Rattle.laws.specs.Kit.{div-le-of-le-mul, List·getD-eq-default}
 use Rattle.laws.proofs.Choose.{false-true}
 use Rattle.limits.specs.Fraction.{whole, _·_, _÷_, int}
-use Rattle.limits.specs.Paper.{second, frameLengths, frameLength, activeRatio, seconds, classes, classOf, cMax, vrxFull, classFits}
+use Rattle.limits.specs.Paper.{second, rates, noRate, rateOf, lengthAt, frameLength, activeRatio, seconds, classes, classOf, cMax, vrxFull, classFits}
 use Rattle.limits.specs.Paper.{firstNo}
 use Rattle.limits.specs.Steps.{Divides}
 use Rattle.limits.specs.declared.Class.{Class}
@@ -16,8 +16,8 @@ pub above : {k x : ℕ} → k ≤ x → (x ≡ k → ⊥) → suc k ≤ x
 above h other = omega arith
 
 pub past-rates : (rate : ℕ) → 9 ≤ rate → 0 ≡ frameLength rate
-unfolding frameLength
-past-rates rate h = sym (List·getD-eq-default (0 ∷ frameLengths) 0 h)
+unfolding rateOf frameLength
+past-rates rate h = sym (ap lengthAt (List·getD-eq-default (noRate ∷ rates) noRate h))
 
 pub past-classes : (class : ℕ) → 4 ≤ class → Unknown ≡ classOf class
 unfolding classOf

@@ -5,10 +5,14 @@ pub record Fraction : Type 0 where
   pub num : ℕ
   pub den : ℕ
 
+infix 75 _over_
 infixl 7 _·_
 infixl 7 _÷_
+abbrev pub _over_ : ℕ → ℕ → Fraction
+a over b = record { num = a; den = b }
+
 abbrev pub whole : ℕ → Fraction
-whole a = record { num = a; den = 1 }
+whole a = a over 1
 
 abbrev pub _·_ : Fraction → Fraction → Fraction
 x · y = record { num = x .num * y .num; den = x .den * y .den }

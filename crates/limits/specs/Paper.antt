@@ -1,8 +1,8 @@
 -- The numbers that a stream is set up with, and the limits that follow from them, each under its sentence of document 01.
-use Rattle.laws.specs.Kit.{Bool, true, false, _&&_, _||_, List, [], _∷_, ℕ, zero, suc, _*_, max, ltb, leb, eqb, getD}
+use Rattle.laws.specs.Kit.{Bool, true, false, _&&_, _||_, List, [], _∷_, ℕ, zero, suc, _*_, _/_, max, ltb, leb, eqb, getD}
 use Rattle.laws.specs.Choose.{pick}
 use Rattle.grain.specs.Paper.{grains}
-use Rattle.limits.specs.Fraction.{Fraction, whole, _·_, _÷_, int}
+use Rattle.limits.specs.Fraction.{Fraction, whole, _over_, _·_, _÷_, int}
 use Rattle.limits.specs.declared.Class.{Class}
 use Rattle.limits.specs.declared.Parameters.{Parameters}
 use Rattle.limits.specs.declared.Class.the-variants.{Narrow, NarrowLinear, Wide, Unknown}
@@ -14,13 +14,25 @@ microsecond = grains 1000
 abbrev pub second : ℕ
 second = grains 1000000000
 
--- G3: "The frame length in grains for each rate code, 1 to 8"; a code outside has 0, and set-up refuses it
-abbrev pub frameLengths : List ℕ
-frameLengths =
-    1126125000 ∷ 1125000000 ∷ 1080000000 ∷ 900900000 ∷ 900000000 ∷ 540000000 ∷ 450450000 ∷ 450000000 ∷ []
+-- G3: the rate of each code, 1 to 8, in frames a second: a numerator over a denominator
+abbrev pub rates : List Fraction
+rates =
+    24000 over 1001 ∷ 24 over 1 ∷ 25 over 1 ∷ 30000 over 1001 ∷ 30 over 1 ∷ 50 over 1 ∷ 60000 over 1001 ∷ 60 over 1 ∷ []
+
+-- a code outside of the table, which set-up refuses, has none: one frame in no time stands for it, so that its length is 0
+abbrev pub noRate : Fraction
+noRate = 1 over 0
+
+unfoldable pub rateOf : ℕ → Fraction
+rateOf rate = getD (noRate ∷ rates) rate noRate
+
+-- G3: "27,000,000,000 times the rate's denominator over its numerator" (document 02, iv), in grains. That nothing is left over, and that the
+-- eight lengths are those of document 01: proofs/Rates.antt.
+abbrev pub lengthAt : Fraction → ℕ
+lengthAt rate = second * rate .den / rate .num
 
 unfoldable pub frameLength : ℕ → ℕ
-frameLength rate = getD (0 ∷ frameLengths) rate 0
+frameLength rate = lengthAt (rateOf rate)
 
 -- S8: "With T the frame in seconds"
 abbrev pub seconds : ℕ → Fraction

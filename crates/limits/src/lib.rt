@@ -31,6 +31,26 @@ pub struct Parameters {
     pub tro: u32,
 }
 
+impl Parameters {
+    // The grains of a frame at each rate: a second's, times the rate's denominator, over its numerator, in frames a second.
+    // A rate over 1001 has its usual name: 24000/1001 is some 23.98.
+    const FRAME_23_98: u64 = SECOND * 1001 / 24000;
+
+    const FRAME_24: u64 = SECOND * 1 / 24;
+
+    const FRAME_25: u64 = SECOND * 1 / 25;
+
+    const FRAME_29_97: u64 = SECOND * 1001 / 30000;
+
+    const FRAME_30: u64 = SECOND * 1 / 30;
+
+    const FRAME_50: u64 = SECOND * 1 / 50;
+
+    const FRAME_59_94: u64 = SECOND * 1001 / 60000;
+
+    const FRAME_60: u64 = SECOND * 1 / 60;
+}
+
 // An unknown class is refused at set-up; the limits give it 0, so that they answer for any number.
 pub enum Class {
     Narrow,
@@ -44,14 +64,14 @@ pub fn frame_length(rate: u8) -> u64
     ensures { λ r. ⌜ r ≡ frameLength rate ⌝ }
 {
     match rate {
-        1 => 1126125000,
-        2 => 1125000000,
-        3 => 1080000000,
-        4 => 900900000,
-        5 => 900000000,
-        6 => 540000000,
-        7 => 450450000,
-        8 => 450000000,
+        1 => Parameters::FRAME_23_98,
+        2 => Parameters::FRAME_24,
+        3 => Parameters::FRAME_25,
+        4 => Parameters::FRAME_29_97,
+        5 => Parameters::FRAME_30,
+        6 => Parameters::FRAME_50,
+        7 => Parameters::FRAME_59_94,
+        8 => Parameters::FRAME_60,
         0 | 9..=255 => 0,
     }
 }

@@ -1,10 +1,11 @@
 -- The rules of accepted stream numbers keep to what the frames and the bucket
 -- demand, for every rate at once: by the table's greatest and least length.
 use Rattle.laws.specs.Kit.{_≡_, ℕ, zero, suc, _*_, _≤_, _<_, arith, mul-le-mul, mul-le-mul-left, div-mul-le-self}
-use Rattle.limits.specs.Paper.{activeRatio, readNum, readDen}
+use Rattle.limits.specs.Paper.{second, activeRatio, readNum, readDen}
 use Rattle.limits.specs.Accepted.{Accepted}
 use Rattle.limits.proofs.Accepting.{accepted}
-use Rattle.limits.proofs.Facts.{frame-most, frame-least, tro-below}
+use Rattle.limits.proofs.Rates.{frame-most, frame-least}
+use Rattle.limits.proofs.Facts.{tro-below}
 use Rattle.grain.specs.Paper.{grains, instants}
 use Rattle.frame.specs.declared.Plan.{Plan}
 use Rattle.frame.specs.Range.{Planned}
@@ -31,8 +32,8 @@ module _ (x : StreamNumbers) (e : setUpOf x ≡ 0) where
   fine : Accepted (x .parameters)
   fine = accepted (x .parameters) e
 
-  pub frame-long : 450000000 ≤ frameOf x
-  frame-long = frame-least (x .parameters .rate) (fine .rate-known .0) (fine .rate-known .1)
+  pub frame-long : second ≤ 60 * frameOf x
+  frame-long = frame-least (fine .rate-known)
 
   pub planned : Planned (rulesOf x .plan)
   unfolding rulesOf
@@ -75,8 +76,7 @@ module _ (x : StreamNumbers) (e : setUpOf x ≡ 0) where
     unfolding rulesOf
     drains-few =
         let d = instants (grains ns) (rulesOf x .drains .num) (rulesOf x .drains .den) in
-        let far : 4500000000 ≤ 10 * frameOf x = omega (arith, frame-long) in
-        omega (arith, div-mul-le-self (grains ns * (11 * x .parameters .n)) (10 * frameOf x), mul-le-mul-left d far, reach-fits)
+        omega (arith, div-mul-le-self (grains ns * (11 * x .parameters .n)) (10 * frameOf x), mul-le-mul-left d frame-long, reach-fits)
 
   pub spacing-some : 0 < rulesOf x .drains .num
   unfolding rulesOf
@@ -85,6 +85,4 @@ module _ (x : StreamNumbers) (e : setUpOf x ≡ 0) where
   -- a count of drains that is in range, times the spacing, fits
   pub guess-fits : (d : ℕ) → d ≤ 1000000000 → d * rulesOf x .drains .num < 18446744073709551616
   unfolding rulesOf
-  guess-fits d h =
-      let near : 10 * frameOf x ≤ 11261250000 = omega (arith, frame-most (x .parameters .rate)) in
-      omega (arith, mul-le-mul h near)
+  guess-fits d h = omega (arith, mul-le-mul h (frame-most (x .parameters .rate)))

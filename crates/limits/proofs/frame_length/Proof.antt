@@ -1,46 +1,45 @@
--- Each code looked up in the table of document 01; a code past its end has no frame.
-use Rattle.laws.specs.Kit.{zero-le}
-use Rattle.limits.specs.Paper.{frameLength}
-use borrow.Author.Needs.{needs}
+-- Each code looked up in the table of rates; a code past its end has no frame.
+use Rattle.laws.specs.Kit.{sym, ap, zero-le}
+use Rattle.limits.specs.Paper.{rateOf, frameLength}
 use Rattle.limits.proofs.Laws.{above, past-rates}
 use Rattle.limits.proofs.frame_length.Statement.{statement}
 use Rattle.limits.proofs.frame_length.Tie as tie
 
 returns : tie.Need-returns
-unfolding frameLength
-returns c = search needs
+unfolding rateOf frameLength
+returns c = sym (ap frameLength (c .match .keys1))
 
 returns-2 : tie.Need-returns-2
-unfolding frameLength
-returns-2 c = search needs
+unfolding rateOf frameLength
+returns-2 c = sym (ap frameLength (c .match .keys2))
 
 returns-3 : tie.Need-returns-3
-unfolding frameLength
-returns-3 c = search needs
+unfolding rateOf frameLength
+returns-3 c = sym (ap frameLength (c .match .keys3))
 
 returns-4 : tie.Need-returns-4
-unfolding frameLength
-returns-4 c = search needs
+unfolding rateOf frameLength
+returns-4 c = sym (ap frameLength (c .match .keys4))
 
 returns-5 : tie.Need-returns-5
-unfolding frameLength
-returns-5 c = search needs
+unfolding rateOf frameLength
+returns-5 c = sym (ap frameLength (c .match .keys5))
 
 returns-6 : tie.Need-returns-6
-unfolding frameLength
-returns-6 c = search needs
+unfolding rateOf frameLength
+returns-6 c = sym (ap frameLength (c .match .keys6))
 
 returns-7 : tie.Need-returns-7
-unfolding frameLength
-returns-7 c = search needs
+unfolding rateOf frameLength
+returns-7 c = sym (ap frameLength (c .match .keys7))
 
 returns-8 : tie.Need-returns-8
-unfolding frameLength
-returns-8 c = search needs
+unfolding rateOf frameLength
+returns-8 c = sym (ap frameLength (c .match .keys8))
 
 returns-9 : tie.Need-returns-9
-unfolding frameLength
-returns-9 c = search needs
+unfolding rateOf frameLength
+returns-9 c = sym (ap frameLength (c .match .keys9))
 
 returns-10 : tie.Need-returns-10
 returns-10 c =

@@ -1,6 +1,6 @@
 -- Each rule by the function of `limits` that makes it; no frame length is above 2^32.
 use Rattle.laws.specs.Kit.{arith}
-use Rattle.limits.proofs.Facts.{frame-most}
+use Rattle.limits.proofs.Rates.{frame-most}
 use Rattle.timing.specs.Step.{rulesOf}
 use borrow.Author.Needs.{needs}
 use Rattle.timing.proofs.StreamNumbers.rules.Statement.{statement}

@@ -1,0 +1,38 @@
+-- Where the frame lengths come from. "An engineer asked me what 450,450,000 is" (document 02, iv): it is the 27,000,000,000 grains of a
+-- second, times 1001, over 60000, because a stream of rate code 7 has 60000/1001 frames a second. To believe it, read `rates`, `rateOf` and
+-- `frameLength` of limits/specs/Paper.antt; the exact fractions, and when two are the same number, are limits/specs/Fraction.antt.
+use Rattle.laws.specs.Kit.{_≡_, _↔_, [], _∷_, map, _*_, _/_, arith}
+use Rattle.limits.specs.Fraction.{whole, _over_, _·_, Same}
+use Rattle.limits.specs.declared.Parameters.{Parameters}
+use Rattle.limits.specs.Paper.{rateOf, frameLength, setUpRefusal}
+use Rattle.limits.proofs.Rates as proved
+use Rattle.limits.proofs.Accepting as set-up
+
+-- G3: document 01's eight numbers, for the codes 1 to 8
+pub eight-lengths : map frameLength (1 ∷ 2 ∷ 3 ∷ 4 ∷ 5 ∷ 6 ∷ 7 ∷ 8 ∷ [])
+    ≡ 1126125000 ∷ 1125000000 ∷ 1080000000 ∷ 900900000 ∷ 900000000 ∷ 540000000 ∷ 450450000 ∷ 450000000 ∷ []
+eight-lengths = proved.eight-lengths
+
+-- G3: what 450,450,000 is: 60000/1001 frames a second, times 450,450,000 grains, are the 27,000,000,000 grains of a second
+pub the-question : Same (60000 over 1001 · whole 450450000) (whole 27000000000)
+unfolding rateOf frameLength
+the-question = proved.one-second {code = 7} (omega arith, omega arith)
+
+-- ---- Of the parameters of any stream that set-up accepts.
+
+module _ (p : Parameters) (fine : setUpRefusal p ≡ 0) where
+  -- G3, D2a: the frame length is 27,000,000,000 times the rate's denominator over its numerator, and the division leaves nothing over
+  pub nothing-over : frameLength (p .rate) * rateOf (p .rate) .num ≡ 27000000000 * rateOf (p .rate) .den
+  nothing-over = proved.frame-exact (set-up.accepted p fine .rate-known)
+
+  -- G3, D2a: the rate in frames a second, times the frame length, is one second
+  pub one-second : Same (rateOf (p .rate) · whole (frameLength (p .rate))) (whole 27000000000)
+  one-second = proved.one-second (set-up.accepted p fine .rate-known)
+
+  -- G3: half and a quarter of a frame are whole grains
+  pub quarters : 4 * (frameLength (p .rate) / 4) ≡ frameLength (p .rate)
+  quarters = proved.frame-quarters (set-up.accepted p fine .rate-known)
+
+-- G3, N2: a code outside of the table has no frame, and set-up refuses by 1 exactly these
+pub refused-outside : (p : Parameters) → (setUpRefusal p ≡ 1) ↔ (frameLength (p .rate) ≡ 0)
+refused-outside = set-up.refused-outside
