@@ -32,8 +32,8 @@ pub struct Parameters {
 }
 
 impl Parameters {
-    // The grains of a frame at each rate: a second's, times the rate's denominator, over its numerator, in frames a second.
-    // A rate over 1001 has its usual name: 24000/1001 is some 23.98.
+    // The grains of a frame at each rate: those of a second, times the rate's denominator, over its numerator. A rate is in
+    // frames a second; one over 1001 has its usual name, 23.98 for 24000/1001.
     const FRAME_23_98: u64 = SECOND * 1001 / 24000;
 
     const FRAME_24: u64 = SECOND * 1 / 24;
