@@ -4,6 +4,7 @@ use Rattle.laws.specs.Kit.{_≡_, refl, sym, ap, _∙_, _↔_, _⊎_, inl, inr,
 use Rattle.laws.specs.Kit.{_<_, arith, leb-true, le-leb, leb-false, eqb-true, ltb-true, lt-ltb, leb, ltb, eqb}
 use Rattle.laws.specs.Choose.{pick}
 use Rattle.laws.proofs.Choose.{false-true}
+use Rattle.laws.proofs.Every.{and-left, and-right}
 use Rattle.limits.specs.declared.Parameters.{Parameters}
 use Rattle.limits.specs.Paper.{microsecond, rateOf, frameLength, classOf, allOnes}
 use Rattle.limits.specs.Paper.{within, classFits, maxudpKnown, troFits, firstNo, setUpRefusal}
@@ -13,17 +14,13 @@ use Rattle.limits.proofs.Rates.{frame-least}
 
 -- tests as facts
 
-pub both : (s t : Bool) → (s && t) ≡ true → (s ≡ true) × (t ≡ true)
-both true t e = (refl, e)
-both false t e = absurd (false-true e)
-
 one-of : (s t : Bool) → (s || t) ≡ true → (s ≡ true) ⊎ (t ≡ true)
 one-of true t e = inl refl
 one-of false t e = inr e
 
 within-facts : (low high x : ℕ) → within low high x ≡ true → (low ≤ x) × (x ≤ high)
 within-facts low high x e =
-    let b = both (leb low x) (leb x high) e in (leb-true low x (b .0), leb-true x high (b .1))
+    (leb-true low x (and-left (leb low x) (leb x high) e), leb-true x high (and-right (leb low x) (leb x high) e))
 
 facts-within : (low high x : ℕ) → low ≤ x → x ≤ high → within low high x ≡ true
 facts-within low high x h k = rw (le-leb low x h, le-leb x high k)

@@ -1,8 +1,7 @@
 -- What holds of the ratio, the default TRO and any TRO that set-up takes: laws for any frame length, and one computed test of the table
 -- where document 01 speaks of its rates.
 use Rattle.laws.specs.Kit.{_≡_, refl, _⊎_, inl, inr, Bool, true, false, ℕ, _*_, _%_, _<_, arith}
-use Rattle.laws.specs.Kit.{mul-one, div-add-mod', div-lt-iff-lt-mul, eqb-true, eqb-false}
-use Rattle.laws.specs.Kit.{leb, eqb}
+use Rattle.laws.specs.Kit.{mul-one, div-lt-iff-lt-mul, eqb-true, eqb-false, leb, eqb}
 use Rattle.laws.specs.Choose.{pick}
 use Rattle.laws.proofs.Choose.{pick-either}
 use Rattle.laws.specs.Every.{Test, is, after}
@@ -11,6 +10,7 @@ use Rattle.limits.specs.Paper.{microsecond, lengthAt, frameLength, activ
 use Rattle.limits.specs.Paper.{readSpacing, readNum, readDen}
 use Rattle.limits.specs.declared.Parameters.{Parameters}
 use Rattle.limits.specs.Accepted.{Accepted}
+use Rattle.limits.proofs.Laws.{exact}
 use Rattle.limits.proofs.Rates.{any-code, frame-least}
 
 -- S1: "R = 24/25, from 1080/1125"
@@ -30,8 +30,7 @@ isWhole x = eqb (x .num % x .den) 0
 -- of a whole fraction INT loses nothing, whatever the frame length in it
 pub int-exact : (x : Fraction) → isWhole x ≡ true → int x * x .den ≡ x .num
 unfolding int
-int-exact x e =
-    let left : x .num % x .den ≡ 0 = eqb-true (x .num % x .den) 0 e in omega (arith, div-add-mod' (x .num) (x .den))
+int-exact x e = exact (x .num) (x .den) (eqb-true (x .num % x .den) 0 e)
 
 -- S7: the one test of the table, for a tall picture and a low one
 abbrev pub wholeAt : ℕ → Fraction → Test

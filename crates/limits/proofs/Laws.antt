@@ -1,8 +1,8 @@
--- What the answers cite: codes past the end of a table, and the one law behind every limit, that dividing by one number
--- after another is dividing by their product, and that a common factor of both sides of a fraction falls out.
-use Rattle.laws.specs.Kit.{_≡_, refl, sym, ap, _∙_, Bool, true, false, not, List, [], _∷_, ℕ, zero, suc, _*_, _/_, _≤_, _<_, arith}
+-- What the answers cite: codes past the end of a table, a division that leaves nothing over, and the one law behind every limit, that
+-- dividing by one number after another is dividing by their product, and that a common factor of both sides of a fraction falls out.
+use Rattle.laws.specs.Kit.{_≡_, refl, sym, ap, _∙_, Bool, true, false, not, List, [], _∷_, ℕ, zero, suc, _*_, _/_, _%_, _≤_, _<_, arith}
 use Rattle.laws.specs.Kit.{mul-one, one-mul, mul-comm, mul-assoc, mul-left-comm, mul-le-mul, div-div-eq-div-mul, mul-div-mul-left}
-use Rattle.laws.specs.Kit.{div-le-of-le-mul, List·getD-eq-default}
+use Rattle.laws.specs.Kit.{div-add-mod', div-le-of-le-mul, List·getD-eq-default}
 use Rattle.laws.proofs.Choose.{false-true}
 use Rattle.limits.specs.Fraction.{whole, _·_, _÷_, int}
 use Rattle.limits.specs.Paper.{second, rates, noRate, rateOf, lengthAt, frameLength, activeRatio, seconds, classes, classOf, cMax, vrxFull, classFits}
@@ -75,6 +75,10 @@ ratio a b = rw (mul-one a, one-mul b)
 pub share : (a F b : ℕ) → a * F / b ≡ int (whole a · whole F ÷ whole b)
 unfolding int
 share a F b = rw (mul-one (a * F), one-mul b)
+
+-- a division that leaves nothing over loses nothing
+pub exact : (a b : ℕ) → a % b ≡ 0 → a / b * b ≡ a
+exact a b e = omega (arith, div-add-mod' a b)
 
 -- products that stay within 64 bits: n is below 2^32, a k-th of a second at most 90,000,000 grains, R's denominator at most 25
 module _ (n k schedule : ℕ) (h : n < 4294967296) (d : Divides k) where

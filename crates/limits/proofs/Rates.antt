@@ -1,12 +1,13 @@
 -- What holds of the rates and their frame lengths, none shown rate by rate: by one computed test of the table, and a law that carries
 -- what each entry passes to the code that looks it up.
 use Rattle.laws.specs.Kit.{_≡_, refl, _∙_, true, List, [], _∷_, map, ℕ, zero, suc, _*_, _/_, _%_, _≤_, arith, zero-le, mul-comm, mul-one}
-use Rattle.laws.specs.Kit.{div-add-mod', not-suc-le-zero, getD, length}
+use Rattle.laws.specs.Kit.{not-suc-le-zero, getD, length}
 use Rattle.laws.specs.Every.{Test, at-most, same, is, Means, after, every}
 use Rattle.laws.proofs.Every.{facts}
 use Rattle.limits.specs.Fraction.{Fraction, whole, _·_, Same}
 use Rattle.limits.specs.Accepted.{KnownRate}
 use Rattle.limits.specs.Paper.{second, rates, noRate, rateOf, lengthAt, frameLength}
+use Rattle.limits.proofs.Laws.{exact}
 
 -- ---- from the table to a code
 
@@ -37,13 +38,11 @@ pub nothing-over : every (map evenly rates) ≡ true
 unfolding after
 nothing-over = refl
 
-exact : (rate : Fraction) → second * rate .den % rate .num ≡ 0 → lengthAt rate * rate .num ≡ second * rate .den
-exact rate e = omega (arith, div-add-mod' (second * rate .den) (rate .num))
-
 -- G3: so the length of a known code, times the rate's numerator, is a second's grains times its denominator
 pub frame-exact : {code : ℕ} → KnownRate code → frameLength code * rateOf code .num ≡ second * rateOf code .den
 unfolding frameLength
-frame-exact {code} known = exact (rateOf code) (known-code evenly nothing-over code known)
+frame-exact {code} known =
+    let r = rateOf code in exact (second * r .den) (r .num) (known-code evenly nothing-over code known)
 
 -- G3: the rate in frames a second, times the frame length, is one second
 pub one-second : {code : ℕ} → KnownRate code → Same (rateOf code · whole (frameLength code)) (whole second)
