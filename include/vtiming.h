@@ -50,8 +50,8 @@
  * 9, a state out of its range, cannot come out of these functions: no state crosses this border.
  *
  * Rate codes: 1 24000/1001, 2 24/1, 3 25/1, 4 30000/1001, 5 30/1, 6 50/1, 7 60000/1001, 8 60/1 frames a second.
- * Times in an answer are whole grains: 27 grains are one nanosecond, 27,000 one microsecond. A frame lasts 27,000,000,000
- * grains, which are one second, times the rate's denominator over its numerator; nothing is left over. */
+ * Times in an answer are whole grains: 27 grains are one nanosecond, 27,000 one microsecond. A second has 27,000,000,000
+ * grains; that, times the rate's denominator, over its numerator, is one frame, and nothing is left over. */
 #ifndef VTIMING_H
 #define VTIMING_H
 

@@ -6,7 +6,8 @@ use Rattle.laws.specs.Count.{count}
 use Rattle.laws.specs.Fold.{fold}
 use Rattle.grain.specs.Paper.{grains, nearest, phase, firstPacketTime, encoded, latency}
 use Rattle.limits.specs.Fraction.{int}
-use Rattle.limits.specs.Paper.{rateOf, frameLength, activeRatio, classOf, cMax, vrxFull, defaultTro, troGrains, troFits, firstNo, setUpRefusal, given}
+use Rattle.limits.specs.Paper.{rateOf, frameLength, activeRatio, classOf, cMax, vrxFull, defaultTro, troGrains, troFits, firstNo}
+use Rattle.limits.specs.Paper.{setUpRefusal, given}
 use Rattle.packet.specs.declared.Packet.{Packet}
 use Rattle.packet.specs.Step.{refusalOf}
 use Rattle.bucket.specs.Paper.{networkNumber, networkFirst, networkLast}

@@ -1,10 +1,12 @@
 -- Where the frame lengths come from. "An engineer asked me what 450,450,000 is" (document 02, iv): it is the 27,000,000,000 grains of a
--- second, times 1001, over 60000, because a stream of rate code 7 has 60000/1001 frames a second. To believe it, read `rates`, `rateOf` and
--- `frameLength` of limits/specs/Paper.antt; the exact fractions, and when two are the same number, are limits/specs/Fraction.antt.
-use Rattle.laws.specs.Kit.{_≡_, _↔_, [], _∷_, map, _*_, _/_, arith}
-use Rattle.limits.specs.Fraction.{whole, _over_, _·_, Same}
+-- second, times 1001, over 60000, because a stream of rate code 7 has 60000/1001 frames a second. To believe it, read `rates`, `rateOf`,
+-- `lengthAt` and `frameLength` of limits/specs/Paper.antt, and `setUpRefusal` there for what set-up refuses; the exact fractions, and when two
+-- are the same number, are limits/specs/Fraction.antt.
+use Rattle.laws.specs.Kit.{_≡_, refl, _↔_, [], _∷_, map, ℕ, _*_, _/_}
+use Rattle.limits.specs.Fraction.{whole, _·_, _÷_, Same}
 use Rattle.limits.specs.declared.Parameters.{Parameters}
 use Rattle.limits.specs.Paper.{rateOf, frameLength, setUpRefusal}
+use Rattle.limits.specs.Accepted.{KnownRate}
 use Rattle.limits.proofs.Rates as proved
 use Rattle.limits.proofs.Accepting as set-up
 
@@ -13,10 +15,10 @@ pub eight-lengths : map frameLength (1 ∷ 2 ∷ 3 ∷ 4 ∷ 5 ∷ 6 ∷ 7 ∷ 8
     ≡ 1126125000 ∷ 1125000000 ∷ 1080000000 ∷ 900900000 ∷ 900000000 ∷ 540000000 ∷ 450450000 ∷ 450000000 ∷ []
 eight-lengths = proved.eight-lengths
 
--- G3: what 450,450,000 is: 60000/1001 frames a second, times 450,450,000 grains, are the 27,000,000,000 grains of a second
-pub the-question : Same (60000 over 1001 · whole 450450000) (whole 27000000000)
+-- G3: what 450,450,000 is: the frame length of rate code 7, which is 27,000,000,000 grains, times 1001, over 60000
+pub the-question : (frameLength 7 ≡ 450450000) × Same (whole (frameLength 7)) (whole 27000000000 · whole 1001 ÷ whole 60000)
 unfolding rateOf frameLength
-the-question = proved.one-second {code = 7} (omega arith, omega arith)
+the-question = (refl, refl)
 
 -- ---- Of the parameters of any stream that set-up accepts.
 
@@ -33,6 +35,10 @@ module _ (p : Parameters) (fine : setUpRefusal p ≡ 0) where
   pub quarters : 4 * (frameLength (p .rate) / 4) ≡ frameLength (p .rate)
   quarters = proved.frame-quarters (set-up.accepted p fine .rate-known)
 
--- G3, N2: a code outside of the table has no frame, and set-up refuses by 1 exactly these
-pub refused-outside : (p : Parameters) → (setUpRefusal p ≡ 1) ↔ (frameLength (p .rate) ≡ 0)
+-- G3, N2: set-up refuses by 1 exactly the codes outside of the table, whatever the other numbers are
+pub refused-outside : (p : Parameters) → (setUpRefusal p ≡ 1) ↔ (KnownRate (p .rate) → ⊥)
 refused-outside = set-up.refused-outside
+
+-- G3: and such a code has no frame
+pub no-frame : (code : ℕ) → (KnownRate code → ⊥) → frameLength code ≡ 0
+no-frame = set-up.no-frame

@@ -1,6 +1,6 @@
 -- Set-up refuses nothing exactly where each of the seven numbers is in its place, and by 1 exactly where the rate's code is not in the table:
 -- each test is its fact, both ways.
-use Rattle.laws.specs.Kit.{_≡_, refl, sym, ap, _∙_, _↔_, _⊎_, inl, inr, Bool, true, false, _&&_, _||_, List, [], _∷_, ℕ, zero, suc, _*_, _≤_}
+use Rattle.laws.specs.Kit.{_≡_, refl, sym, _∙_, _↔_, _⊎_, inl, inr, Bool, true, false, _&&_, _||_, List, [], _∷_, ℕ, zero, suc, _*_, _≤_}
 use Rattle.laws.specs.Kit.{_<_, arith, leb-true, le-leb, leb-false, eqb-true, ltb-true, lt-ltb, leb, ltb, eqb}
 use Rattle.laws.specs.Choose.{pick}
 use Rattle.laws.proofs.Choose.{false-true}
@@ -8,9 +8,8 @@ use Rattle.laws.proofs.Every.{and-left, and-right}
 use Rattle.limits.specs.declared.Parameters.{Parameters}
 use Rattle.limits.specs.Paper.{microsecond, rateOf, frameLength, classOf, allOnes}
 use Rattle.limits.specs.Paper.{within, classFits, maxudpKnown, troFits, firstNo, setUpRefusal}
-use Rattle.limits.specs.Accepted.{Accepted}
+use Rattle.limits.specs.Accepted.{KnownRate, Accepted}
 use Rattle.limits.proofs.Laws.{past-rates}
-use Rattle.limits.proofs.Rates.{frame-least}
 
 -- tests as facts
 
@@ -94,35 +93,40 @@ module _ (p : Parameters) where
 
 -- ---- refused by 1
 
--- a question's number is the answer exactly where it is the first that is answered no
+-- a count that starts above a number does not end at it
 later : (k j : ℕ) (l : List Bool) → suc j < k → firstNo k l ≡ suc j → ⊥
 unfolding firstNo
 later k j [] h e = omega arith
 later k j (true ∷ l) h e = later (suc k) j l (omega arith) e
 later k j (false ∷ l) h e = omega arith
 
+-- the first question's number is the answer exactly where that question is answered no
 first-no : (k : ℕ) (t : Bool) (more : List Bool) → (firstNo (suc k) (t ∷ more) ≡ suc k) ↔ (t ≡ false)
 unfolding firstNo
 first-no k true more = (λ e. absurd (later (suc (suc k)) k more (omega arith) e), λ e. absurd (false-true (sym e)))
 first-no k false more = (λ e. refl, λ e. refl)
 
-no-frame : (code : ℕ) → within 1 8 code ≡ false → frameLength code ≡ 0
-unfolding rateOf frameLength
-no-frame zero e = refl
-no-frame (suc i) e =
-    let low : true ≡ leb 1 (suc i) = sym (le-leb 1 (suc i) (omega arith)) in
-    let high : leb (suc i) 8 ≡ false = ap (λ (t : Bool). t && leb (suc i) 8) low ∙ e in
-    sym (past-rates (suc i) (leb-false (suc i) 8 high))
-
-some-frame : (code : ℕ) → frameLength code ≡ 0 → within 1 8 code ≡ false
-some-frame code e = go (within 1 8 code) refl
+outside : (code : ℕ) → (within 1 8 code ≡ false) ↔ (KnownRate code → ⊥)
+outside code = (λ e known. false-true (sym e ∙ facts-within 1 8 code (known .0) (known .1)), λ other. go (within 1 8 code) refl other)
   where
-    go : (t : Bool) → within 1 8 code ≡ t → within 1 8 code ≡ false
-    go false f = f
-    go true f = absurd (omega (arith, e, frame-least (within-facts 1 8 code f)))
+    go : (t : Bool) → within 1 8 code ≡ t → (KnownRate code → ⊥) → within 1 8 code ≡ false
+    go false f other = f
+    go true f other = absurd (other (within-facts 1 8 code f))
 
--- G3, N2: 1 refuses exactly the codes outside of the table, which have no frame
-pub refused-outside : (p : Parameters) → (setUpRefusal p ≡ 1) ↔ (frameLength (p .rate) ≡ 0)
+-- G3, N2: 1 refuses exactly the codes outside of the table
+pub refused-outside : (p : Parameters) → (setUpRefusal p ≡ 1) ↔ (KnownRate (p .rate) → ⊥)
 unfolding setUpRefusal
 refused-outside p =
-    let first = first-no 0 (within 1 8 (p .rate)) _ in (λ e. no-frame (p .rate) (first .0 e), λ e. first .1 (some-frame (p .rate) e))
+    let first = first-no 0 (within 1 8 (p .rate)) _ in
+    let out = outside (p .rate) in
+    (λ e. out .0 (first .0 e), λ other. first .1 (out .1 other))
+
+-- G3: and these have no frame
+pub no-frame : (code : ℕ) → (KnownRate code → ⊥) → frameLength code ≡ 0
+unfolding rateOf frameLength
+no-frame zero other = refl
+no-frame (suc i) other = go (leb (suc i) 8) refl
+  where
+    go : (t : Bool) → leb (suc i) 8 ≡ t → frameLength (suc i) ≡ 0
+    go true e = absurd (other (omega arith, leb-true (suc i) 8 e))
+    go false e = sym (past-rates (suc i) (leb-false (suc i) 8 e))

@@ -1,4 +1,4 @@
--- What holds of the ratio, the default TRO and any TRO that set-up takes: laws for any frame length, and one computed test of the table
+-- What holds of the ratio, the default TRO and any TRO that set-up takes: laws for any frame length, and a computed test of the table
 -- where document 01 speaks of its rates.
 use Rattle.laws.specs.Kit.{_≡_, refl, _⊎_, inl, inr, Bool, true, false, ℕ, _*_, _%_, _<_, arith}
 use Rattle.laws.specs.Kit.{mul-one, div-lt-iff-lt-mul, eqb-true, eqb-false, leb, eqb}
@@ -32,11 +32,11 @@ pub int-exact : (x : Fraction) → isWhole x ≡ true → int x * x .den ≡ x .
 unfolding int
 int-exact x e = exact (x .num) (x .den) (eqb-true (x .num % x .den) 0 e)
 
--- S7: the one test of the table, for a tall picture and a low one
+-- the test of an entry of the table, at a height
 abbrev pub wholeAt : ℕ → Fraction → Test
 wholeAt height rate = is (isWhole (defaultTro (lengthAt rate) height))
 
--- S7: so the default of any code at any height is whole
+-- S7: the default of any code at any height is whole
 pub default-whole : (rate height : ℕ) → isWhole (defaultTro (frameLength rate) height) ≡ true
 unfolding defaultTro frameLength after
 default-whole rate height =

@@ -5,8 +5,8 @@ use Rattle.laws.specs.Kit.{mul-one, one-mul, mul-comm, mul-assoc, mul-left-comm
 use Rattle.laws.specs.Kit.{div-add-mod', div-le-of-le-mul, List·getD-eq-default}
 use Rattle.laws.proofs.Choose.{false-true}
 use Rattle.limits.specs.Fraction.{whole, _·_, _÷_, int}
-use Rattle.limits.specs.Paper.{second, rates, noRate, rateOf, lengthAt, frameLength, activeRatio, seconds, classes, classOf, cMax, vrxFull, classFits}
-use Rattle.limits.specs.Paper.{firstNo}
+use Rattle.limits.specs.Paper.{second, rates, noRate, rateOf, lengthAt, frameLength, activeRatio, seconds, classes, classOf}
+use Rattle.limits.specs.Paper.{cMax, vrxFull, classFits, firstNo}
 use Rattle.limits.specs.Steps.{Divides}
 use Rattle.limits.specs.declared.Class.{Class}
 use Rattle.limits.specs.declared.Class.the-variants.{Unknown}

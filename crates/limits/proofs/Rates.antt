@@ -1,5 +1,5 @@
--- What holds of the rates and their frame lengths, none shown rate by rate: by one computed test of the table, and a law that carries
--- what each entry passes to the code that looks it up.
+-- What holds of the rates and their frame lengths, none shown rate by rate: each by one computed test of the table, and a law that
+-- carries what every entry passes to the code that looks it up.
 use Rattle.laws.specs.Kit.{_≡_, refl, _∙_, true, List, [], _∷_, map, ℕ, zero, suc, _*_, _/_, _%_, _≤_, arith, zero-le, mul-comm, mul-one}
 use Rattle.laws.specs.Kit.{not-suc-le-zero, getD, length}
 use Rattle.laws.specs.Every.{Test, at-most, same, is, Means, after, every}
@@ -11,7 +11,7 @@ use Rattle.limits.proofs.Laws.{exact}
 
 -- ---- from the table to a code
 
--- an entry passes what every entry passes; a place past the table's end has what stands for no entry
+-- what stands at a place passes: by the test of that place or, past the table's end, because what stands for no entry passes
 passed : {A : Type 0} (t : A → Test) (d : A) (l : List A) (i : ℕ) → Means (getD (map t l) i (is true)) → (length l ≤ i → Means (t d))
     → Means (t (getD l i d))
 passed t d [] i m past = past zero-le
@@ -34,15 +34,15 @@ abbrev pub evenly : Fraction → Test
 evenly rate = same (second * rate .den % rate .num) 0
 
 -- G3: "with the division shown to leave nothing over": the one test of the table
-pub nothing-over : every (map evenly rates) ≡ true
+pub rates-divide : every (map evenly rates) ≡ true
 unfolding after
-nothing-over = refl
+rates-divide = refl
 
 -- G3: so the length of a known code, times the rate's numerator, is a second's grains times its denominator
 pub frame-exact : {code : ℕ} → KnownRate code → frameLength code * rateOf code .num ≡ second * rateOf code .den
 unfolding frameLength
 frame-exact {code} known =
-    let r = rateOf code in exact (second * r .den) (r .num) (known-code evenly nothing-over code known)
+    let r = rateOf code in exact (second * r .den) (r .num) (known-code evenly rates-divide code known)
 
 -- G3: the rate in frames a second, times the frame length, is one second
 pub one-second : {code : ℕ} → KnownRate code → Same (rateOf code · whole (frameLength code)) (whole second)
@@ -63,7 +63,8 @@ frame-quarters {code} known = known-code (λ rate. same (4 * (lengthAt rate / 4)
 
 -- ---- how large they are
 
--- no rate is below 24000/1001 or above 60: so no frame, of an unknown code neither, is longer, and none of a known code is shorter
+-- the slowest rate is 24000/1001 and the fastest 60: no code, known or not, has a longer frame than the one, and no known code a shorter
+-- frame than the other
 pub frame-most : (code : ℕ) → 24000 * frameLength code ≤ 1001 * second
 unfolding frameLength after
 frame-most code = any-code (λ rate. at-most (24000 * lengthAt rate) (1001 * second)) refl code

@@ -24,7 +24,7 @@ abbrev pub noRate : Fraction
 noRate = 1 over 0
 
 unfoldable pub rateOf : ℕ → Fraction
-rateOf rate = getD (noRate ∷ rates) rate noRate
+rateOf code = getD (noRate ∷ rates) code noRate
 
 -- G3: "27,000,000,000 times the rate's denominator over its numerator" (document 02, iv), in grains. That nothing is left over, and that the
 -- eight lengths are those of document 01: proofs/Rates.antt.
@@ -32,7 +32,7 @@ abbrev pub lengthAt : Fraction → ℕ
 lengthAt rate = second * rate .den / rate .num
 
 unfoldable pub frameLength : ℕ → ℕ
-frameLength rate = lengthAt (rateOf rate)
+frameLength code = lengthAt (rateOf code)
 
 -- S8: "With T the frame in seconds"
 abbrev pub seconds : ℕ → Fraction
