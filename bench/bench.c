@@ -10,7 +10,7 @@
 #include <string.h>
 #include <time.h>
 
-#define ROW 10
+#define ROW 11
 #define SUMMARY 9
 #define UNTOUCHED 0x5555555555555555ll
 #define DEFAULT_TRO 0xFFFFFFFFu
@@ -180,7 +180,7 @@ static void agree_on_short_lists(unsigned lists)
             if (below(2)) l.markers[i] = 2;
             else l.arrivals[i] = below(2) ? l.arrivals[i] / 2 : l.arrivals[i] + 600000000001ull;
         }
-        by_answer[agree(s, l, below(10) ? 2000 : below(200))]++;
+        by_answer[agree(s, l, below(10) ? 200 * ROW : below(200))]++;
         free_list(l);
     }
     printf("%u short lists: the two agree;", lists);

@@ -14,9 +14,9 @@
 uint32_t vtiming_set_up(uint8_t rate, uint8_t schedule, uint8_t class, uint16_t height, uint32_t n, uint16_t maxudp, uint32_t tro,
                         uint64_t *state, size_t state_count);
 
-/* A call's packets: 9 (too few words too), 10, 11 to 14, then 15 for fewer than ten row numbers a frame closed or fewer than nine
-   of `out`, and nothing written; or 0, the state's words after the call, the rows, and packets, frames, peak, network (number,
-   first, last) and buffer (number, frame, place) in `out`. */
+/* A call's packets: 9 (too few words too), 10, 11 to 14, then 15 for fewer than eleven row numbers a frame closed or fewer than
+   nine of `out`, and nothing written; or 0, the state's words after the call, the rows, and packets, frames, peak, network
+   (number, first, last) and buffer (number, frame, place) in `out`. */
 uint32_t vtiming_feed(uint64_t *state, size_t state_count, const uint64_t *arrivals, size_t arrival_count, const uint32_t *stamps,
                       size_t stamp_count, const uint8_t *markers, size_t marker_count, int64_t *rows, size_t row_count, uint64_t *out,
                       size_t out_count);

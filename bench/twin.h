@@ -14,7 +14,7 @@
 #define LONGEST 600000000000ull    /* nanoseconds from the first packet to the last */
 #define MOST 1000000000u           /* packets */
 #define DEFAULT_TRO 0xFFFFFFFFu
-#define ROW 10
+#define ROW 11
 #define SUMMARY 9
 
 enum { NARROW = 1, NARROW_LINEAR = 2, WIDE = 3 };
@@ -154,13 +154,14 @@ INLINE void arrives(struct twin *w, const struct rules *r, uint64_t t, uint32_t 
     w->held++;
 }
 
-/* The frame that a marker closes: its ten numbers, and the buffer's answer. */
+/* The frame that a marker closes: its eleven numbers, and the buffer's answer. */
 INLINE void row_of(struct twin *w, const struct rules *r, int64_t *row)
 {
     int kind = w->held < r->n ? 1 : w->held > r->n ? 2 : w->differs >= 0 ? 3 : 0;
     for (int k = 0; k < ROW; k++) row[k] = 0;
     row[0] = (int64_t)w->closed;
     row[1] = kind;
+    row[10] = (int64_t)(w->packets - w->held); /* all packets up to the marker, less the frame's own */
     if (kind != 0) {
         row[2] = kind == 3 ? w->differs : (int64_t)w->held;
         return;

@@ -63,17 +63,26 @@ extern "C" {
 #endif
 
 /* The version of this header and of the archive that it belongs to. */
-#define VTIMING_VERSION "1.1.0"
-#define VTIMING_VERSION_MAJOR 1
-#define VTIMING_VERSION_MINOR 1
+#define VTIMING_VERSION "2.0.0"
+#define VTIMING_VERSION_MAJOR 2
+#define VTIMING_VERSION_MINOR 0
 #define VTIMING_VERSION_PATCH 0
 
 /* A TRO of all ones stands for the default: 43F/1125 from height 1080 on, 28F/750 below. */
 #define VTIMING_DEFAULT_TRO UINT32_C(0xFFFFFFFF)
 
-/* Room for vtiming_measure: the summary, and a row for each frame that closes. vtiming_measure_room adds them up. */
+/* Room for vtiming_measure: the summary, and a row for each frame that closes. vtiming_measure_room adds them up. Or without
+ * asking: VTIMING_ENOUGH_BYTES(file_len), six times the file's length, is always enough. That is proved of every file (in the
+ * project's repository, crates/demands/specs/Calls.antt: room-at-most and always-enough). Five times is too little where nearly
+ * every packet closes a frame. */
 #define VTIMING_SUMMARY_BYTES 72
-#define VTIMING_ROW_BYTES 80
+#define VTIMING_ROW_BYTES 88
+#define VTIMING_ENOUGH_BYTES(file_len) (6 * (file_len))
+
+/* How many numbers stand in front of the rows, and how many a row has: number j of row r, both from 0, is number
+ * VTIMING_SUMMARY_NUMBERS + VTIMING_ROW_NUMBERS * r + j of the answer. */
+#define VTIMING_SUMMARY_NUMBERS 9
+#define VTIMING_ROW_NUMBERS 11
 
 /* Room for vtiming_write: version and parameters, and a record for each packet. */
 #define VTIMING_HEAD_BYTES 19
@@ -129,7 +138,7 @@ enum vtiming_buffer_answer {
 /* Measures a whole record file.
  *
  *   file, file_len   the file's bytes, all of them
- *   out, out_len     room for the answer: 72 bytes and 80 for each frame that closes; vtiming_measure_room says how many
+ *   out, out_len     room for the answer: 72 bytes and 88 for each frame that closes; vtiming_measure_room says how many
  *
  * The answer is a row of numbers, each 8 bytes, signed, big-endian; vtiming_number reads one of them:
  *
@@ -142,9 +151,17 @@ enum vtiming_buffer_answer {
  *   7                the first failing frame; 0 where none fails
  *   8                under: the first packet that came too late, from 0 in its frame; over: the buffer's peak; else 0
  *
- * and then for each frame ten: frame number from 0; kind (0 whole, 1 short, 2 long, 3 stamp); detail (the count of packets
- * for 1 and 2, the place of the first differing timestamp for 3, else 0); FPT; RTP_OFFSET; VL; margin; GAP (five times in
- * grains); the buffer's peak; its least. For kinds 1 to 3 the last seven are 0. So number j of row r is 9 + 10·r + j of all.
+ * and then a row of eleven for each frame:
+ *
+ *   0  frame         its number, from 0
+ *   1  kind          0 whole, 1 short, 2 long, 3 stamp
+ *   2  detail        the count of packets for 1 and 2, the place of the first differing timestamp for 3, else 0
+ *   3 to 7           FPT, RTP_OFFSET, VL, margin, GAP: five times in grains
+ *   8, 9             the buffer's peak; its least
+ *   10 first packet  where the frame began: the place of its first packet among all packets of the file, from 0, the lead-in
+ *                    counted. Its record is at byte 19 + 16·place of the file
+ *
+ * For kinds 1 to 3 the numbers 3 to 9 are 0; the last is filled for every kind. So number j of row r is 9 + 11·r + j of all.
  *
  * Refuses by 20 to 23, 1 to 7 and 11 to 14 at the first record that is refused, and by 15 after all else. */
 uint32_t vtiming_measure(const uint8_t *file, size_t file_len, uint8_t *out, size_t out_len);
@@ -154,11 +171,11 @@ uint32_t vtiming_measure(const uint8_t *file, size_t file_len, uint8_t *out, siz
 uint64_t vtiming_measure_offset(const uint8_t *file, size_t file_len, size_t out_len);
 
 /* How many bytes vtiming_measure fills for this file, so that no host has to guess: ask, lend as many, measure. That is 72
- * and 80 for each frame that closes; one byte fewer would be refused by 15. It is 0 for a file that vtiming_measure refuses
+ * and 88 for each frame that closes; one byte fewer would be refused by 15. It is 0 for a file that vtiming_measure refuses
  * whatever is lent, by 20 to 23, 1 to 7 or 11 to 14. */
 uint64_t vtiming_measure_room(const uint8_t *file, size_t file_len);
 
-/* Number k, from 0, of what vtiming_measure has filled; k is below 9 + 10·frames. It is C of this header, and is tried but
+/* Number k, from 0, of what vtiming_measure has filled; k is below 9 + 11·frames. It is C of this header, and is tried but
  * not proved. */
 static inline int64_t vtiming_number(const uint8_t *answer, size_t k)
 {

@@ -1,10 +1,12 @@
 /* Tries what the package installs, as somebody else's program would use it: prints of each record file that is named what
  * `vtiming` prints of it, by the C functions and the names of the header alone; before that, the header's version. tools/package
- * compiles it as C and as C++ and compares what it prints. It lends room for one frame; and no file here closes a frame before
- * it is refused, which the program would print and the C call does not tell. */
+ * compiles it as C and as C++ and compares what it prints. No file here closes a frame before it is refused, which the program
+ * would print and the C call does not tell. */
 #include <vtiming.h>
 #include <inttypes.h>
 #include <stdio.h>
+
+enum { LONGEST = 65536 };
 
 #define TRY(what)                                                   \
     do {                                                            \
@@ -66,7 +68,7 @@ static void put_verdict(const uint8_t *answer)
 
 static int put_file(const uint8_t *file, size_t size)
 {
-    uint8_t answer[VTIMING_SUMMARY_BYTES + VTIMING_ROW_BYTES];
+    static uint8_t answer[VTIMING_ENOUGH_BYTES(LONGEST)];
     size_t room = (size_t)vtiming_measure_room(file, size);
     TRY(room <= sizeof answer);
     uint32_t refused = vtiming_measure(file, size, answer, room);
@@ -75,9 +77,10 @@ static int put_file(const uint8_t *file, size_t size)
         printf("refused %s %" PRIu64 "\n", refusal(refused), vtiming_measure_offset(file, size, room));
         return 0;
     }
-    for (size_t row = 9; row < 9 + 10 * (size_t)vtiming_number(answer, 1); row += 10) {
+    for (int64_t frame = 0; frame < vtiming_number(answer, 1); frame++) {
+        size_t row = VTIMING_SUMMARY_NUMBERS + VTIMING_ROW_NUMBERS * (size_t)frame;
         printf("frame %" PRId64 " %s", vtiming_number(answer, row), kind(vtiming_number(answer, row + 1)));
-        for (size_t k = row + 2; k < row + 10; k++) printf(" %" PRId64, vtiming_number(answer, k));
+        for (size_t k = row + 2; k < row + VTIMING_ROW_NUMBERS; k++) printf(" %" PRId64, vtiming_number(answer, k));
         printf("\n");
     }
     printf("packets %" PRId64 " frames %" PRId64 " peak %" PRId64 " ", vtiming_number(answer, 0), vtiming_number(answer, 1),
@@ -135,6 +138,9 @@ static int try_answers(void)
     TRY(vtiming_number(answer, 9 + 6) == 20640000 + 27000);
     if (measured(4, 3, 20700000, 4800000, 11, answer)) return 1;
     TRY(vtiming_number(answer, 9 + 1) == VTIMING_FRAME_SHORT && vtiming_number(answer, 6) == VTIMING_BUFFER_NONE);
+    /* Nothing of it is measured, but it is told where it began: after the lead-in packet. */
+    for (size_t k = 3; k < 10; k++) TRY(vtiming_number(answer, 9 + k) == 0);
+    TRY(vtiming_number(answer, 9 + 10) == 1);
     if (measured(4, 5, 20700000, 4800000, 11, answer)) return 1;
     TRY(vtiming_number(answer, 9 + 1) == VTIMING_FRAME_LONG && vtiming_number(answer, 9 + 2) == 5);
     if (measured(4, 4, 20700000, 4800000, 2, answer)) return 1;
@@ -146,6 +152,24 @@ static int try_answers(void)
     if (measured(10, 10, 20100000, 0, 11, answer)) return 1;
     TRY(vtiming_number(answer, 6) == VTIMING_BUFFER_OVER && vtiming_number(answer, 8) == 10);
     TRY(vtiming_number(answer, 3) == VTIMING_NETWORK_BURST);
+    return 0;
+}
+
+/* As many frames as packets allow, each of one packet: six times the file is enough room, five times is not. */
+static int try_room(void)
+{
+    enum { PACKETS = 14, SIZE = VTIMING_HEAD_BYTES + PACKETS * VTIMING_PACKET_BYTES };
+    uint64_t arrivals[PACKETS] = {0};
+    uint32_t stamps[PACKETS] = {0};
+    uint8_t markers[PACKETS], file[SIZE], answer[VTIMING_ENOUGH_BYTES(SIZE)];
+    for (size_t k = 0; k < PACKETS; k++) markers[k] = 1;
+    TRY(vtiming_write(6, 0, 1, 1080, 1, 1460, VTIMING_DEFAULT_TRO, arrivals, PACKETS, stamps, PACKETS, markers, PACKETS, file, SIZE) ==
+        VTIMING_ACCEPTED);
+    TRY(vtiming_measure_room(file, SIZE) == VTIMING_SUMMARY_BYTES + (PACKETS - 1) * VTIMING_ROW_BYTES);
+    TRY(vtiming_measure(file, SIZE, answer, 5 * SIZE) == VTIMING_REFUSED_ROOM);
+    TRY(vtiming_measure(file, SIZE, answer, VTIMING_ENOUGH_BYTES(SIZE)) == VTIMING_ACCEPTED);
+    for (int64_t frame = 0; frame < PACKETS - 1; frame++)
+        TRY(vtiming_number(answer, VTIMING_SUMMARY_NUMBERS + VTIMING_ROW_NUMBERS * (size_t)frame + 10) == frame + 1);
     return 0;
 }
 
@@ -163,8 +187,8 @@ static int try_limits_and_graph(void)
 
 int main(int count, char **names)
 {
-    static uint8_t file[65536];
-    if (try_decoder() || try_answers() || try_limits_and_graph()) return 1;
+    static uint8_t file[LONGEST];
+    if (try_decoder() || try_answers() || try_room() || try_limits_and_graph()) return 1;
     printf("%s %d.%d.%d\n", VTIMING_VERSION, VTIMING_VERSION_MAJOR, VTIMING_VERSION_MINOR, VTIMING_VERSION_PATCH);
     for (int k = 1; k < count; k++) {
         FILE *from = fopen(names[k], "rb");

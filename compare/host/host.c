@@ -23,6 +23,7 @@
 enum { MEASURE = 1, WRITE, LIMITS, GRAPH, SET_UP, FEED, CALLS };
 enum { ARRIVALS, STAMPS, MARKERS, FILE_BYTES, OUT, STATE, ROWS, AREAS };
 enum { LARGEST_PAGE = 1 << 16, GUARD = 256, MOST_LENT = 1 << 22, SECONDS = 100 };
+enum { SUMMARY_BYTES = 9 * 8, ROW_BYTES = 11 * 8 };
 
 static const char *const call_names[CALLS] = {"",              "vtiming_measure", "vtiming_write", "vtiming_limits",
                                               "vtiming_graph", "vtiming_set_up",  "vtiming_feed"};
@@ -201,13 +202,18 @@ static void *pointer(const struct lent *lent) { return lent->size == 0 && (turn 
 /* --- what was seen --- */
 
 static uint64_t cases[CALLS], calls_made, seen[CALLS][25], kinds[4], networks[2], buffers[4], accepted_room[2], refused_room[3];
-static uint64_t round_trips, cuttings, large_rooms;
+static uint64_t placed_broken, round_trips, cuttings, large_rooms;
 
 static void count_answer(struct bytes answer) {
     uint64_t frames = big_endian(answer.at + 8, 8);
     networks[big_endian(answer.at + 24, 8) & 1]++;
     buffers[big_endian(answer.at + 48, 8) & 3]++;
-    for (uint64_t i = 0; i < frames; i++) kinds[big_endian(answer.at + 72 + 80 * i + 8, 8) & 3]++;
+    for (uint64_t i = 0; i < frames; i++) {
+        const uint8_t *row = answer.at + SUMMARY_BYTES + ROW_BYTES * i;
+        uint64_t kind = big_endian(row + 8, 8) & 3, place = big_endian(row + 80, 8);
+        kinds[kind]++;
+        placed_broken += kind > 0 && place > 0;
+    }
 }
 
 static void count_room(const struct room *room, uint64_t needed) {
@@ -554,7 +560,7 @@ static void take_feed(void) {
     f->answer.number = (uint32_t)take_number(1);
     f->answer.place = take_number(8);
     if (f->answer.number) return;
-    f->nine = take_bytes(72);
+    f->nine = take_bytes(SUMMARY_BYTES);
     f->rows = take_bytes(8 * take_number(4));
 }
 
@@ -621,6 +627,7 @@ static int tell(void) {
     tell_numbers(SET_UP, "0 1 2 3 4 5 6 7 15");
     tell_numbers(FEED, "0 9 10 11 12 13 14 15");
     printf("  rows:"), told("whole", kinds[0]), told("short", kinds[1]), told("long", kinds[2]), told("stamp", kinds[3]);
+    told("broken with its first packet's place", placed_broken);
     printf("\n  network:"), told("pass", networks[0]), told("burst", networks[1]);
     printf("; buffer:"), told("none", buffers[0]), told("pass", buffers[1]), told("under", buffers[2]), told("over", buffers[3]);
     printf("\n  rooms:"), told("exact", accepted_room[0]), told("larger", accepted_room[1]), told("one short", refused_room[1]);

@@ -1,5 +1,5 @@
 //! One call after an accepted history: the refusals 10 and 15 that a whole
-//! list does not show. (9 depends on ranges given outside document 01: `ranges`.)
+//! list does not show. (9 depends on ranges given outside both documents: `ranges`.)
 
 use crate::measure::{measure_accepted, Measurement, Row, ROW_NUMBERS};
 use crate::numbers::{set_up, Numbers};
@@ -31,8 +31,9 @@ pub fn call(
     let before = measure_accepted(&limits, history);
     let after = measure_accepted(&limits, &[history, &packets].concat());
     let rows = after.rows[before.rows.len()..].to_vec();
-    // "15: fewer than ten row numbers per frame closed in this call"; its
-    // place is "the call's first packet's".
+    // "15: fewer than ten row numbers per frame closed in this call", and
+    // request (ii): "15 is given below eleven numbers per frame"; its place is
+    // "the call's first packet's".
     if room < ROW_NUMBERS * rows.len() {
         return Err(Refusal::new(15, history.len() as u64));
     }

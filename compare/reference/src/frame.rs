@@ -10,6 +10,8 @@ pub struct Frame<'a> {
     pub packets: &'a [Packet],
     /// "the marker packet before it".
     pub marker_before: &'a Packet,
+    /// Request (ii): "the place in the history of the frame's first packet".
+    pub place: usize,
 }
 
 /// Kind and detail of a frame.
@@ -27,13 +29,31 @@ pub fn closed_frames(packets: &[Packet]) -> Vec<Frame<'_>> {
     let markers: Vec<usize> = (0..packets.len())
         .filter(|&i| packets[i].marker == 1)
         .collect();
-    markers
+    let frames: Vec<Frame> = markers
         .windows(2)
         .map(|pair| Frame {
             packets: &packets[pair[0] + 1..=pair[1]],
             marker_before: &packets[pair[0]],
+            place: pair[0] + 1,
         })
-        .collect()
+        .collect();
+    let places: Vec<usize> = frames.iter().map(|frame| frame.place).collect();
+    assert_eq!(places, packets_before(packets)[..places.len()]);
+    frames
+}
+
+/// How many packets came before each frame, the open one too: those of the
+/// lead-in and of every frame before it. As places are counted from 0, that is
+/// the place of its first packet.
+fn packets_before(packets: &[Packet]) -> Vec<usize> {
+    let mut so_far = 0;
+    let mut before = vec![];
+    for piece in packets.split_inclusive(|packet| packet.marker == 1) {
+        before.push(so_far);
+        so_far += piece.len();
+    }
+    // The first piece is the lead-in.
+    before.into_iter().skip(1).collect()
 }
 
 impl Frame<'_> {

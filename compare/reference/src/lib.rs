@@ -1,9 +1,11 @@
 //! An independent reference for vtiming by Kirikolatz.
 //!
-//! Everything here is written from document 01 alone ("What is being built,
-//! with exact rules"). It is naive on purpose: 128-bit whole numbers, exact
-//! fractions compared by cross-multiplication, vectors of events, and where a
-//! thing can be worked out in two ways both are done and asserted to agree.
+//! Everything here is written from document 01 ("What is being built, with
+//! exact rules") and the requests of document 02 ("Changes to make after the
+//! base") that have landed, alone. It is naive on purpose: 128-bit whole
+//! numbers, exact fractions compared by cross-multiplication, vectors of
+//! events, and where a thing can be worked out in two ways both are done and
+//! asserted to agree.
 //! No floating point is used except for the figures of the graph.
 
 pub mod bucket;

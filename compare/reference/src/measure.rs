@@ -7,8 +7,9 @@ use crate::packet::{first_refused, Packet, Past};
 use crate::reads::reading;
 use crate::Refusal;
 
-/// "A closed frame writes ten numbers".
-pub const ROW_NUMBERS: usize = 10;
+/// "A closed frame writes ten numbers", and request (ii): "Each row gets an
+/// eleventh number".
+pub const ROW_NUMBERS: usize = 11;
 pub type Row = [i64; ROW_NUMBERS];
 
 /// "Network: pass, or burst with first and last packet of the failing run".
@@ -82,20 +83,23 @@ fn judge(limits: &Limits, number: usize, frame: &Frame) -> Judged {
         judge_whole(limits, number, frame)
     } else {
         Judged {
-            row: broken_row(number, kind),
+            row: broken_row(number, kind, frame.place),
             buffer: Buffer::None,
         }
     }
 }
 
-/// "For kinds 1 to 3 the last seven are 0."
-fn broken_row(number: usize, kind: Kind) -> Row {
+/// "For kinds 1 to 3 the last seven are 0": of the ten, as request (ii) has the
+/// eleventh "filled for broken frames too".
+fn broken_row(number: usize, kind: Kind, place: usize) -> Row {
     let (kind, detail) = kind.numbers();
-    [number as i64, kind, detail, 0, 0, 0, 0, 0, 0, 0]
+    let (number, place) = (number as i64, place as i64);
+    [number, kind, detail, 0, 0, 0, 0, 0, 0, 0, place]
 }
 
 /// "frame number from 0; kind; detail [...]; FPT; RTP_OFFSET; VL; margin; GAP;
-/// VRX peak; VRX least."
+/// VRX peak; VRX least", and request (ii): "the place in the history of the
+/// frame's first packet".
 fn judge_whole(limits: &Limits, number: usize, frame: &Frame) -> Judged {
     let times = times(limits, frame);
     let reading = reading(limits, times.t_cf, frame.packets);
@@ -110,6 +114,7 @@ fn judge_whole(limits: &Limits, number: usize, frame: &Frame) -> Judged {
         narrow(times.gap),
         narrow(reading.peak),
         narrow(reading.least),
+        frame.place as i64,
     ];
     let frame = number as u64;
     // "in one frame under goes first."

@@ -8,7 +8,8 @@ use crate::Refusal;
 /// The whole text on standard output. "It prints `frame` and the ten numbers
 /// of each row as it closes, then one last line: packets, frames closed, peak,
 /// verdicts [...]; or, after the rows closed before a refusal, `refused`,
-/// number, offset."
+/// number, offset." Request (ii): "Printed frame lines and the C call's rows
+/// grow by it", the eleventh number.
 pub fn expected_output(bytes: &[u8]) -> String {
     let reading = read(bytes);
     let measurement = measured(&reading);

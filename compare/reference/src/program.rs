@@ -1,5 +1,5 @@
 //! Runs `vtiming` on files, whole and in pieces, and holds what it prints
-//! against what document 01 asks for.
+//! against what documents 01 and 02 ask for.
 
 use std::collections::BTreeMap;
 use std::fs::File;
@@ -64,7 +64,8 @@ pub enum Way {
     Pieces(&'static [usize]),
     /// Through a pipe, up to the end of each marker packet; the rest is held
     /// back until the rows closed so far have come out: the program "prints
-    /// `frame` and the ten numbers of each row as it closes".
+    /// `frame` and the ten numbers of each row as it closes", by request (ii)
+    /// eleven.
     Live,
 }
 
@@ -524,7 +525,7 @@ mod tests {
         let bytes = crate::write(&numbers, &[packet; 2]);
         let ends = row_ends(&bytes);
         assert_eq!((ends[0], ends.len()), ((35, 0), 2));
-        assert_eq!(ends[1], (51, "frame 0 0 0 0 0 0 20640000 0 1 0\n".len()));
+        assert_eq!(ends[1], (51, "frame 0 0 0 0 0 0 20640000 0 1 0 1\n".len()));
         let scratch = Path::new("");
         let through_cat = run(&bytes, Way::Live, &["cat"], scratch).unwrap();
         assert!(!through_cat.contains(HELD_BACK));

@@ -1,16 +1,18 @@
 //! Document 01, sentence by sentence: its twelve cases, its example, and every
-//! refusal number that can occur.
+//! refusal number that can occur; and request (ii) of document 02.
 
 use vtiming_reference::bucket::{drain_instant, Run};
+use vtiming_reference::feed::Lists;
 use vtiming_reference::fraction::Fraction;
 use vtiming_reference::frame::{closed_frames, times};
+use vtiming_reference::measure::Row;
 use vtiming_reference::numbers::{GRAINS_PER_TICK, WRAP};
 use vtiming_reference::packet::LONGEST_HISTORY;
 use vtiming_reference::reads::{read_instant, reading};
 use vtiming_reference::*;
 
 const EXAMPLE: &str = "\
-frame 0 0 0 18900000 0 18900000 1740000 45900000 1 0
+frame 0 0 0 18900000 0 18900000 1740000 45900000 1 0 1
 packets 5 frames 1 peak 2 network pass buffer pass
 ";
 
@@ -328,8 +330,8 @@ fn refusals_10_and_15_of_one_call() {
     let numbers = narrow(1);
     let history = packets(&[(1, 0, 1), (2, 0, 1)]);
     let lists: (&[u64], &[u32], &[u8]) = (&[3, 4], &[0, 0], &[1, 1]);
-    assert_eq!(call(&numbers, &history, lists, 19), Err(refused(15, 2)));
-    let answer = call(&numbers, &history, lists, 20).unwrap();
+    assert_eq!(call(&numbers, &history, lists, 21), Err(refused(15, 2)));
+    let answer = call(&numbers, &history, lists, 22).unwrap();
     assert_eq!((answer.rows.len(), answer.after.frames), (2, 3));
     assert_eq!(answer.rows[0][0], 1);
     let uneven: (&[u64], &[u32], &[u8]) = (&[3, 4], &[0], &[1, 2]);
@@ -478,7 +480,7 @@ fn parameters_alone_are_a_file() {
 #[test]
 fn the_c_call_on_the_example() {
     let file = example_file();
-    let (number, offset, bytes) = expected_c_call(&file, 8 * 19);
+    let (number, offset, bytes) = expected_c_call(&file, 8 * 20);
     assert_eq!((number, offset), (0, 0));
     let bytes = bytes.unwrap();
     let values: Vec<i64> = bytes
@@ -490,11 +492,11 @@ fn the_c_call_on_the_example() {
         })
         .collect();
     let row = [
-        0, 0, 0, 18_900_000, 0, 18_900_000, 1_740_000, 45_900_000, 1, 0,
+        0, 0, 0, 18_900_000, 0, 18_900_000, 1_740_000, 45_900_000, 1, 0, 1,
     ];
     assert_eq!(values[..9], [5, 1, 2, 0, 0, 0, 1, 0, 0]);
     assert_eq!(values[9..], row);
-    assert_eq!(expected_c_call(&file, 8 * 19 - 1), (15, 99, None));
+    assert_eq!(expected_c_call(&file, 8 * 20 - 1), (15, 99, None));
     // After all else.
     assert_eq!(expected_c_call(&file[..98], 0), (21, 83, None));
 }
@@ -530,9 +532,9 @@ fn kinds_in_their_order_and_frame_numbers() {
         heads,
         [[0, 1, 2], [1, 2, 4], [2, 3, 2], [3, 3, 1], [4, 0, 0]]
     );
-    assert!(rows[..4].iter().all(|row| row[3..] == [0; 7]));
+    assert!(rows[..4].iter().all(|row| row[3..10] == [0; 7]));
     assert_eq!(rows[4][3], -81_000);
-    assert_eq!(rows[4][8..], [3, 0]);
+    assert_eq!(rows[4][8..10], [3, 0]);
 }
 
 #[test]
@@ -558,7 +560,7 @@ fn over_and_the_first_failing_frame() {
         packet: 2,
     };
     let measurement = measure(&numbers, &list).unwrap();
-    assert_eq!(measurement.rows[1][8..], [2, -1]);
+    assert_eq!(measurement.rows[1][8..10], [2, -1]);
     assert_eq!(measurement.buffer, under);
 }
 
@@ -598,4 +600,87 @@ fn arrivals_at_the_end_of_64_bits() {
     assert_eq!(i128::from(row[3]), grains - t_cf);
     assert_eq!(i128::from(row[5]), grains % WRAP);
     assert_eq!(row[7], 27);
+}
+
+// --- request (ii): "the place in the history of the frame's first packet" ---
+
+/// The eleventh number of each row.
+fn places(rows: &[Row]) -> Vec<i64> {
+    rows.iter().map(|row| row[10]).collect()
+}
+
+/// One call with just these packets.
+fn call_with(history: &[Packet], list: &[Packet], room: usize) -> Result<CallAnswer, Refusal> {
+    let Lists {
+        arrivals,
+        timestamps,
+        markers,
+    } = Lists::of(list);
+    call(&three(), history, (&arrivals, &timestamps, &markers), room)
+}
+
+#[test]
+fn the_example_ends_its_frame_line_with_1() {
+    let rows = measure(&narrow(4), &example_packets()).unwrap().rows;
+    assert_eq!(places(&rows), [1]);
+    let text = expected_output(&example_file());
+    assert!(text.lines().next().unwrap().ends_with(" 1"));
+}
+
+#[test]
+fn places_are_counted_from_0_with_the_lead_in() {
+    // A lead-in of 5 packets, of which the last is its marker.
+    let mut list = packets(&[(0, 0, 0); 4]);
+    list.extend(frames_of(&[&[1, 1, 1], &[1, 1, 1]]));
+    let rows = measure(&three(), &list).unwrap().rows;
+    assert_eq!(places(&rows), [5, 8]);
+}
+
+#[test]
+fn a_place_is_filled_for_broken_frames_too() {
+    let list = frames_of(&[&[1, 2], &[1, 1, 1, 2], &[1, 1, 2], &[1, 1, 1], &[1]]);
+    let rows = measure(&three(), &list).unwrap().rows;
+    let kinds: Vec<i64> = rows.iter().map(|row| row[1]).collect();
+    assert_eq!(kinds, [1, 2, 3, 0, 1]);
+    assert_eq!(places(&rows), [1, 3, 7, 10, 13]);
+}
+
+/// Wherever a list is cut in two, and fed one packet a call: places count
+/// since set-up.
+#[test]
+fn a_place_is_counted_from_set_up_and_not_from_the_call() {
+    let list = frames_of(&[&[1, 2], &[1, 1, 1], &[1, 1, 2]]);
+    let of_call = |from, to| call_with(&list[..from], &list[from..to], 33).unwrap().rows;
+    for cut in 0..=list.len() {
+        let rows = [of_call(0, cut), of_call(cut, list.len())].concat();
+        assert_eq!(places(&rows), [1, 3, 6]);
+    }
+    let singly: Vec<Row> = (0..list.len()).flat_map(|i| of_call(i, i + 1)).collect();
+    assert_eq!(places(&singly), [1, 3, 6]);
+}
+
+#[test]
+fn fifteen_is_given_below_eleven_numbers_per_frame() {
+    let list = frames_of(&[&[1, 1, 1], &[1, 2], &[1, 1, 1, 1]]);
+    // The call closes the frames after the first; a broken one needs as many.
+    for (end, needed) in [(4, 0), (5, 0), (6, 11), (9, 11), (10, 22)] {
+        let answer = |room| call_with(&list[..4], &list[4..end], room).err();
+        assert_eq!(answer(needed), None);
+        if needed > 0 {
+            assert_eq!(answer(needed - 1), Some(refused(15, 4)));
+        }
+    }
+}
+
+/// The C call fills 8·(9 + 11·frames) bytes.
+#[test]
+fn a_row_of_the_c_call_is_88_bytes() {
+    let stamps: [&[u32]; 3] = [&[1, 1, 1], &[1, 2], &[1, 1, 1, 1]];
+    for frames in 0..=3 {
+        let file = write(&three(), &frames_of(&stamps[..frames]));
+        let needed = 72 + 88 * frames;
+        assert_eq!(expected_c_call(&file, needed).2.unwrap().len(), needed);
+        let too_few = (15, file.len() as u64, None);
+        assert_eq!(expected_c_call(&file, needed - 1), too_few);
+    }
 }

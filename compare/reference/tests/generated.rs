@@ -8,6 +8,7 @@ use vtiming_reference::cases::{case, fixed, Call, Case};
 use vtiming_reference::fraction::Fraction;
 use vtiming_reference::frame::{closed_frames, encoded_time, t_cf, Kind};
 use vtiming_reference::generate::file;
+use vtiming_reference::measure::{measure_accepted, Row};
 use vtiming_reference::numbers::WRAP;
 use vtiming_reference::reads::read_instant;
 use vtiming_reference::record::read;
@@ -187,6 +188,47 @@ fn look_at_start(seen: &mut Seen, limits: &Limits, packets: &[Packet]) {
     }
 }
 
+/// How many packets a frame has, as its row tells it.
+fn count_of(row: &Row, n: i128) -> usize {
+    match row[1] {
+        1 | 2 => row[2] as usize,
+        _ => n as usize,
+    }
+}
+
+/// A marker comes just before the frame and one is its last packet; there is
+/// none in between.
+fn begins_and_ends_there(packets: &[Packet], place: usize, count: usize) -> bool {
+    let (last, others) = packets[place..place + count].split_last().unwrap();
+    packets[place - 1].marker == 1
+        && others.iter().all(|packet| packet.marker == 0)
+        && last.marker == 1
+}
+
+/// Request (ii): "the place in the history of the frame's first packet, filled
+/// for broken frames too". At least one packet, the lead-in's, comes before it.
+#[test]
+fn the_eleventh_number_is_the_place_where_the_frame_begins() {
+    let mut seen = Seen::default();
+    for index in 0..FILES {
+        let reading = read(&file(1, index));
+        let limits = match reading.numbers {
+            Some(numbers) => set_up(&numbers).unwrap(),
+            None => continue,
+        };
+        let mut before = 0;
+        for row in measure_accepted(&limits, &reading.packets).rows {
+            assert!(before < row[10] && row[10] <= 999_999_999);
+            before = row[10];
+            let count = count_of(&row, limits.n);
+            let place = row[10] as usize;
+            assert!(begins_and_ends_there(&reading.packets, place, count));
+            seen.add(&format!("kind {}", row[1]));
+        }
+    }
+    assert_eq!(seen.0.len(), 4, "not of every kind: {:?}", seen.0);
+}
+
 #[test]
 fn a_file_is_the_same_each_time() {
     for index in 0..50 {
@@ -361,14 +403,14 @@ fn calls_in_a_row_give_what_one_call_gives() {
             Call::Feed { calls, .. } => calls,
             _ => continue,
         };
-        let mut runs: Vec<(Vec<u64>, Vec<[i64; 10]>, [i64; 9])> = vec![];
+        let mut runs: Vec<(Vec<u64>, Vec<Row>, [i64; 9])> = vec![];
         for feed in calls {
             if feed.anew {
                 runs.push((vec![], vec![], [0; 9]));
             }
             let (arrivals, rows, nine) = runs.last_mut().expect("set up first");
             if feed.number == 0 && feed.changes.is_empty() {
-                assert!(feed.rows >= 10 * feed.written.len() as u64 && feed.out >= 9);
+                assert!(feed.rows >= 11 * feed.written.len() as u64 && feed.out >= 9);
                 arrivals.extend(feed.lists.arrivals);
                 rows.extend(feed.written);
                 *nine = feed.nine;
@@ -383,6 +425,28 @@ fn calls_in_a_row_give_what_one_call_gives() {
             }
         }
     }
+}
+
+/// Request (ii): "15 is given below eleven numbers per frame". For calls that
+/// close one frame, both sides of that are among the fixed cases.
+#[test]
+fn ten_numbers_and_eleven_are_lent_for_one_frame() {
+    let mut seen = Seen::default();
+    for case in fixed() {
+        let calls = match case.call {
+            Call::Feed { calls, .. } => calls,
+            _ => continue,
+        };
+        for feed in calls {
+            let markers = feed.lists.markers.iter().filter(|marker| **marker == 1);
+            let refused = feed.number == 15 && feed.out >= 9 && markers.count() == 1;
+            if refused || feed.written.len() == 1 {
+                seen.add(&format!("{} for {}", feed.number, feed.rows));
+            }
+        }
+    }
+    assert!(seen.0.contains_key("15 for 10") && seen.0.contains_key("0 for 11"));
+    assert!(!seen.0.contains_key("15 for 11") && !seen.0.contains_key("0 for 10"));
 }
 
 #[test]

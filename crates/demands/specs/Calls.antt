@@ -27,6 +27,7 @@ use Rattle.report.specs.Step.{WriteGives}
 use Rattle.report.proofs.Calls.{written-whole}
 use Rattle.report.proofs.Signed.{report-fits, number-back}
 use Rattle.report.proofs.Answering as file-proved
+use Rattle.report.proofs.Asking as asked
 use Rattle.probe.specs.Words.{Holds, HoldNone}
 use Rattle.probe.specs.Calls.{wordsNumber, setUpLeft, accepted, callOf, Unchanged}
 use Rattle.probe.specs.Dealt.{Lent, asCall, AllWhole, Dealt}
@@ -54,6 +55,10 @@ module _ (s : List ℕ) where
   pub refused-writes-nothing : (out : List ℕ) → (answerOf s (length out) .number ≡ 0 → ⊥) → filledBy s out ≡ out
   refused-writes-nothing = file-proved.refused-writes-nothing s
 
+  -- X12: and no file needs more than six times its length
+  pub room-at-most : AllBelow 256 s → roomOf s ≤ 6 * length s
+  room-at-most b = asked.room-at-most s (bytes-all s b)
+
   -- of a file that is accepted
   module _ (w : Parameters) (ps : List Packet) (e : fileOf s ≡ file w ps) where
     -- C4: 15 at the file's length
@@ -74,6 +79,10 @@ module _ (s : List ℕ) where
     -- X1: with as much it is accepted
     pub enough-room : (room : ℕ) → roomOf s ≤ room → answerOf s room ≡ answer 0 0
     enough-room room h = accepted-zero room (omega (arith, room-is))
+
+    -- X12: so with six times the file's length it always is
+    pub always-enough : AllBelow 256 s → (room : ℕ) → 6 * length s ≤ room → answerOf s room ≡ answer 0 0
+    always-enough b room h = enough-room room (omega (arith, room-at-most b))
 
     -- X1: with less it is 15
     pub too-little-room : (room : ℕ) → room < roomOf s → answerOf s room ≡ answer 15 (length s)

@@ -113,17 +113,17 @@ cases =
     ∷ (late-then-level (late-by 20700001) 0 gives (pos 1 ∷ pos 0 ∷ []))
     ∷ (others-late (late-by 20700001) gives (pos 0 ∷ pos 0 ∷ pos 0 ∷ []))
     ∷ (rows (rate6 4 700) (late-by 20700001)
-    gives (pos 0 ∷ pos 0 ∷ pos 0 ∷ pos 18900027 ∷ pos 0 ∷ pos 18900027 ∷ negℤ (pos 27) ∷ pos 45900027 ∷ pos 1 ∷ negℤ (pos 1) ∷ []))
+    gives (pos 0 ∷ pos 0 ∷ pos 0 ∷ pos 18900027 ∷ pos 0 ∷ pos 18900027 ∷ negℤ (pos 27) ∷ pos 45900027 ∷ pos 1 ∷ negℤ (pos 1) ∷ pos 1 ∷ []))
     -- K9: "Five packets at one instant, C_MAX 4: burst 0 4."
     ∷ (one (rulesOf (rate6 4 700) .limit) gives one 4)
     ∷ (network (after (rate6 4 700) (packet 5 0 0 ∷ packet 5 0 0 ∷ packet 5 0 0 ∷ packet 5 0 0 ∷ packet 5 0 0 ∷ []))
     gives (pos 1 ∷ pos 0 ∷ pos 4 ∷ []))
     -- K10: "t 47,721,858,844,445 with timestamp 4,294,967,295: VL −1,288,490,188,499,985."
     ∷ ((latency (grains 47721858844445) 4294967295 ∷ []) gives (negℤ (pos 1288490188499985) ∷ []))
-    -- K11: "The file above.": its row, and packets 5, frames 1, peak 2, network pass, buffer pass
+    -- K11: "The file above.": its row, which "ends [..] with 1", and packets 5, frames 1, peak 2, network pass, buffer pass
     ∷ (measured (fileOf the-file)
     gives (pos 5 ∷ pos 1 ∷ pos 2 ∷ pos 0 ∷ pos 0 ∷ pos 0 ∷ pos 1 ∷ pos 0 ∷ pos 0
-    ∷ pos 0 ∷ pos 0 ∷ pos 0 ∷ pos 18900000 ∷ pos 0 ∷ pos 18900000 ∷ pos 1740000 ∷ pos 45900000 ∷ pos 1 ∷ pos 0 ∷ []))
+    ∷ pos 0 ∷ pos 0 ∷ pos 0 ∷ pos 18900000 ∷ pos 0 ∷ pos 18900000 ∷ pos 1740000 ∷ pos 45900000 ∷ pos 1 ∷ pos 0 ∷ pos 1 ∷ []))
     -- K12: "The empty file: 20.", at offset 0
     ∷ (measured (fileOf []) gives (pos 20 ∷ pos 0 ∷ []))
     ∷ []

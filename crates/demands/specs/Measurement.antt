@@ -2,7 +2,7 @@
 -- the work. To believe it, read the definitions that it names: of timing, Feed (the call, and calls in a row), Range (refusal 9), Answers
 -- (set-up, verdict, graph, and the number that each answer stands for) and History (an accepted history: its state, its plan, its frames,
 -- its arrivals); and the Paper.antt of each crate below.
-use Rattle.laws.specs.Kit.{_≡_, _↔_, true, List, [], _∷_, _++_, ℕ, suc, _+_, _-_, _*_, _≤_, _<_, ℤ, length, take, drop, sets}
+use Rattle.laws.specs.Kit.{_≡_, _↔_, true, false, List, [], _∷_, _++_, ℕ, suc, _+_, _-_, _*_, _≤_, _<_, ℤ, length, take, drop, sets}
 use Rattle.laws.specs.Count.{count}
 use Rattle.laws.proofs.Lay.{sets-front}
 use Rattle.grain.specs.Paper.{InstantBy}
@@ -15,7 +15,7 @@ use Rattle.packet.specs.declared.Packet.{Packet}
 use Rattle.packet.specs.Paper.{OneLength, packets, declared}
 use Rattle.bucket.specs.Paper.{IsRun, drains, elapsed, drainsRun, found, GreatestExcess, NetworkIs}
 use Rattle.frame.specs.declared.Row.{Row}
-use Rattle.frame.specs.Paper.{closesAt, numberAt, kindAt, since, RowIs, BufferIs, Dry, SomeLate}
+use Rattle.frame.specs.Paper.{closesAt, numberAt, kindAt, since, InFrame, RowIs, RowBegan, BufferIs, Dry, SomeLate}
 use Rattle.frame.specs.Step.{rowWidth, numbersOf}
 use Rattle.frame.specs.ByPlace.{rowsAt}
 use Rattle.timing.specs.declared.StreamNumbers.{StreamNumbers}
@@ -108,17 +108,34 @@ module _ (h : AcceptedHistory) where
   pub rows-in-order : rowsOfAll h ≡ rowsTo (h .stream) (h .packets) (size h)
   rows-in-order = rows-declared (h .stream) (h .packets)
 
-  -- D2a, D2b, V1, V2, V3, P6, P8, P10, P11, P12, P13, P17, P18: and each is the row of its frame: FPT, RTP_OFFSET, VL, margin, GAP, peak,
-  -- least, kind, detail and number
+  -- D2a, D2b, V1, V2, V3, V10, P6, P8, P10, P11, P12, P13, P17, P18: and each is the row of its frame: FPT, RTP_OFFSET, VL, margin, GAP,
+  -- peak, least, kind, detail, number and the place of its first packet
   pub row-of-frame : (i : ℕ) → i < size h → closesAt (frames h) i ≡ true
       → (r : Row) × (rowsAt (plan h) (frames h) i ≡ r ∷ []) × RowIs (plan h) (frames h) i r
   row-of-frame = proved.row-at h
 
-  -- D2b, V1: its ten numbers stand at 10·k to 10·k + 9 of the lent ones, k being the frame's number
+  -- D2b, V1: its eleven numbers stand from 11·k on among the lent ones, k being the frame's number
   pub numbers-of-row : (i : ℕ) (r : Row) (lent : List ℤ) → i < size h → rowsAt (plan h) (frames h) i ≡ r ∷ []
       → length (numbers (rowsOfAll h)) ≤ length lent
       → take rowWidth (drop (rowWidth * numberAt (frames h) i) (sets lent 0 (numbers (rowsOfAll h)))) ≡ numbersOf r
   numbers-of-row = proved.numbers-at h
+
+  -- V10: "the place in the history of the frame's first packet" is never 0, for a marker came before, and at most 999,999,999
+  pub place-within : (i place : ℕ) → i < size h → RowBegan (plan h) (frames h) i place → (0 < place) × (place ≤ 999999999)
+  place-within = proved.place-within h
+
+  -- V10: it grows from row to row
+  pub places-grow : (i j a b : ℕ) → i < j → RowBegan (plan h) (frames h) i a → RowBegan (plan h) (frames h) j b → a < b
+  places-grow = proved.places-grow h
+
+  -- V10: the next row's place is just behind the marker that closed the frame before
+  pub places-follow : (i j a b : ℕ) → i < j → ((k : ℕ) → i < k → k < j → closesAt (frames h) k ≡ false)
+      → RowBegan (plan h) (frames h) i a → RowBegan (plan h) (frames h) j b → b ≡ suc i
+  places-follow = proved.places-follow h
+
+  -- V10, P4, P5: the frame holds exactly the packets from it up to the marker that closes it
+  pub place-holds : (i place : ℕ) → RowBegan (plan h) (frames h) i place → (k : ℕ) → InFrame (frames h) i k ↔ ((place ≤ k) × (k ≤ i))
+  place-holds = proved.place-holds h
 
   -- D2a, S6, S7, S9, S10, P14: C_MAX and VRX_FULL are the largest whole numbers not greater than document 01's fractions, a TRO is as given
   -- or all of its fraction, and the reads lie exactly R·F/n apart
@@ -159,6 +176,14 @@ module _ (h : AcceptedHistory) where
   pub dealt-over-calls : (calls : List Call) → allOf calls ≡ h .packets → Rooms (freshOf (h .stream)) calls
       → Deals (freshOf (h .stream)) calls (reached h) (numbers (rowsOfAll h))
   dealt-over-calls = proved.dealt h
+
+  -- D3a, V10: so each row stands among what they write as its history has it, its first packet's place counted since set-up, however the
+  -- list is cut
+  pub row-however-cut : (calls : List Call) → allOf calls ≡ h .packets → Rooms (freshOf (h .stream)) calls
+      → (i : ℕ) → i < size h → closesAt (frames h) i ≡ true
+      → (written : List ℤ) × Deals (freshOf (h .stream)) calls (reached h) written
+      × (r : Row) × RowIs (plan h) (frames h) i r × (take rowWidth (drop (rowWidth * numberAt (frames h) i) written) ≡ numbersOf r)
+  row-however-cut = proved.dealt-row h
 
   -- V5: the verdict of `reached` is its two answers
   pub verdict-given : verdictOf (reached h) ≡ Given (answersOf (reached h))

@@ -3,9 +3,12 @@
 -- pump's Run): what it hands over to be written is that output, or a front of it where a read or a write failed.
 use Rattle.laws.specs.Kit.{_≡_, _⊎_, Bool, true, false, List, [], _++_, ℕ, _≤_, _<_, length}
 use Rattle.laws.specs.Choose.{AllBelow}
+use Rattle.frame.specs.declared.Row.{Row}
+use Rattle.frame.specs.Step.{numbersOf}
 use Rattle.record.specs.declared.Next.the-variants.{More}
 use Rattle.record.specs.Step.{nextPiece}
-use Rattle.text.specs.Lines.{lineRoom, summaryLine, refusalLine}
+use Rattle.text.specs.Lines.{Sized, rowLine, lineRoom, summaryLine, refusalLine}
+use Rattle.text.proofs.RowsApart.{rows-differ}
 use Rattle.timing.specs.declared.State.{State}
 use Rattle.timing.specs.Range.{Sound}
 use Rattle.timing.specs.Answers.{answersOf}
@@ -18,6 +21,12 @@ use Rattle.pump.specs.declared.End.{End}
 use Rattle.pump.specs.declared.End.the-variants.{Whole, Unread}
 use Rattle.pump.specs.Run.{Front, Whole-output, RunEnds}
 use Rattle.pump.proofs.Running as running
+
+-- ---- a frame's line
+
+-- L2, V1, V10: a line tells its row, all eleven numbers of it: two rows that print alike are one
+pub rows-told : (x y : Row) → Sized (numbersOf x) → Sized (numbersOf y) → rowLine x ≡ rowLine y → x ≡ y
+rows-told = rows-differ
 
 -- ---- the last line
 

@@ -36,14 +36,14 @@ detail-small f kind {m} h d =
     pick-either (λ k. k ≤ m) (eqb kind 3) (λ e. d) (λ e. pick-either (λ k. k ≤ m) (eqb kind 0) (λ e. omega arith) (λ e. h))
 
 module _ (plan : Plan) (number : ℕ) (f : Frame) where
-  pub row-whole : (marked : ℕ) → kindOf f (plan .packets) ≡ 0 → wholeRow plan number marked f ≡ rowOf plan number marked f
+  pub row-whole : (marked began : ℕ) → kindOf f (plan .packets) ≡ 0 → wholeRow plan number marked began f ≡ rowOf plan number marked began f
   unfolding rowOf
-  row-whole marked e = rw (eq-eqb (kindOf f (plan .packets)) 0 e)
+  row-whole marked began e = rw (eq-eqb (kindOf f (plan .packets)) 0 e)
 
-  pub row-broken : (marked kind : ℕ) → kind ≡ kindOf f (plan .packets) → (kind ≡ 0 → ⊥) → brokenRow number kind (detailOf f kind)
-      ≡ rowOf plan number marked f
+  pub row-broken : (marked began kind : ℕ) → kind ≡ kindOf f (plan .packets) → (kind ≡ 0 → ⊥)
+      → brokenRow number kind (detailOf f kind) began ≡ rowOf plan number marked began f
   unfolding rowOf
-  row-broken marked kind e b = rw e (rw (ne-eqb (kindOf f (plan .packets)) 0 (rw e at b)))
+  row-broken marked began kind e b = rw e (rw (ne-eqb (kindOf f (plan .packets)) 0 (rw e at b)))
 
   pub answer-broken : (kindOf f (plan .packets) ≡ 0 → ⊥) → None ≡ answerOf plan number f
   unfolding answerOf

@@ -2,6 +2,7 @@
 pub mod Opening
 pub mod FrameKinds
 pub mod Stretches
+pub mod Places
 pub mod Duality
 pub mod Keeping
 pub mod Stepping

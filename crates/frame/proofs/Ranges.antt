@@ -14,8 +14,8 @@ use Rattle.frame.specs.declared.Buffer.{Buffer}
 use Rattle.frame.specs.declared.Buffer.the-variants.{None, Pass}
 use Rattle.frame.specs.Paper.{hasFailed, isNone}
 use Rattle.frame.specs.Step.{lower, kindOf, openedOf, countedOf, readsOf, pushOf, answerOf, joined, noFrames, arriveOf}
-use Rattle.frame.specs.Step.{closeOf, emptyOf}
-use Rattle.frame.specs.Range.{Planned, PushAsks, RowAsks, ranges, Answered, Kept}
+use Rattle.frame.specs.Step.{closeOf, emptyOf, beganOf}
+use Rattle.frame.specs.Range.{Planned, PushAsks, RowAsks, FramesRowAsks, ranges, Answered, Kept}
 use Rattle.frame.proofs.Opening.{Timed, timed}
 
 module _ (plan : Plan) (s : Frames) (first last packets : ℕ) where
@@ -205,14 +205,16 @@ module _ (plan : Plan) (s : Frames) (first last packets t : ℕ) (p : Planned pl
         go false e = kept-lead e
 
     -- a row can be made of what was pushed
-    pub rowable : s .begun ≡ true → RowAsks plan (s .closed) (s .marked) ((arriveOf plan s t stamp) .current)
+    pub rowable : s .begun ≡ true → FramesRowAsks plan (arriveOf plan s t stamp) (packets + 1)
     unfolding arriveOf
-    rowable e = rw e (row (pushed stamp e (next e)))
+    rowable e = record { held = kept-arrive .held; row = rw e (row (pushed stamp e (next e))) }
       where
-        row : Pushed (pushOf plan (s .current) t stamp) → RowAsks plan (s .closed) (s .marked) (pushOf plan (s .current) t stamp)
+        row : Pushed (pushOf plan (s .current) t stamp)
+            → RowAsks plan (s .closed) (s .marked) (beganOf (pushOf plan (s .current) t stamp) (packets + 1)) (pushOf plan (s .current) t stamp)
         row f = record {
           few = omega (arith, f .held, k .held, next e .few);
           counted = omega (arith, k .closed, next e .few);
+          placed = omega (arith, next e .few);
           phased = f .phased;
           order = f .first-from;
           near = omega (arith, f .first-to, next e .near, k .marked-from e);

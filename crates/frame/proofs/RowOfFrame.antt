@@ -1,9 +1,8 @@
 -- A closed frame's row is the row of its stretch of the history, and one row only is so: each number that was kept, packet by packet, is
 -- document 01's number over the frame's arrivals (Duality).
-use Rattle.laws.specs.Kit.{_≡_, refl, sym, ap, _∙_, subst, Bool, true, false, _&&_, ℕ, suc, pred, _+_, _-_, _≤_, _<_, arith, add-zero}
+use Rattle.laws.specs.Kit.{_≡_, refl, sym, ap, _∙_, subst, Bool, true, false, ℕ, suc, pred, _+_, _-_, _≤_, _<_, arith, add-zero}
 use Rattle.laws.specs.Kit.{ltb, eqb, ℤ, pos, subℕ, ltb-false, eqb-true, eqb-false}
 use Rattle.laws.specs.Choose.{pick}
-use Rattle.laws.proofs.Choose.{false-true}
 use Rattle.laws.specs.Climb.{Climbs}
 use Rattle.laws.proofs.Climb.{climbs-le}
 use Rattle.laws.specs.Most.{most}
@@ -17,12 +16,13 @@ use Rattle.grain.proofs.EncodedTime.{offset-is, margin-is}
 use Rattle.frame.specs.declared.Plan.{Plan}
 use Rattle.frame.specs.declared.Frame.{Frame}
 use Rattle.frame.specs.declared.Row.{Row}
-use Rattle.frame.specs.Paper.{History, begunAt, closesAt, numberAt, since, heldAt, differsAt, kindAt, arrival, firstRead}
+use Rattle.frame.specs.Paper.{History, closesAt, numberAt, since, heldAt, differsAt, kindAt, arrival, firstRead}
 use Rattle.frame.specs.Paper.{readsTo, PeakIs, LeastIs, Times, Levels, RowIs}
 use Rattle.frame.specs.Step.{kindOf, detailOf, wholeRow, rowOf}
 use Rattle.frame.specs.ByPlace.{readsFrom, keptOf, frameFrom, closedAt, markedTime}
 use Rattle.frame.specs.Range.{Planned}
-use Rattle.frame.proofs.Stretches.{since-is, one-more, begun-since, marked-time}
+use Rattle.frame.proofs.Stretches.{since-is, one-more, marked-time}
+use Rattle.frame.proofs.Places.{began-after}
 use Rattle.frame.proofs.Keeping.{reads-are}
 use Rattle.frame.proofs.FrameKinds.{row-whole, row-broken}
 use Rattle.frame.proofs.Duality as D
@@ -40,10 +40,6 @@ least-unique plan h s z w x y =
     let v = x .met in
     let u = y .met in
     both-ways z w (rw (u .2) (x .bound (u .0) (u .1))) (rw (v .2) (y .bound (v .0) (v .1)))
-
-closing-begun : (m b : Bool) → (m && b) ≡ true → b ≡ true
-closing-begun true b e = e
-closing-begun false b e = absurd (false-true e)
 
 -- ---- the frame's packets, in order
 
@@ -157,7 +153,7 @@ module _ {plan : Plan} {h : History} {i : ℕ} (w : WholeFrame plan h i) where
   -- the marker packet before the frame comes no later than its first
   gap-is : closesAt h i ≡ true → pos (grains (kept .first - markedTime plan h i)) ≡ subℕ (arrival plan h s 0) (grains (h .time (pred s)))
   gap-is e =
-      let began = begun-since h i (closing-begun (h .marked i) (begunAt h i) e) in
+      let began = began-after h i e in
       let order = climbs-le (h .time) (h .packets) (w .ordered) (pred s) (s + 0) (omega arith)
       (omega (arith, since-is h i .within, w .inside)) in
       let from = h .time (s + 0) in
@@ -167,7 +163,7 @@ module _ {plan : Plan} {h : History} {i : ℕ} (w : WholeFrame plan h i) where
       (omega arith) (differ-sub (grains from) (grains to)) (omega arith))
 
   -- P8, P10, P11, P12, P13: the five times of the row are the frame's
-  pub times-are : closesAt h i ≡ true → Times plan h s (wholeRow plan (numberAt h i) (markedTime plan h i) kept)
+  pub times-are : closesAt h i ≡ true → Times plan h s (wholeRow plan (numberAt h i) (markedTime plan h i) s kept)
   unfolding wholeRow
   times-are e = record {
     fpt = fpt-is;
@@ -177,24 +173,25 @@ module _ {plan : Plan} {h : History} {i : ℕ} (w : WholeFrame plan h i) where
     gap = gap-is e;
   }
 
-  pub levels-are : Levels plan h s (wholeRow plan (numberAt h i) (markedTime plan h i) kept)
+  pub levels-are : Levels plan h s (wholeRow plan (numberAt h i) (markedTime plan h i) s kept)
   unfolding wholeRow
   levels-are = record { peak = peak-is; least = least-is }
 
--- "A closed frame writes ten numbers": the row that the code makes of the frame it kept is the row of that stretch
+-- "A closed frame writes ten numbers", and an eleventh: the row that the code makes of the frame it kept is the row of that stretch
 module _ (plan : Plan) (h : History) (ordered : Climbs (h .time) (h .packets)) (i : ℕ) (inside : i < h .packets) where
-  pub row-is : Planned plan → closesAt h i ≡ true → RowIs plan h i (rowOf plan (numberAt h i) (markedTime plan h i) (closedAt plan h i))
+  pub row-is : Planned plan → closesAt h i ≡ true → RowIs plan h i (rowOf plan (numberAt h i) (markedTime plan h i) (since h i) (closedAt plan h i))
   unfolding wholeRow
   row-is p closing = go (eqb (kindAt plan h i) 0) refl
     where
-      go : (t : Bool) → eqb (kindAt plan h i) 0 ≡ t → RowIs plan h i (rowOf plan (numberAt h i) (markedTime plan h i) (closedAt plan h i))
+      go : (t : Bool) → eqb (kindAt plan h i) 0 ≡ t → RowIs plan h i (rowOf plan (numberAt h i) (markedTime plan h i) (since h i) (closedAt plan h i))
       go true e =
           let k = eqb-true (kindAt plan h i) 0 e in
           let w : WholeFrame plan h i = record { planned = p; ordered = ordered; inside = inside; whole = k } in
-          subst (RowIs plan h i) (row-whole plan (numberAt h i) (closedAt plan h i) (markedTime plan h i) (kind-is plan h i ∙ k)) (record {
+          subst (RowIs plan h i) (row-whole plan (numberAt h i) (closedAt plan h i) (markedTime plan h i) (since h i) (kind-is plan h i ∙ k)) (record {
             number = refl;
             kind = ap pos (sym k);
             detail = ap pos (rw k);
+            began = refl;
             times = λ z. times-are w closing;
             levels = λ z. levels-are w;
             broken = λ z. absurd (z k);
@@ -202,19 +199,21 @@ module _ (plan : Plan) (h : History) (ordered : Climbs (h .time) (h .packets)) (
       go false e =
           let k = eqb-false (kindAt plan h i) 0 e in
           subst (RowIs plan h i)
-          (row-broken plan (numberAt h i) (closedAt plan h i) (markedTime plan h i) (kindAt plan h i) (sym (kind-is plan h i)) k) (record {
+          (row-broken plan (numberAt h i) (closedAt plan h i) (markedTime plan h i) (since h i) (kindAt plan h i) (sym (kind-is plan h i)) k) (record {
             number = refl;
             kind = refl;
             detail = ap pos (detail-is plan h i (kindAt plan h i));
+            began = refl;
             times = λ z. absurd (k z);
             levels = λ z. absurd (k z);
             broken = λ z. record { fpt = refl; offset = refl; latency = refl; margin = refl; gap = refl; peak = refl; least = refl };
           })
 
--- ten numbers that agree are one row
+-- numbers that agree are one row
 same-row : {r q : Row} → r .number ≡ q .number → r .kind ≡ q .kind → r .detail ≡ q .detail → r .fpt ≡ q .fpt → r .offset ≡ q .offset
-    → r .latency ≡ q .latency → r .margin ≡ q .margin → r .gap ≡ q .gap → r .peak ≡ q .peak → r .least ≡ q .least → r ≡ q
-same-row a b c d e f g h i k = λ j. record {
+    → r .latency ≡ q .latency → r .margin ≡ q .margin → r .gap ≡ q .gap → r .peak ≡ q .peak → r .least ≡ q .least → r .began ≡ q .began
+    → r ≡ q
+same-row a b c d e f g h i k l = λ j. record {
   number = a j;
   kind = b j;
   detail = c j;
@@ -225,6 +224,7 @@ same-row a b c d e f g h i k = λ j. record {
   gap = h j;
   peak = i j;
   least = k j;
+  began = l j;
 }
 
 pub row-unique : (plan : Plan) (h : History) (i : ℕ) (r q : Row) → RowIs plan h i r → RowIs plan h i q → r ≡ q
@@ -237,8 +237,8 @@ row-unique plan h i r q x y = go (eqb (kindAt plan h i) 0) refl
         let b = y .times k in
         same-row (cc) (cc) (cc) (cc) (cc) (cc) (cc) (cc)
         (peak-unique plan h (since h i) (r .peak) (q .peak) (x .levels k .peak) (y .levels k .peak))
-        (least-unique plan h (since h i) (r .least) (q .least) (x .levels k .least) (y .levels k .least))
+        (least-unique plan h (since h i) (r .least) (q .least) (x .levels k .least) (y .levels k .least)) (cc)
     go false e =
         let a = x .broken (eqb-false (kindAt plan h i) 0 e) in
         let b = y .broken (eqb-false (kindAt plan h i) 0 e) in
-        same-row (cc) (cc) (cc) (cc) (cc) (cc) (cc) (cc) (cc) (cc)
+        same-row (cc) (cc) (cc) (cc) (cc) (cc) (cc) (cc) (cc) (cc) (cc)

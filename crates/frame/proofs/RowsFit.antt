@@ -1,4 +1,4 @@
--- Each of the ten numbers of a row fits 64 bits with its sign. No difference is longer than a wrap of the timestamps and two frames, if
+-- Each number of a row fits 64 bits with its sign. No difference is longer than a wrap of the timestamps and two frames, if
 -- the timestamps are below 2^32; so that is kept of the open frame's.
 use Rattle.laws.specs.Kit.{refl, subst, List, [], _∷_, _++_, ℕ, zero, suc, _+_, _-_, _*_, _%_, _≤_, _<_, arith, mod-lt, eqb, ℤ, pos, subℕ}
 use Rattle.laws.specs.Kit.{_-ℤ_, getD}
@@ -44,7 +44,7 @@ zero-fits = small-fits (omega arith)
 sub-fits : (a b : ℕ) → a < 9223372036854775808 → b < 9223372036854775808 → SFits w64 (subℕ a b)
 sub-fits a b h k = differ-fits (subℕ a b) a b (differ-sub a b) h k
 
-module _ (plan : Plan) (number marked : ℕ) (f : Frame) (p : Planned plan) (r : RowAsks plan number marked f)
+module _ (plan : Plan) (number marked began : ℕ) (f : Frame) (p : Planned plan) (r : RowAsks plan number marked began f)
     (small : f .stamp < 4294967296) where
   abbrev g : ℕ
   g = grains (f .first)
@@ -73,21 +73,23 @@ module _ (plan : Plan) (number marked : ℕ) (f : Frame) (p : Planned plan) (r :
   least-fits : SFits w64 (subℕ 0 (f .deficit))
   least-fits = sub-fits 0 (f .deficit) (omega arith) (omega (arith, r .low))
 
-  whole-fits : AllFit (numbersOf (wholeRow plan number marked f))
+  whole-fits : AllFit (numbersOf (wholeRow plan number marked began f))
   unfolding wholeRow
   whole-fits =
       let own = small-fits (r .counted) in
       let peak = small-fits (r .top) in
-      (own, (zero-fits, (zero-fits, (fpt-fits, (offset-fits, (latency-fits, (margin-fits, (gap-fits, (peak, (least-fits, tt))))))))))
+      let place = small-fits (r .placed) in
+      (own, (zero-fits, (zero-fits, (fpt-fits, (offset-fits, (latency-fits, (margin-fits, (gap-fits, (peak, (least-fits, (place, tt)))))))))))
 
-  broken-fits : (kind : ℕ) → kind ≤ 3 → AllFit (numbersOf (brokenRow number kind (detailOf f kind)))
+  broken-fits : (kind : ℕ) → kind ≤ 3 → AllFit (numbersOf (brokenRow number kind (detailOf f kind) began))
   broken-fits kind h =
       let own = small-fits (r .counted) in
       let detail = small-fits (detail-small f kind (r .few) (r .differs)) in
       let kind-fits = small-fits {m = kind} (omega arith) in
-      (own, (kind-fits, (detail, (zero-fits, (zero-fits, (zero-fits, (zero-fits, (zero-fits, (zero-fits, (zero-fits, tt))))))))))
+      let place = small-fits (r .placed) in
+      (own, (kind-fits, (detail, (zero-fits, (zero-fits, (zero-fits, (zero-fits, (zero-fits, (zero-fits, (zero-fits, (place, tt)))))))))))
 
-  pub row-fits : AllFit (numbersOf (rowOf plan number marked f))
+  pub row-fits : AllFit (numbersOf (rowOf plan number marked began f))
   unfolding rowOf
   row-fits =
       pick-either (λ (row : Row). AllFit (numbersOf row)) (eqb (kindOf f (plan .packets)) 0) (λ e. whole-fits)

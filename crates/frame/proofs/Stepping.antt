@@ -1,6 +1,6 @@
 -- The code's step, packet by packet, goes through the states that the
 -- whole history declares by place, and writes the rows that it declares.
-use Rattle.laws.specs.Kit.{_≡_, refl, sym, ap, _∙_, Bool, true, false, _&&_, [], _∷_, ℕ, suc, _+_, _-_, add-sub-of-le, sub-self}
+use Rattle.laws.specs.Kit.{_≡_, refl, sym, ap, _∙_, Bool, true, false, _&&_, [], _∷_, ℕ, suc, _+_, _-_, arith, add-sub-of-le, sub-self}
 use Rattle.laws.specs.Kit.{add-zero}
 use Rattle.laws.specs.Choose.{pick}
 use Rattle.laws.specs.Count.{count}
@@ -9,7 +9,7 @@ use Rattle.frame.specs.declared.Frames.{Frames}
 use Rattle.frame.specs.declared.Buffer.{Buffer}
 use Rattle.frame.specs.declared.Buffer.the-variants.{None, Pass, Under, Over}
 use Rattle.frame.specs.Paper.{History, begunAt, numberAt, since}
-use Rattle.frame.specs.Step.{emptyOf, pushOf, rowOf, answerOf, joined, noFrames, arriveOf, closeOf, stepOf, rowsOf}
+use Rattle.frame.specs.Step.{emptyOf, pushOf, beganOf, rowOf, answerOf, joined, noFrames, arriveOf, closeOf, stepOf, rowsOf}
 use Rattle.frame.specs.ByPlace.{keptOf, openAt, closedAt, markedTime, bufferAt, framesAt, rowsAt}
 use Rattle.frame.proofs.Stretches.{since-is, one-more, begun-next}
 use Rattle.frame.proofs.Keeping.{kept-step}
@@ -96,15 +96,22 @@ module _ (plan : Plan) (h : History) (i : ℕ) where
   pub frames-step : stepOf plan (framesAt plan h i) (h .time i) (h .stamp i) (h .marked i) ≡ framesAt plan h (suc i)
   frames-step = step-next (h .marked i) (begunAt h i) refl ∙ sym (declared-next (h .marked i) (begunAt h i) refl refl)
 
+  -- V10: of the packets up to i the frame holds the last, so the others come before its first
+  began-is : beganOf (closedAt plan h i) (suc i) ≡ since h i
+  unfolding keptOf
+  began-is =
+      let held : closedAt plan h i .held ≡ suc (i - since h i) = rw (one-more h i) in
+      omega (arith, held, since-is h i .within)
+
   rows-next : (m b : Bool) → begunAt h i ≡ b
-      → rowsOf plan (framesAt plan h i) (h .time i) (h .stamp i) m
-      ≡ pick (m && b) (rowOf plan (numberAt h i) (markedTime plan h i) (closedAt plan h i) ∷ []) []
+      → rowsOf plan (framesAt plan h i) (suc i) (h .time i) (h .stamp i) m
+      ≡ pick (m && b) (rowOf plan (numberAt h i) (markedTime plan h i) (since h i) (closedAt plan h i) ∷ []) []
   unfolding rowsOf framesAt arriveOf
-  rows-next true true f = rw (f, pushed)
+  rows-next true true f = rw (f, pushed, began-is)
   rows-next true false f = rw f
   rows-next false b f = refl
 
-  pub rows-step : rowsOf plan (framesAt plan h i) (h .time i) (h .stamp i) (h .marked i) ≡ rowsAt plan h i
+  pub rows-step : rowsOf plan (framesAt plan h i) (suc i) (h .time i) (h .stamp i) (h .marked i) ≡ rowsAt plan h i
   rows-step = rows-next (h .marked i) (begunAt h i) refl
 
 -- before the first packet

@@ -74,4 +74,4 @@ module _ (plan : Plan) (h : History) where
 
   -- the rows that packet i writes
   abbrev pub rowsAt : ℕ → List Row
-  rowsAt i = pick (closesAt h i) (rowOf plan (numberAt h i) (markedTime i) (closedAt i) ∷ []) []
+  rowsAt i = pick (closesAt h i) (rowOf plan (numberAt h i) (markedTime i) (since h i) (closedAt i) ∷ []) []

@@ -75,6 +75,13 @@ module _ (h : History) where
   abbrev pub heldAt : ℕ → ℕ
   heldAt i = suc i - since i
 
+  -- P4, P5: packet k is in the frame that packet i closes: it is not in the lead-in, and packet i is the first marker from it on
+  pub record InFrame (i k : ℕ) : Type 0 where
+    pub begun : begunAt k ≡ true
+    pub closes : h .marked i ≡ true
+    pub up-to : k ≤ i
+    pub clear : (m : ℕ) → k ≤ m → m < i → h .marked m ≡ false
+
 module _ (plan : Plan) (h : History) where
   -- ---- its kind
 
@@ -157,7 +164,8 @@ module _ (plan : Plan) (h : History) where
 
   -- ---- the row
 
-  -- V3: "For kinds 1 to 3 the last seven are 0."
+  -- V3: "For kinds 1 to 3 the last seven are 0.": of the ten numbers that document 01 speaks of, so the fourth to the tenth. The eleventh
+  -- is filled for every kind (V10).
   pub record Zeros (r : Row) : Type 0 where
     pub fpt : r .fpt ≡ pos 0
     pub offset : r .offset ≡ pos 0
@@ -167,14 +175,23 @@ module _ (plan : Plan) (h : History) where
     pub peak : r .peak ≡ pos 0
     pub least : r .least ≡ pos 0
 
-  -- V1: "A closed frame writes ten numbers": those of the frame that packet i closes
+  -- V1: "A closed frame writes ten numbers": those of the frame that packet i closes. V10: "Each row gets an eleventh number, the place in
+  -- the history of the frame's first packet, filled for broken frames too."
   pub record RowIs (i : ℕ) (r : Row) : Type 0 where
     pub number : r .number ≡ pos (numberAt h i)
     pub kind : r .kind ≡ pos (kindAt i)
     pub detail : r .detail ≡ pos (detailAt i)
+    pub began : r .began ≡ pos (since h i)
     pub times : kindAt i ≡ 0 → Times (since h i) r
     pub levels : kindAt i ≡ 0 → Levels (since h i) r
     pub broken : (kindAt i ≡ 0 → ⊥) → Zeros r
+
+  -- V10: packet i closes a frame, and the eleventh number of the frame's row is `place`
+  pub record RowBegan (i place : ℕ) : Type 0 where
+    pub closing : closesAt h i ≡ true
+    pub row : Row
+    pub is : RowIs i row
+    pub told : row .began ≡ pos place
 
   -- ---- the buffer answer
 

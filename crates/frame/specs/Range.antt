@@ -8,6 +8,7 @@ use Rattle.frame.specs.declared.Frame.{Frame}
 use Rattle.frame.specs.declared.Frames.{Frames}
 use Rattle.frame.specs.declared.Buffer.{Buffer}
 use Rattle.frame.specs.Paper.{bufferNumber, bufferFrame, bufferPlace}
+use Rattle.frame.specs.Step.{beganOf}
 
 pub record Planned (plan : Plan) : Type 0 where
   pub long : nanosecond ≤ plan .period
@@ -29,15 +30,21 @@ pub record PushAsks (plan : Plan) (f : Frame) (t : ℕ) : Type 0 where
   pub read : f .reads ≤ plan .packets
 
 -- before a row is made: the frame's first packet comes after the marker before it, at most 600 s
-pub record RowAsks (plan : Plan) (number marked : ℕ) (f : Frame) : Type 0 where
+pub record RowAsks (plan : Plan) (number marked began : ℕ) (f : Frame) : Type 0 where
   pub few : f .held ≤ 1000000000
   pub counted : number ≤ 1000000000
+  pub placed : began ≤ 1000000000
   pub phased : f .phase ≤ 2 * plan .period
   pub order : marked ≤ f .first
   pub near : f .first ≤ marked + 600000000000
   pub top : f .top ≤ 1000000000
   pub low : f .deficit ≤ 20000
   pub differs : f .differs ≤ 1000000000
+
+-- before the last of so many packets closes the open frame: it holds no more than these
+pub record FramesRowAsks (plan : Plan) (s : Frames) (packets : ℕ) : Type 0 where
+  pub held : s .current .held ≤ packets
+  pub row : RowAsks plan (s .closed) (s .marked) (beganOf (s .current) packets) (s .current)
 
 -- The range of each number that is kept of the frames, as docs/STATE.md gives it, by the plan and by what
 -- came before, the first and the last arrival and how many packets: one table, and what it means.

@@ -64,8 +64,8 @@ kindOf f n = pick (ltb (f .held) n) 1 (pick (ltb n (f .held)) 2 (pick (ltb (f .d
 abbrev pub detailOf : Frame → ℕ → ℕ
 detailOf f kind = pick (eqb kind 3) (f .differs) (pick (eqb kind 0) 0 (f .held))
 
-unfoldable pub wholeRow : Plan → ℕ → ℕ → Frame → Row
-wholeRow plan number marked f = record {
+unfoldable pub wholeRow : Plan → ℕ → ℕ → ℕ → Frame → Row
+wholeRow plan number marked began f = record {
   number = pos number;
   kind = pos 0;
   detail = pos 0;
@@ -76,10 +76,11 @@ wholeRow plan number marked f = record {
   gap = pos (grains (f .first - marked));
   peak = pos (f .top);
   least = subℕ 0 (f .deficit);
+  began = pos began;
 }
 
-abbrev pub brokenRow : ℕ → ℕ → ℕ → Row
-brokenRow number kind detail = record {
+abbrev pub brokenRow : ℕ → ℕ → ℕ → ℕ → Row
+brokenRow number kind detail began = record {
   number = pos number;
   kind = pos kind;
   detail = pos detail;
@@ -90,23 +91,36 @@ brokenRow number kind detail = record {
   gap = pos 0;
   peak = pos 0;
   least = pos 0;
+  began = pos began;
 }
 
--- V3: "For kinds 1 to 3 the last seven are 0."
-unfoldable pub rowOf : Plan → ℕ → ℕ → Frame → Row
+-- V3: "For kinds 1 to 3 the last seven are 0", numbers 4 to 10; V10: where the frame began is "filled for broken frames too"
+unfoldable pub rowOf : Plan → ℕ → ℕ → ℕ → Frame → Row
 unfolding kindOf wholeRow
-rowOf plan number marked f =
-    pick (eqb (kindOf f (plan .packets)) 0) (wholeRow plan number marked f)
-    (brokenRow number (kindOf f (plan .packets)) (detailOf f (kindOf f (plan .packets))))
+rowOf plan number marked began f =
+    pick (eqb (kindOf f (plan .packets)) 0) (wholeRow plan number marked began f)
+    (brokenRow number (kindOf f (plan .packets)) (detailOf f (kindOf f (plan .packets))) began)
 
--- V1: "A closed frame writes ten numbers: frame number from 0; kind; detail [..]; FPT; RTP_OFFSET; VL; margin; GAP; VRX peak; VRX least."
+-- V1, V10: "A closed frame writes ten numbers: frame number from 0; kind; detail [..]; FPT; RTP_OFFSET; VL; margin; GAP; VRX peak; VRX
+-- least." "Each row gets an eleventh number, the place in the history of the frame's first packet"
 abbrev pub numbersOf : Row → List ℤ
 numbersOf r =
-    r .number ∷ r .kind ∷ r .detail ∷ r .fpt ∷ r .offset ∷ r .latency ∷ r .margin ∷ r .gap ∷ r .peak ∷ r .least ∷ []
+    r .number
+    ∷ r .kind
+    ∷ r .detail
+    ∷ r .fpt
+    ∷ r .offset
+    ∷ r .latency
+    ∷ r .margin
+    ∷ r .gap
+    ∷ r .peak
+    ∷ r .least
+    ∷ r .began
+    ∷ []
 
 -- how many they are, for every row: `row-width` in proofs/FrameKinds.antt
 abbrev pub rowWidth : ℕ
-rowWidth = 10
+rowWidth = 11
 
 -- V7, V8, E3: "under (least below 0) [..]; over (VRX peak above VRX_FULL) [..]; in one frame under goes first." A broken frame is not
 -- judged.
@@ -152,7 +166,15 @@ unfoldable pub stepOf : Plan → Frames → ℕ → ℕ → Bool → Frames
 unfolding arriveOf closeOf
 stepOf plan s t stamp marker = pick marker (closeOf plan (arriveOf plan s t stamp) t) (arriveOf plan s t stamp)
 
--- the row that a packet writes: none, or that of the frame it closes
-unfoldable pub rowsOf : Plan → Frames → ℕ → ℕ → Bool → List Row
+-- V10: where the open frame began, which holds the last of so many packets since set-up
+abbrev pub beganOf : Frame → ℕ → ℕ
+beganOf f packets = packets - f .held
+
+-- the row of the open frame, which the last of so many packets closes
+abbrev pub closedRow : Plan → Frames → ℕ → Row
+closedRow plan s packets = rowOf plan (s .closed) (s .marked) (beganOf (s .current) packets) (s .current)
+
+-- the row that a packet writes, with which so many have come: none, or that of the frame it closes
+unfoldable pub rowsOf : Plan → Frames → ℕ → ℕ → ℕ → Bool → List Row
 unfolding arriveOf rowOf
-rowsOf plan s t stamp marker = pick (marker && s .begun) (rowOf plan (s .closed) (s .marked) ((arriveOf plan s t stamp) .current) ∷ []) []
+rowsOf plan s packets t stamp marker = pick (marker && s .begun) (closedRow plan (arriveOf plan s t stamp) packets ∷ []) []

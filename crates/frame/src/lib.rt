@@ -7,12 +7,12 @@ ghost use Rattle.laws.specs.Every.{every};
 ghost use Rattle.grain.specs.Paper.{nanosecond};
 ghost use Rattle.frame.specs.Paper.{bufferNumber, bufferFrame, bufferPlace, hasFailed, isNone};
 ghost use Rattle.frame.specs.Step.{lower, emptyOf, openedOf, countedOf, pushOf, kindOf, detailOf, wholeRow, brokenRow, rowOf};
-ghost use Rattle.frame.specs.Step.{numbersOf, rowWidth, answerOf, joined, noFrames, arriveOf, closeOf};
-ghost use Rattle.frame.specs.Range.{Planned, PushAsks, RowAsks, ranges};
+ghost use Rattle.frame.specs.Step.{numbersOf, rowWidth, closedRow, answerOf, joined, noFrames, arriveOf, closeOf};
+ghost use Rattle.frame.specs.Range.{Planned, PushAsks, RowAsks, FramesRowAsks, ranges};
 use grain::Spacing;
 
 // How many numbers a row has: `rowWidth`.
-pub const ROW: usize = 10;
+pub const ROW: usize = 11;
 
 // What a stream is measured by: frames start at multiples of `period` grains and have `packets` packets;
 // the reads lie at tro + j·num/den grains after the start, by their spacing; `full` is the most that the buffer may hold.
@@ -40,7 +40,7 @@ pub struct Frame {
     pub late: u64,
 }
 
-// A closed frame's ten numbers, in document 01's order.
+// A closed frame's eleven numbers: document 01's ten, in its order, and then the place in the history of its first packet.
 pub struct Row {
     pub number: i64,
     pub kind: i64,
@@ -52,6 +52,7 @@ pub struct Row {
     pub gap: i64,
     pub peak: i64,
     pub least: i64,
+    pub began: i64,
 }
 
 // A frame's number, and the packet's place in it or the peak.
@@ -180,21 +181,21 @@ impl Frame {
     }
 
     // The row of the frame, whose number is `number`, closed now; `marked` is the arrival of the marker
-    // packet before its first.
-    pub fn row(self, plan: Plan, number: u64, marked: u64) -> Row
-        requires { ⌜ Planned plan × RowAsks plan number marked self ⌝ }
-        ensures { λ r. ⌜ r ≡ rowOf plan number marked self ⌝ }
+    // packet before its first, and `began` the place of its first in the history.
+    pub fn row(self, plan: Plan, number: u64, marked: u64, began: u64) -> Row
+        requires { ⌜ Planned plan × RowAsks plan number marked began self ⌝ }
+        ensures { λ r. ⌜ r ≡ rowOf plan number marked began self ⌝ }
     {
         let kind = self.kind(plan.packets);
         if kind == 0 {
-            return self.whole_row(plan, number, marked);
+            return self.whole_row(plan, number, marked, began);
         }
-        broken_row(number, kind, self.detail(kind))
+        broken_row(number, kind, self.detail(kind), began)
     }
 
-    fn whole_row(self, plan: Plan, number: u64, marked: u64) -> Row
-        requires { ⌜ Planned plan × RowAsks plan number marked self ⌝ }
-        ensures { λ r. ⌜ r ≡ wholeRow plan number marked self ⌝ }
+    fn whole_row(self, plan: Plan, number: u64, marked: u64, began: u64) -> Row
+        requires { ⌜ Planned plan × RowAsks plan number marked began self ⌝ }
+        ensures { λ r. ⌜ r ≡ wholeRow plan number marked began self ⌝ }
     {
         let fpt = grain::difference(self.phase, plan.period);
         let latency = grain::video_latency(self.first, self.stamp);
@@ -210,6 +211,7 @@ impl Frame {
             gap: (grain::GRAINS_PER_NANOSECOND * (self.first - marked)) as i64,
             peak: self.top as i64,
             least: grain::difference(0, self.deficit),
+            began: began as i64,
         }
     }
 
@@ -237,9 +239,10 @@ impl Frame {
     }
 }
 
-fn broken_row(number: u64, kind: u64, detail: u64) -> Row
-    requires { ⌜ (number ≤ 1000000000) × (kind ≤ 3) × (detail ≤ 1000000000) ⌝ }
-    ensures { λ r. ⌜ r ≡ brokenRow number kind detail ⌝ }
+// Nothing is measured of a broken frame, but where it began is told.
+fn broken_row(number: u64, kind: u64, detail: u64, began: u64) -> Row
+    requires { ⌜ (number ≤ 1000000000) × (kind ≤ 3) × (detail ≤ 1000000000) × (began ≤ 1000000000) ⌝ }
+    ensures { λ r. ⌜ r ≡ brokenRow number kind detail began ⌝ }
 {
     Row {
         number: number as i64,
@@ -252,11 +255,12 @@ fn broken_row(number: u64, kind: u64, detail: u64) -> Row
         gap: 0,
         peak: 0,
         least: 0,
+        began: began as i64,
     }
 }
 
 impl Row {
-    // The ten numbers in document 01's order: the one place that knows it.
+    // The numbers in their order: the one place that knows it.
     pub fn numbers(self) -> [i64; ROW]
         ensures { λ r. ⌜ r ≡ numbersOf self ⌝ }
     {
@@ -271,10 +275,11 @@ impl Row {
             self.gap,
             self.peak,
             self.least,
+            self.began,
         ]
     }
 
-    // The ten numbers into `rows`, from `at` on.
+    // The numbers into `rows`, from `at` on.
     pub fn put(self, rows: &mut [i64], at: usize)
         requires { ⌜ at + rowWidth ≤ length (now rows) ⌝ }
         ensures { λ r. ⌜ now (rows .exit) ≡ sets (now (rows .entry)) at (numbersOf self) ⌝ }
@@ -409,13 +414,14 @@ impl Frames {
         self
     }
 
-    // The row of the open frame, which a marker closes now.
-    pub fn row(self, plan: Plan) -> Row
-        requires { ⌜ Planned plan × RowAsks plan (self .closed) (self .marked) (self .current) ⌝ }
-        ensures { λ r. ⌜ r ≡ rowOf plan (self .closed) (self .marked) (self .current) ⌝ }
+    // The row of the open frame, which a marker closes now, the last of so many packets since set-up. The frame holds the last of
+    // them, so where it began needs no number of its own in the state.
+    pub fn row(self, plan: Plan, packets: u64) -> Row
+        requires { ⌜ Planned plan × FramesRowAsks plan self packets ⌝ }
+        ensures { λ r. ⌜ r ≡ closedRow plan self packets ⌝ }
     {
         let frame = self.current;
-        frame.row(plan, self.closed, self.marked)
+        frame.row(plan, self.closed, self.marked, packets - frame.held)
     }
 
     // The packet that arrived at t is a marker: it ends the lead-in, or closes the open frame.

@@ -1,6 +1,6 @@
 -- A test which passes exactly up to a place, or between two, passes that often. By the numbers below which it is counted.
 use Rattle.laws.specs.Kit.{_≡_, refl, sym, _∙_, Bool, true, false, ℕ, zero, suc, _+_, _-_, _≤_, _<_, min, arith}
-use Rattle.laws.specs.Kit.{not-suc-le-zero, decLe}
+use Rattle.laws.specs.Kit.{_⊎_, inl, inr, le-suc-iff, not-suc-le-zero, decLe}
 use Rattle.laws.specs.Choose.{pick}
 use Rattle.laws.proofs.Choose.{false-true, up-to}
 use Rattle.laws.specs.Count.{count, Between, UpTo, Falls}
@@ -13,6 +13,16 @@ count-le p (suc m) = go (p m) (count-le p m)
     go : (t : Bool) → count p m ≤ m → count p m + pick t 1 0 ≤ suc m
     go true ih = omega arith
     go false ih = omega arith
+
+-- one below m that passes is counted
+pub count-some : (p : ℕ → Bool) (i m : ℕ) → i < m → p i ≡ true → 0 < count p m
+unfolding count
+count-some p i zero h e = absurd (not-suc-le-zero h)
+count-some p i (suc m) h e = go (count-some p i m) (le-suc-iff .0 h)
+  where
+    go : (i < m → p i ≡ true → 0 < count p m) → (suc i ≤ m) ⊎ (suc i ≡ suc m) → 0 < count p m + pick (p m) 1 0
+    go ih (inl l) = omega (arith, ih l e)
+    go ih (inr w) = let same : m ≡ i = omega arith in rw (same, e) (omega arith)
 
 pub count-between : (p : ℕ → Bool) (m a b : ℕ) → Between p m a b → count p m ≡ min m b - min m a
 unfolding count

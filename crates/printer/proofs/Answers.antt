@@ -16,8 +16,7 @@ use Rattle.record.specs.Pieces.{wantsMore}
 use Rattle.record.proofs.Ways.{rest-all}
 use Rattle.timing.specs.declared.Rules.{Rules}
 use Rattle.timing.specs.declared.State.{State}
-use Rattle.timing.specs.Feed.{closing}
-use Rattle.timing.proofs.Laying.{closedRow}
+use Rattle.timing.specs.Feed.{closedRow, closing}
 use Rattle.printer.specs.Paper.{rowLines, sumLine}
 use Rattle.printer.specs.Step.{headBy, beginOf, lineOf}
 

@@ -33,7 +33,7 @@ packets =
 
 -- L5: the whole output, computed from the bytes of the file
 pub file-output : outputOf (head ++ packets)
-    ≡ codes "frame 0 0 0 18900000 0 18900000 1740000 45900000 1 0\npackets 5 frames 1 peak 2 network pass buffer pass\n"
+    ≡ codes "frame 0 0 0 18900000 0 18900000 1740000 45900000 1 0 1\npackets 5 frames 1 peak 2 network pass buffer pass\n"
 unfolding outputOf rowLines rowLine fields digitsOf summaryLine refusalLine setUpRefusal firstNo troFits rateOf frameLength activeRatio classOf
     cMax vrxFull int troGrains defaultTro nearest phase encoded count fold rulesOf arriveOf markOf stepOf rowsAfter B.stepOf F.openedOf
     F.countedOf F.kindOf F.wholeRow F.rowOf F.answerOf F.joined F.arriveOf F.closeOf F.rowsOf readingOf packetsBy formatRefusal

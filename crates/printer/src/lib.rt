@@ -151,11 +151,8 @@ fn put_closed(s: State, rules: Rules, out: &mut [u8], at: usize) -> usize
     requires { ⌜ CloseAsks rules s at (length (now out)) ⌝ }
     ensures { λ r. ⌜ Line (rowLines (closing rules s)) at (now (out .entry)) r (now (out .exit)) ⌝ }
 {
-    let frames = s.frames;
-    if frames.begun {
-        let plan = rules.plan;
-        let row = frames.row(plan);
-        return text::put_row(row, out, at);
+    if s.frames.begun {
+        return text::put_row(s.row(rules), out, at);
     }
     at
 }

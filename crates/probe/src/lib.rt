@@ -356,7 +356,7 @@ pub extern "C" fn vtiming_set_up(
 }
 
 // A call's packets: 9, 10, 11 to 14, then 15 for too few row numbers or fewer than nine of the summary, and nothing written; or 0,
-// the state's words after the call, ten numbers for each frame closed, and the nine numbers, each in front.
+// the state's words after the call, a row for each frame closed, and the nine numbers, each in front.
 #[no_mangle]
 pub extern "C" fn vtiming_feed(
     state: &mut [u64],

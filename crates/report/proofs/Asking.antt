@@ -5,6 +5,7 @@ use Rattle.laws.specs.Kit.{leb, pos, length, drop, length-append, length-map, s
 use Rattle.laws.specs.Choose.{pick}
 use Rattle.laws.specs.Count.{count}
 use Rattle.laws.proofs.Count.{count-le}
+use Rattle.endian.specs.Number.{Bytes}
 use Rattle.packet.specs.declared.Scanned.the-variants as scan
 use Rattle.packet.specs.declared.Packet.{Packet}
 use Rattle.packet.specs.Paper.{closesAt}
@@ -20,7 +21,9 @@ use Rattle.limits.specs.declared.Parameters.{Parameters}
 use Rattle.record.specs.declared.Checked.the-variants as checked
 use Rattle.record.specs.Paper.{Packets, File, file, refused, fileOf}
 use Rattle.record.specs.Walk.{asChecked, checkedOf}
-use Rattle.record.proofs.ReadWrite.{FileHolds, file-holds}
+use Rattle.record.specs.Write.{fileLength}
+use Rattle.record.proofs.Writing.{length-file}
+use Rattle.record.proofs.ReadWrite.{FileHolds, file-holds, file-again}
 use Rattle.report.specs.declared.Asked.{Asked}
 use Rattle.report.specs.declared.Asked.the-variants.{Fine, Refused}
 use Rattle.report.specs.Paper.{stateOf, rowsOf, reportOf, inBytes, encoded, bytesFor, answer, answered, answerOf}
@@ -65,6 +68,17 @@ length-needed : (s : List ℕ) (x : Parameters) (ps : List Packet) → FileHolds
 length-needed s x ps h =
     length-report (ofParameters x) ps
     ∙ rw (numbers-length (rowsOf (ofParameters x) ps), rows-closed (ofParameters x) ps (h .closed) (h .scan-fine))
+
+-- X12: a frame that closes takes a row, and at least one packet's bytes of the file: so six times the file is always enough
+pub room-at-most : (s : List ℕ) → Bytes s → roomOf s ≤ 6 * length s
+unfolding roomOf
+room-at-most s b = go (fileOf s) refl
+  where
+    go : (f : File) → fileOf s ≡ f → roomFor f ≤ 6 * length s
+    go (refused n o) e = omega arith
+    go (file w ps) e =
+        let size : fileLength (length ps) ≡ length s = sym (length-file w ps) ∙ ap length (file-again s b w ps e) in
+        omega (arith, length-needed s w ps (file-holds s w ps e), size, count-le (closesAt ps) (length ps))
 
 -- ---- the check's answer
 

@@ -21,7 +21,7 @@ use Rattle.report.specs.declared.Asked.{Asked}
 use Rattle.report.specs.declared.Asked.the-variants.{Fine, Refused}
 use Rattle.report.specs.Paper.{rowsOf, rowBytes, numberBytes, summaryBytes, bytesFor, answerOf, filledBy, limitsNumber, limitsLeft}
 
--- the bytes of nine numbers, and of ten for each frame closed
+-- the bytes of nine numbers, and of a row for each frame closed
 abbrev pub needed : ℕ → ℕ
 needed closed = numberBytes * (summaryWidth + closed * rowWidth)
 

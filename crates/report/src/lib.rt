@@ -118,10 +118,8 @@ fn put_closed(s: State, rules: Rules, out: &mut [u8], at: usize) -> usize
     requires { ⌜ LayAsks rowBytes rules s at (length (now out)) ⌝ }
     ensures { λ r. ⌜ Put (rowBytes (closing rules s)) at (now (out .entry)) r (now (out .exit)) ⌝ }
 {
-    let frames = s.frames;
-    if frames.begun {
-        let plan = rules.plan;
-        put_row(frames.row(plan), out, at);
+    if s.frames.begun {
+        put_row(s.row(rules), out, at);
         return at + ROW_BYTES;
     }
     at

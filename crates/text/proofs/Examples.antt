@@ -16,7 +16,8 @@ row-printed : rowLine (record {
   gap = pos 45900000;
   peak = pos 1;
   least = pos 0;
-}) ≡ codes "frame 0 0 0 18900000 0 18900000 1740000 45900000 1 0\n"
+  began = pos 1;
+}) ≡ codes "frame 0 0 0 18900000 0 18900000 1740000 45900000 1 0 1\n"
 unfolding rowLine fields digitsOf
 row-printed = refl
 

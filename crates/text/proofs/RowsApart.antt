@@ -1,16 +1,11 @@
 -- Two rows that print alike are one: the numbers are told off the line one after the other, by recursion on them.
-use Rattle.laws.specs.Kit.{_≡_, refl, sym, _∙_, List, [], _∷_, _++_, append-assoc, _<_, _^_, arith, ℤ, natAbs}
+use Rattle.laws.specs.Kit.{_≡_, refl, sym, _∙_, List, [], _∷_, _++_, append-assoc, arith, ℤ}
 use Rattle.frame.specs.declared.Row.{Row}
 use Rattle.frame.specs.Step.{numbersOf}
 use Rattle.text.specs.Decimal.{codes, signed}
-use Rattle.text.specs.Lines.{fields, rowLine}
+use Rattle.text.specs.Lines.{Sized, fields, rowLine}
 use Rattle.text.proofs.Read.{signed-differ}
 use Rattle.text.proofs.Apart.{Stops, head-same, tail-same, part-same, after, signed-solid}
-
--- the size of each is below 10^20, as of every number of 64 bits
-abbrev pub Sized : List ℤ → Type 0
-Sized [] = Unit
-Sized (z ∷ zs) = (natAbs z < 10 ^ 20) × Sized zs
 
 fields-stop : (zs : List ℤ) → Stops (fields zs ++ codes "\n")
 unfolding fields
@@ -44,6 +39,7 @@ numbers-same x y e =
     let gap : x .gap ≡ y .gap = cc in
     let peak : x .peak ≡ y .peak = cc in
     let least : x .least ≡ y .least = cc in
+    let began : x .began ≡ y .began = cc in
     λ j. record {
       number = number j;
       kind = kind j;
@@ -55,6 +51,7 @@ numbers-same x y e =
       gap = gap j;
       peak = peak j;
       least = least j;
+      began = began j;
     }
 
 pub rows-differ : (x y : Row) → Sized (numbersOf x) → Sized (numbersOf y) → rowLine x ≡ rowLine y → x ≡ y

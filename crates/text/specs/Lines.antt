@@ -1,5 +1,5 @@
 -- The three lines that document 01 says the program prints, as bytes; and what it is that a line was put into lent bytes.
-use Rattle.laws.specs.Kit.{List, [], _∷_, _++_, ℕ, _≤_, ℤ, length}
+use Rattle.laws.specs.Kit.{List, [], _∷_, _++_, ℕ, _^_, _≤_, _<_, ℤ, natAbs, length}
 use Rattle.laws.specs.Lay.{Put}
 use Rattle.bucket.specs.declared.Network.{Network}
 use Rattle.bucket.specs.declared.Network.the-variants.{Pass as Passes, Burst}
@@ -9,12 +9,17 @@ use Rattle.frame.specs.declared.Buffer.the-variants.{None, Pass, Under, Over}
 use Rattle.frame.specs.Step.{numbersOf}
 use Rattle.text.specs.Decimal.{codes, digits, signed}
 
+-- the size of each number is below 10^20, as of every number of 64 bits
+abbrev pub Sized : List ℤ → Type 0
+Sized [] = Unit
+Sized (z ∷ zs) = (natAbs z < 10 ^ 20) × Sized zs
+
 -- a space before each number
 unfoldable pub fields : List ℤ → List ℕ
 fields [] = []
 fields (z ∷ zs) = codes " " ++ signed z ++ fields zs
 
--- L2: "It prints `frame` and the ten numbers of each row as it closes"
+-- L2: "It prints `frame` and the ten numbers of each row as it closes"; "Printed frame lines [..] grow by" the eleventh
 unfoldable pub rowLine : Row → List ℕ
 rowLine row = codes "frame" ++ fields (numbersOf row) ++ codes "\n"
 
@@ -46,6 +51,10 @@ unfoldable pub refusalLine : (number offset : ℕ) → List ℕ
 refusalLine number offset = pairWords (codes "refused ") number offset ++ codes "\n"
 
 -- ---- a line put into lent bytes
+
+-- the room for a number of a row: a space, a sign and twenty digits
+abbrev pub fieldRoom : ℕ
+fieldRoom = 22
 
 -- the room for a line: none has more bytes
 abbrev pub lineRoom : ℕ

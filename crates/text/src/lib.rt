@@ -1,9 +1,10 @@
 // How the program's lines are written, into lent bytes: a number in decimal, a row's line, and the last line of a file that was
 // measured or refused.
 // It knows `frame` and `bucket`, for what a row and the answers are. It must never know how they came about, nor where the bytes go.
-ghost use Rattle.laws.specs.Kit.{_++_, _+_, _≤_, _<_, _≡_, length};
+ghost use Rattle.laws.specs.Kit.{_++_, _+_, _*_, _≤_, _<_, _≡_, length};
+ghost use Rattle.frame.specs.Step.{rowWidth};
 ghost use Rattle.text.specs.Decimal.{codes, digits, signed};
-ghost use Rattle.text.specs.Lines.{lineRoom, Line, Part, fields, rowLine, summaryLine, refusalLine};
+ghost use Rattle.text.specs.Lines.{fieldRoom, lineRoom, Line, Part, fields, rowLine, summaryLine, refusalLine};
 ghost use Rattle.text.specs.Lines.{pairWords, countWords, networkWords, bufferWords};
 use bucket::Network;
 use frame::Buffer;
@@ -68,16 +69,16 @@ fn put_signed(x: i64, out: &mut [u8], at: usize) -> usize
 }
 
 fn put_field(x: i64, out: &mut [u8], at: usize) -> usize
-    requires { ⌜ at + 22 ≤ length (now out) ⌝ }
-    ensures { λ r. ⌜ Part 22 (codes " " ++ signed x) at (now (out .entry)) r (now (out .exit)) ⌝ }
+    requires { ⌜ at + fieldRoom ≤ length (now out) ⌝ }
+    ensures { λ r. ⌜ Part fieldRoom (codes " " ++ signed x) at (now (out .entry)) r (now (out .exit)) ⌝ }
 {
     let next = put_word(b" ", out, at);
     put_signed(x, out, next)
 }
 
 fn put_fields(numbers: [i64; ROW], out: &mut [u8], at: usize) -> usize
-    requires { ⌜ at + 220 ≤ length (now out) ⌝ }
-    ensures { λ r. ⌜ Part 220 (fields numbers) at (now (out .entry)) r (now (out .exit)) ⌝ }
+    requires { ⌜ at + fieldRoom * rowWidth ≤ length (now out) ⌝ }
+    ensures { λ r. ⌜ Part (fieldRoom * rowWidth) (fields numbers) at (now (out .entry)) r (now (out .exit)) ⌝ }
 {
     let mut next = at;
     let mut k = 0;
@@ -88,7 +89,7 @@ fn put_fields(numbers: [i64; ROW], out: &mut [u8], at: usize) -> usize
     next
 }
 
-// `frame` and the ten numbers of a row.
+// `frame` and the numbers of a row.
 pub fn put_row(row: Row, out: &mut [u8], at: usize) -> usize
     requires { ⌜ at + lineRoom ≤ length (now out) ⌝ }
     ensures { λ r. ⌜ Line (rowLine row) at (now (out .entry)) r (now (out .exit)) ⌝ }

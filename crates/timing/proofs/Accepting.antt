@@ -1,8 +1,9 @@
 -- What an accepted history is known to be, in the owner's words. The state that feeding it reaches is the declared one, and `as-declared`
 -- carries over to it what the crates below show of the declared bucket and the declared frames.
-use Rattle.laws.specs.Kit.{_≡_, refl, sym, ap, subst, _∙_, ⊎-elim, _↔_, true, List, [], _∷_, ℕ, suc, _+_, _-_, _*_, _≤_, _<_, arith, ℤ}
-use Rattle.laws.specs.Kit.{length, take, drop, sets}
+use Rattle.laws.specs.Kit.{_≡_, refl, sym, ap, subst, _∙_, ⊎-elim, _↔_, true, false, List, [], _∷_, ℕ, suc, _+_, _-_, _*_, _≤_, _<_, arith, ℤ}
+use Rattle.laws.specs.Kit.{append-nil, pos, length, take, drop, drop-length, sets}
 use Rattle.laws.specs.Climb.{Climbs}
+use Rattle.laws.proofs.Lay.{sets-front}
 use Rattle.laws.specs.Count.{count}
 use Rattle.grain.specs.Paper.{InstantBy}
 use Rattle.limits.specs.Fraction.{Same}
@@ -17,9 +18,11 @@ use Rattle.packet.specs.Paper.{at, declared}
 use Rattle.bucket.specs.Paper as bucket
 use Rattle.bucket.proofs.Owner as proved-bucket
 use Rattle.frame.specs.declared.Row.{Row}
-use Rattle.frame.specs.Paper.{closesAt, kindAt, numberAt, since, RowIs, BufferIs, Dry, SomeLate}
+use Rattle.frame.specs.Paper.{closesAt, kindAt, numberAt, since, InFrame, RowIs, RowBegan, BufferIs, Dry, SomeLate}
 use Rattle.frame.specs.Step.{rowWidth, rowOf, numbersOf}
 use Rattle.frame.specs.ByPlace.{markedTime, closedAt, framesAt, rowsAt}
+use Rattle.frame.proofs.Stretches.{since-is}
+use Rattle.frame.proofs.Places.{began-after, began-later, began-next, frame-holds}
 use Rattle.frame.proofs.RowOfFrame.{row-is}
 use Rattle.frame.proofs.BufferOfFrames.{buffer-is, dry-late, late-dry}
 use Rattle.timing.specs.declared.State.{State}
@@ -123,7 +126,7 @@ module _ (h : AcceptedHistory) where
   pub row-at : (i : ℕ) → i < size h → closesAt (frames h) i ≡ true
       → (r : Row) × (rowsAt (plan h) (frames h) i ≡ r ∷ []) × RowIs (plan h) (frames h) i r
   row-at i b e = (
-    rowOf (plan h) (numberAt (frames h) i) (markedTime (plan h) (frames h) i) (closedAt (plan h) (frames h) i),
+    rowOf (plan h) (numberAt (frames h) i) (markedTime (plan h) (frames h) i) (since (frames h) i) (closedAt (plan h) (frames h) i),
     rw e,
     row-is (plan h) (frames h) in-order i b (planned (h .stream) (h .set-up)) e,
   )
@@ -136,6 +139,31 @@ module _ (h : AcceptedHistory) where
       let There : List Row → Type 0 = λ rows. i < size h → rowsAt (plan h) (frames h) i ≡ r ∷ [] → length (numbers rows) ≤ length lent
       → take rowWidth (drop (rowWidth * numberAt (frames h) i) (sets lent 0 (numbers rows))) ≡ numbersOf r in
       subst There (sym (rows-declared (h .stream) (h .packets))) (numbers-of-frame (h .stream) (h .packets) i (size h) r lent)
+
+  -- ---- where its frames began
+
+  -- the place that a row tells is where its frame began
+  place-is : {i place : ℕ} → RowBegan (plan h) (frames h) i place → since (frames h) i ≡ place
+  place-is {i} {place} r = let same : pos (since (frames h) i) ≡ pos place = sym (r .is .began) ∙ r .told in cc
+
+  pub place-within : (i place : ℕ) → i < size h → RowBegan (plan h) (frames h) i place → (0 < place) × (place ≤ 999999999)
+  place-within i place b r =
+      let few = sound-reached (h .stream) (h .set-up) (h .packets) (h .closed) (h .fine) .past .few in (
+        omega (arith, place-is r, began-after (frames h) i (r .closing)),
+        omega (arith, place-is r, since-is (frames h) i .within, b, few, packets-reached),
+      )
+
+  pub places-grow : (i j a b : ℕ) → i < j → RowBegan (plan h) (frames h) i a → RowBegan (plan h) (frames h) j b → a < b
+  places-grow i j a b l r q =
+      omega (arith, place-is r, place-is q, since-is (frames h) i .within, began-later (frames h) i j (r .closing) l)
+
+  pub places-follow : (i j a b : ℕ) → i < j → ((k : ℕ) → i < k → k < j → closesAt (frames h) k ≡ false)
+      → RowBegan (plan h) (frames h) i a → RowBegan (plan h) (frames h) j b → b ≡ suc i
+  places-follow i j a b l none r q = sym (place-is q) ∙ began-next (frames h) i j (r .closing) l none
+
+  pub place-holds : (i place : ℕ) → RowBegan (plan h) (frames h) i place → (k : ℕ) → InFrame (frames h) i k ↔ ((place ≤ k) × (k ≤ i))
+  place-holds i place r k =
+      subst (λ (s : ℕ). InFrame (frames h) i k ↔ ((s ≤ k) × (k ≤ i))) (place-is r) (frame-holds (frames h) i (r .closing) k)
 
   pub buffer-reached : BufferIs (plan h) (frames h) (reached h .frames .buffer)
   unfolding stateAt framesAt
@@ -168,6 +196,17 @@ module _ (h : AcceptedHistory) where
       (numbers (rowsAfter (rulesOf x) (freshOf x) m)) in
       subst Dealt e (deals calls (freshOf x) (sound-fresh x (h .set-up))
       (passes x (h .set-up) (allOf calls) (h .closed) (ap declared e ∙ h .fine)) room)
+
+  -- and each row, in what they write, stands where the one call writes it
+  pub dealt-row : (calls : List Call) → allOf calls ≡ h .packets → Rooms (freshOf (h .stream)) calls
+      → (i : ℕ) → i < size h → closesAt (frames h) i ≡ true
+      → (written : List ℤ) × Deals (freshOf (h .stream)) calls (reached h) written
+      × (r : Row) × RowIs (plan h) (frames h) i r × (take rowWidth (drop (rowWidth * numberAt (frames h) i) written) ≡ numbersOf r)
+  dealt-row calls e room i b c =
+      let all = numbers (rowsOfAll h) in
+      let row = row-at i b c in
+      let same : sets all 0 all ≡ all = sets-front all all (omega arith) ∙ rw (drop-length all) (append-nil all) in
+      (all, dealt calls e room, row .0, row .2, rw same at (numbers-at i (row .0) all b (row .1) (omega arith)))
 
   pub verdict-reached : verdictOf (reached h) ≡ Given (answersOf (reached h))
   unfolding verdictOf

@@ -75,8 +75,8 @@ unfolding F.rowsOf arriveOf F.arriveOf numbers
 row-here s p x e kept new =
     let plan = rulesOf (s .numbers) .plan in
     pick-either (λ (l : List Row). AllFit (numbers l)) (marked p && s .frames .begun)
-    (λ t. row-fits plan (s .frames .closed) (s .frames .marked) _ (planned (s .numbers) (x .accepted))
-    (rows-made s p x e (and-right (marked p) (s .frames .begun) t)) (stamp-arrives plan (s .frames) (p .time) (p .stamp) kept new))
+    (λ t. row-fits plan (s .frames .closed) (s .frames .marked) _ _ (planned (s .numbers) (x .accepted))
+    (rows-made s p x e (and-right (marked p) (s .frames .begun) t) .row) (stamp-arrives plan (s .frames) (p .time) (p .stamp) kept new))
     (λ t. tt)
 
 -- and those of a list, whose timestamps are below 2^32 as a u32 is

@@ -2,15 +2,10 @@
 use Rattle.laws.specs.Kit.{_≡_, sym, _∙_, true, false, List, ℕ, _+_, _≤_, add-zero, length, sets}
 use Rattle.laws.specs.Lay.{Put}
 use Rattle.frame.specs.declared.Row.{Row}
-use Rattle.frame.specs.Step.{rowOf}
 use Rattle.timing.specs.declared.Rules.{Rules}
 use Rattle.timing.specs.declared.State.{State}
-use Rattle.timing.specs.Feed.{closing, LayAsks}
+use Rattle.timing.specs.Feed.{closedRow, closing, LayAsks}
 use Rattle.timing.proofs.Sink.{Sink, one}
-
--- the row that is closed
-abbrev pub closedRow : Rules → State → Row
-closedRow rules s = rowOf (rules .plan) (s .frames .closed) (s .frames .marked) (s .frames .current)
 
 module _ {A : Type 0} (w : Sink A) (rules : Rules) (s : State) where
   one-row : s .frames .begun ≡ true → w .write (closing rules s) ≡ w .row (closedRow rules s)

@@ -9,7 +9,7 @@ use Rattle.packet.proofs.Refusals as P
 use Rattle.packet.proofs.Ranging as PR
 use Rattle.bucket.proofs.Ranging as B
 use Rattle.frame.specs.Step as F
-use Rattle.frame.specs.Range.{RowAsks, Kept}
+use Rattle.frame.specs.Range.{FramesRowAsks, Kept}
 use Rattle.frame.proofs.Ranges as R
 use Rattle.timing.specs.declared.State.{State}
 use Rattle.timing.specs.Step.{rulesOf, arriveOf, markOf, stepOf}
@@ -95,9 +95,8 @@ module _ (s : State) (p : Packet) (x : Sound s) (e : numberOf (s .past) p ≡ 0)
 
   -- a row can be made of the frame that the packet closes
   pub rows-made : (arriveOf (rulesOf (s .numbers)) s (p .time) (p .stamp)) .frames .begun ≡ true
-      → RowAsks (rulesOf (s .numbers) .plan) ((arriveOf (rulesOf (s .numbers)) s (p .time) (p .stamp)) .frames .closed)
-      ((arriveOf (rulesOf (s .numbers)) s (p .time) (p .stamp)) .frames .marked)
-      ((arriveOf (rulesOf (s .numbers)) s (p .time) (p .stamp)) .frames .current)
+      → FramesRowAsks (rulesOf (s .numbers) .plan) ((arriveOf (rulesOf (s .numbers)) s (p .time) (p .stamp)) .frames)
+      ((arriveOf (rulesOf (s .numbers)) s (p .time) (p .stamp)) .past .packets)
   unfolding arriveOf F.arriveOf
   rows-made b = R.rowable (rulesOf (s .numbers) .plan) (s .frames) (s .past .first) (s .past .last) (s .past .packets) (p .time)
       (planned (s .numbers) (x .accepted)) (x .frames) (p .stamp) (firstOf (s .past) (p .time)) next (accepted .in-order) same first-order b

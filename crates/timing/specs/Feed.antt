@@ -10,8 +10,9 @@ use Rattle.packet.specs.declared.Packet.{Packet}
 use Rattle.packet.specs.Paper.{packets}
 use Rattle.packet.specs.Step.{elapsedOf, nextOf, numberOf, scanOf, scannedOf, scannedNumber, scannedPlace, scannedClosed}
 use Rattle.frame.specs.declared.Row.{Row}
-use Rattle.frame.specs.Step.{rowWidth, rowOf}
-use Rattle.frame.specs.Range.{Planned, PushAsks, RowAsks}
+use Rattle.frame.specs.Step as F
+use Rattle.frame.specs.Step.{rowWidth}
+use Rattle.frame.specs.Range.{Planned, PushAsks, FramesRowAsks}
 use Rattle.timing.specs.declared.Rules.{Rules}
 use Rattle.timing.specs.declared.State.{State}
 use Rattle.timing.specs.declared.Fed.{Fed}
@@ -32,14 +33,18 @@ pub record ArriveAsks (rules : Rules) (s : State) (t : ℕ) : Type 0 where
   pub planned : Planned (rules .plan)
   pub push : s .frames .begun ≡ true → PushAsks (rules .plan) (s .frames .current) t
 
+-- V10: the row of the open frame, which the last packet closes; packets are counted since set-up
+abbrev pub closedRow : Rules → State → Row
+closedRow rules s = F.closedRow (rules .plan) (s .frames) (s .past .packets)
+
 -- the row that a marker closes, if the lead-in is over
 abbrev pub closing : Rules → State → List Row
-closing rules s = pick (s .frames .begun) (rowOf (rules .plan) (s .frames .closed) (s .frames .marked) (s .frames .current) ∷ []) []
+closing rules s = pick (s .frames .begun) (closedRow rules s ∷ []) []
 
 -- before that row is made
 pub record MakeAsks (rules : Rules) (s : State) : Type 0 where
   pub planned : Planned (rules .plan)
-  pub made : s .frames .begun ≡ true → RowAsks (rules .plan) (s .frames .closed) (s .frames .marked) (s .frames .current)
+  pub made : s .frames .begun ≡ true → FramesRowAsks (rules .plan) (s .frames) (s .past .packets)
 
 -- ---- a list of packets that is accepted
 
@@ -90,7 +95,7 @@ module _ (s : State) (rows : List ℤ) where
     rows = sets rows 0 (numbers (rowsAfter (rulesOf (s .numbers)) s l));
   }
 
-  -- N1, N8, N12: "15 fewer than ten row numbers per frame closed in this call", with "the call's first packet's" place
+  -- N1, N8, N12: "15 is given below eleven numbers per frame" closed in this call, with "the call's first packet's" place
   abbrev pub roomFor : ℕ → List Packet → Outcome
   roomFor closed l = pick (leb (closed * rowWidth) (length rows)) (acceptedAs l) (refusedBy 15 (s .past .packets))
 
@@ -126,7 +131,7 @@ module _ (s : State) (rows : List ℤ) (ts ss ms : List ℕ) where
   abbrev scanned : Scanned
   scanned = scannedOf (s .past) (s .frames .begun) ts ss ms
 
-  -- N8: "15 fewer than ten row numbers per frame closed in this call"
+  -- N8: "15 is given below eleven numbers per frame" closed in this call
   abbrev pub roomNumber : ℕ
   roomNumber = pick (leb (scannedClosed scanned * rowWidth) (length rows)) 0 15
 

@@ -78,7 +78,7 @@ unfolding arriveOf markOf
 stepOf rules s p = pick (marked p) (markOf rules (arriveOf rules s (p .time) (p .stamp)) (p .time)) (arriveOf rules s (p .time) (p .stamp))
 
 abbrev pub rowsOf : Rules → State → Packet → List Row
-rowsOf rules s p = F.rowsOf (rules .plan) (s .frames) (p .time) (p .stamp) (marked p)
+rowsOf rules s p = F.rowsOf (rules .plan) (s .frames) (nextOf (s .past) (p .time) .packets) (p .time) (p .stamp) (marked p)
 
 -- ---- a list of packets
 

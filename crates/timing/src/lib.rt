@@ -7,15 +7,17 @@ ghost use Rattle.laws.specs.Lay.{Put};
 ghost use Rattle.grain.specs.Paper.{grains as grainsOf};
 ghost use Rattle.timing.specs.Step.{setUpOf, frameOf, rulesOf, freshOf, arriveOf, markOf, numbers};
 ghost use Rattle.timing.specs.Range.{inRange};
+ghost use Rattle.frame.specs.Range.{Planned, FramesRowAsks};
 ghost use Rattle.packet.specs.Paper.{OneLength, packets};
 ghost use lib.Ieee.{binary64, inFloat};
 ghost use Rattle.timing.specs.Answers.{setUpAs, verdictOf, summaryWith, microsecondsOf, graphOf};
-ghost use Rattle.timing.specs.Feed.{ArriveAsks, closing, LayAsks, RunAsks, RunGives, feedOf, FeedGives};
+ghost use Rattle.timing.specs.Feed.{ArriveAsks, closedRow, closing, LayAsks, RunAsks, RunGives, feedOf, FeedGives};
 use bucket::Bucket;
 use bucket::Network;
 use frame::Buffer;
 use frame::Frames;
 use frame::Plan;
+use frame::Row;
 use grain::Spacing;
 use limits::Parameters;
 use packet::Past;
@@ -223,15 +225,25 @@ impl State {
         self
     }
 
-    // The row of the frame that a marker closes now, laid into `rows` from `at` on; where the next one goes.
+    // The row of the open frame, which a marker closes now. The packets that have come are counted since set-up, not since the call:
+    // so the place in the row is the same however the packets are dealt out.
+    pub fn row(self, rules: Rules) -> Row
+        requires { ⌜ Planned (rules .plan) × FramesRowAsks (rules .plan) (self .frames) (self .past .packets) ⌝ }
+        ensures { λ r. ⌜ r ≡ closedRow rules self ⌝ }
+    {
+        let frames = self.frames;
+        let past = self.past;
+        let plan = rules.plan;
+        frames.row(plan, past.packets)
+    }
+
+    // That row laid into `rows` from `at` on, where the lead-in is over; where the next one goes.
     fn lay_row(self, rules: Rules, rows: &mut [i64], at: usize) -> usize
         requires { ⌜ LayAsks numbers rules self at (length (now rows)) ⌝ }
         ensures { λ r. ⌜ Put (numbers (closing rules self)) at (now (rows .entry)) r (now (rows .exit)) ⌝ }
     {
-        let frames = self.frames;
-        if frames.begun {
-            let plan = rules.plan;
-            let row = frames.row(plan);
+        if self.frames.begun {
+            let row = self.row(rules);
             row.put(rows, at);
             return at + frame::ROW;
         }
@@ -274,7 +286,7 @@ impl State {
 
 impl State {
     // A call's packets. Refused, by 9, 10, 11 to 14 or 15 in that order, it accepts none of them, and state
-    // and rows are as they were. Accepted, ten numbers are written for each frame closed, from the start of
+    // and rows are as they were. Accepted, a row is written for each frame closed, from the start of
     // `rows` on, and the rest of `rows` stays.
     pub fn feed(mut self, arrivals: &[u64], stamps: &[u32], markers: &[u8], rows: &mut [i64]) -> Fed
         ensures { λ r. ⌜ FeedGives (feedOf self (now (rows .entry)) (now (arrivals .entry)) (now (stamps .entry)) (now (markers .entry)))

@@ -1,6 +1,6 @@
 -- After k turns the first k numbers are put, each with a space before it.
 use Rattle.laws.specs.Kit.{_*_, _-_, _≤_, _≡_, _∙_, arith, length, take, pos}
-use Rattle.text.specs.Lines.{Part, fields}
+use Rattle.text.specs.Lines.{fieldRoom, Part, fields}
 use mir.Syntax.{w64}
 use mir.Facts.{toZ-ofZ}
 use Rattle.frame.specs.Step.{rowWidth}
@@ -11,7 +11,7 @@ use Rattle.text.proofs.put_fields.Statement.{statement}
 use Rattle.text.proofs.put_fields.Tie as tie
 
 abbrev Inv-loop : tie.InvT-loop
-Inv-loop out₀ at numbers next₀ k₀ out next k = Part (22 * k) (fields (take k numbers)) at out₀ next out × (k ≤ rowWidth)
+Inv-loop out₀ at numbers next₀ k₀ out next k = Part (fieldRoom * k) (fields (take k numbers)) at out₀ next out × (k ≤ rowWidth)
     × (length out ≡ length out₀) × (length numbers ≡ rowWidth)
 
 abbrev μ-loop : tie.MeasureT-loop

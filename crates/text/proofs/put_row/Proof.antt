@@ -1,4 +1,4 @@
--- The word, the ten numbers and the line's end, one behind the other.
+-- The word, the row's numbers and the line's end, one behind the other.
 use Rattle.laws.specs.Kit.{ap, List, _++_, arith, ℤ}
 use borrow.Author.Needs.{needs}
 use Rattle.text.specs.Decimal.{codes}
@@ -32,10 +32,10 @@ returns : tie.Need-returns
 unfolding rowLine
 returns c =
     let end = c .before .before in
-    let ten = end .before .before .before .before .before in
-    let row = ten .before .before in
+    let all = end .before .before .before .before .before in
+    let row = all .before .before in
     let word = row .before .before .before in
-    let line = part-then (part-then (word .put-word .ensures) (ten .put-fields .ensures)) (end .put-word2 .ensures) in
+    let line = part-then (part-then (word .put-word .ensures) (all .put-fields .ensures)) (end .put-word2 .ensures) in
     let same = ap (λ (zs : List ℤ). codes "frame" ++ fields zs ++ codes "\n") (row .numbers .ensures) in
     part-put {m = 256} (omega arith) (part-is (omega arith) same line)
 

@@ -12,7 +12,7 @@ whole-row-requires : tie.Need-whole-row-requires
 whole-row-requires c κs = search needs
 
 returns : tie.Need-returns
-returns c = c .whole-row .ensures ∙ row-whole _ _ _ _ (omega arith)
+returns c = c .whole-row .ensures ∙ row-whole _ _ _ _ _ (omega arith)
 
 detail-requires : tie.Need-detail-requires
 detail-requires c κs = search needs
@@ -26,7 +26,7 @@ returns-2 : tie.Need-returns-2
 returns-2 c = let a = c .before .before .before .before .args in
     let k = c .before .before .before .kind in
     c .broken-row .ensures ∙ rw (c .before .detail .ensures)
-    (row-broken (a .plan) (a .number) (a .self) (a .marked) (k .result) (k .ensures) (c .before .before .if1 .left))
+    (row-broken (a .plan) (a .number) (a .self) (a .marked) (a .began) (k .result) (k .ensures) (c .before .before .if1 .left))
 
 pub row-spec : {M : Type 1} → statement M
 row-spec =

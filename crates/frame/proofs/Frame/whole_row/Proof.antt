@@ -1,4 +1,4 @@
--- Each of the ten numbers is read back as it was made, since it fits.
+-- Each number is read back as it was made, since it fits.
 use Rattle.laws.specs.Kit.{pos, _∙_, _-_, arith}
 use mir.Syntax.{w64}
 use mir.Facts.{toZ-pos, toZ-ofZ}
@@ -23,8 +23,8 @@ sub-offset c = let s = c .before .before in
     offset-made (grains (a .self .first)) (a .self .stamp) (a .self .phase) (a .plan .period) (omega arith) (omega arith) (omega arith)
     (d .ensures) (v .ensures) (record { sfits = d .ok }) (record { sfits = v .ok })
 
-cast-t8 : tie.Need-cast-t8
-cast-t8 c = search needs
+cast-t9 : tie.Need-cast-t9
+cast-t9 c = search needs
 
 add-difference : tie.Need-add-difference
 add-difference c = search needs
@@ -32,20 +32,23 @@ add-difference c = search needs
 difference-requires-2 : tie.Need-difference-requires-2
 difference-requires-2 c κs = search needs
 
-sub-t11 : tie.Need-sub-t11
-sub-t11 c = search needs
+sub-t12 : tie.Need-sub-t12
+sub-t12 c = search needs
 
-mul-t12 : tie.Need-mul-t12
-mul-t12 c = search needs
-
-cast-t13 : tie.Need-cast-t13
-cast-t13 c = search needs
+mul-t13 : tie.Need-mul-t13
+mul-t13 c = search needs
 
 cast-t14 : tie.Need-cast-t14
 cast-t14 c = search needs
 
+cast-t15 : tie.Need-cast-t15
+cast-t15 c = search needs
+
 difference-requires-3 : tie.Need-difference-requires-3
 difference-requires-3 c κs = search needs
+
+cast-t17 : tie.Need-cast-t17
+cast-t17 c = search needs
 
 returns : tie.Need-returns
 unfolding wholeRow
@@ -70,6 +73,7 @@ returns c = let s = c .before .before .before .before .before .before .before in
       gap = toZ-pos w64 {n = grains (a .self .first - a .marked)} (omega arith) j;
       peak = toZ-pos w64 {n = a .self .top} (omega arith) j;
       least = (toZ-ofZ {w = w64} (record { sfits = c .difference3 .ok }) ∙ c .difference3 .ensures) j;
+      began = toZ-pos w64 {n = a .began} (omega arith) j;
     }
 
 pub whole-row-spec : {M : Type 1} → statement M
@@ -79,12 +83,13 @@ whole-row-spec =
     difference-requires
     video-latency-requires
     sub-offset
-    cast-t8
+    cast-t9
     add-difference
     difference-requires-2
-    sub-t11
-    mul-t12
-    cast-t13
+    sub-t12
+    mul-t13
     cast-t14
+    cast-t15
     difference-requires-3
+    cast-t17
     returns)

@@ -22,6 +22,7 @@ returns c =
     let gap = margin .1 in
     let peak = gap .1 in
     let least = peak .1 in
+    let began = least .1 in
     λ j. back (row .number) (number .0 .1) j
     ∷ back (row .kind) (kind .0 .1) j
     ∷ back (row .detail) (detail .0 .1) j
@@ -32,6 +33,7 @@ returns c =
     ∷ back (row .gap) (gap .0 .1) j
     ∷ back (row .peak) (peak .0 .1) j
     ∷ back (row .least) (least .0 .1) j
+    ∷ back (row .began) (began .0 .1) j
     ∷ []
 
 pub numbers-spec : {M : Type 1} → statement M

@@ -1,4 +1,4 @@
--- What is left of the ten numbers, laid from the next place on, gives the end; each turn lays one.
+-- What is left of the row's numbers, laid from the next place on, gives the end; each turn lays one.
 use Rattle.laws.proofs.Lay.{sets-turn, sets-done}
 use Rattle.laws.specs.Kit.{pos, add-zero, _≡_, refl, ap, _∙_, drop, _+_, _-_, _≤_, arith, length, length-set, sets}
 use mir.Syntax.{w64}
@@ -44,9 +44,9 @@ loop-less c = search needs
 
 loop-again : tie.Need-loop-again Inv-loop μ-loop
 loop-again c = let l = c .before .before .loop in
-    let ten = c .before .before .before .numbers .result in (
+    let all = c .before .before .before .numbers .result in (
       rw (toZ-ofZ {w = w64} (record { sfits = c .rows .given }))
-          (sets-turn _ (l .k) ten (l .rows) (pos 0) (omega (arith, l .inv .3)) ∙ l .inv .0),
+          (sets-turn _ (l .k) all (l .rows) (pos 0) (omega (arith, l .inv .3)) ∙ l .inv .0),
       omega arith,
       simp length-set (l .inv .2),
       l .inv .3,
@@ -57,8 +57,8 @@ same-length c = search needs
 
 returns : tie.Need-returns Inv-loop μ-loop
 returns c = let l = c .before .loop in
-    let ten = c .before .before .numbers .result in
-    sets-done _ (l .k) ten (l .rows) (omega (arith, l .inv .3)) (l .inv .0) ∙ rw (c .before .before .numbers .ensures)
+    let all = c .before .before .numbers .result in
+    sets-done _ (l .k) all (l .rows) (omega (arith, l .inv .3)) (l .inv .0) ∙ rw (c .before .before .numbers .ensures)
 
 pub put-spec : {M : Type 1} → statement M
 put-spec =
