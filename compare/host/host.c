@@ -24,6 +24,7 @@ enum { MEASURE = 1, WRITE, LIMITS, GRAPH, SET_UP, FEED, CALLS };
 enum { ARRIVALS, STAMPS, MARKERS, FILE_BYTES, OUT, STATE, ROWS, AREAS };
 enum { LARGEST_PAGE = 1 << 16, GUARD = 256, MOST_LENT = 1 << 22, SECONDS = 100 };
 enum { SUMMARY_BYTES = 9 * 8, ROW_BYTES = 11 * 8 };
+_Static_assert(SUMMARY_BYTES == VTIMING_SUMMARY_BYTES && ROW_BYTES == VTIMING_ROW_BYTES, "the header has other sizes");
 
 static const char *const call_names[CALLS] = {"",              "vtiming_measure", "vtiming_write", "vtiming_limits",
                                               "vtiming_graph", "vtiming_set_up",  "vtiming_feed"};
@@ -421,6 +422,8 @@ static void ample_rooms(int fill) {
         at_step = "vtiming_measure_offset";
         for (size_t i = 0; i < LARGE_ROOMS; i++, large_rooms++)
             answers(vtiming_measure_offset(pointer(&in), in.size, large[i]), wanted, "offset with ample room");
+        answers(vtiming_measure_offset(pointer(&in), in.size, VTIMING_ENOUGH_BYTES(in.size)), wanted,
+                "offset with the room that the header calls enough");
         at_step = "vtiming_measure_room";
         answers(vtiming_measure_room(pointer(&in), in.size), now.filled.count, "room for the answer");
         unchanged(&in, now.file.at, "the file");

@@ -5,10 +5,11 @@ use Rattle.laws.specs.Kit.{_≡_, ap, _∙_, List, _++_, map, ℕ, _+_, _*_, _�
 use mir.Syntax.{w64}
 use mir.Val.{toZ}
 use Rattle.laws.specs.Choose.{AllBelow}
+use Rattle.laws.specs.Count.{count}
 use Rattle.limits.specs.declared.Parameters.{Parameters}
 use Rattle.limits.specs.Steps.{ParametersHeld}
 use Rattle.packet.specs.declared.Packet.{Packet}
-use Rattle.packet.specs.Paper.{packets}
+use Rattle.packet.specs.Paper.{packets, closesAt}
 use Rattle.endian.specs.Number.{numberOf}
 use Rattle.endian.proofs.Width.{bytes-all}
 use Rattle.record.specs.Paper.{file, refused, fileOf}
@@ -75,6 +76,10 @@ module _ (s : List ℕ) where
     pub room-is : roomOf s ≡ length (bytesFor w ps)
     unfolding roomOf
     room-is = ap roomFor e
+
+    -- X1, V1: it is 8·(9 + 11·frames): nine numbers, and a row of eleven for each packet that closes a frame
+    pub room-counted : roomOf s ≡ 8 * (9 + 11 * count (closesAt ps) (length ps))
+    room-counted = asked.room-counted s w ps e ∙ omega arith
 
     -- X1: with as much it is accepted
     pub enough-room : (room : ℕ) → roomOf s ≤ room → answerOf s room ≡ answer 0 0

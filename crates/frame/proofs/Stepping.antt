@@ -97,21 +97,21 @@ module _ (plan : Plan) (h : History) (i : ℕ) where
   frames-step = step-next (h .marked i) (begunAt h i) refl ∙ sym (declared-next (h .marked i) (begunAt h i) refl refl)
 
   -- V10: of the packets up to i the frame holds the last, so the others come before its first
-  began-is : beganOf (closedAt plan h i) (suc i) ≡ since h i
+  began-is : beganOf (closedAt plan h i) (i + 1) ≡ since h i
   unfolding keptOf
   began-is =
       let held : closedAt plan h i .held ≡ suc (i - since h i) = rw (one-more h i) in
       omega (arith, held, since-is h i .within)
 
   rows-next : (m b : Bool) → begunAt h i ≡ b
-      → rowsOf plan (framesAt plan h i) (suc i) (h .time i) (h .stamp i) m
+      → rowsOf plan (framesAt plan h i) (i + 1) (h .time i) (h .stamp i) m
       ≡ pick (m && b) (rowOf plan (numberAt h i) (markedTime plan h i) (since h i) (closedAt plan h i) ∷ []) []
   unfolding rowsOf framesAt arriveOf
   rows-next true true f = rw (f, pushed, began-is)
   rows-next true false f = rw f
   rows-next false b f = refl
 
-  pub rows-step : rowsOf plan (framesAt plan h i) (suc i) (h .time i) (h .stamp i) (h .marked i) ≡ rowsAt plan h i
+  pub rows-step : rowsOf plan (framesAt plan h i) (i + 1) (h .time i) (h .stamp i) (h .marked i) ≡ rowsAt plan h i
   rows-step = rows-next (h .marked i) (begunAt h i) refl
 
 -- before the first packet

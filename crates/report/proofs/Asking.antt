@@ -69,6 +69,12 @@ length-needed s x ps h =
     length-report (ofParameters x) ps
     ∙ rw (numbers-length (rowsOf (ofParameters x) ps), rows-closed (ofParameters x) ps (h .closed) (h .scan-fine))
 
+-- X1: the bytes of the nine numbers, and of a row for each packet that closes a frame
+pub room-counted : (s : List ℕ) (x : Parameters) (ps : List Packet) → fileOf s ≡ file x ps
+    → roomOf s ≡ needed (count (closesAt ps) (length ps))
+unfolding roomOf
+room-counted s x ps e = ap roomFor e ∙ length-needed s x ps (file-holds s x ps e)
+
 -- X12: a frame that closes takes a row, and at least one packet's bytes of the file: so six times the file is always enough
 pub room-at-most : (s : List ℕ) → Bytes s → roomOf s ≤ 6 * length s
 unfolding roomOf

@@ -1,7 +1,6 @@
 -- A state reached from set-up is the declared state of its history, and its rows are the declared rows: the step goes from place to place.
 use Rattle.laws.specs.Kit.{_≡_, refl, sym, ap, _∙_, subst, Bool, true, false, List, [], _∷_, _++_, append-assoc, append-nil, ℕ, zero, suc}
 use Rattle.laws.specs.Kit.{_+_, _-_, _*_, _≤_, arith, sub-zero, ltb, leb, eqb·suc-zero, length, take, take-suc, take-length, ltb-false}
-use native.Mathlib.Numerals.{add-one}
 use Rattle.laws.specs.Choose.{pick}
 use Rattle.laws.specs.Fold.{fold}
 use Rattle.laws.proofs.Fold.{fold-up-to, fold-states}
@@ -110,7 +109,7 @@ rows-cut rules s (p ∷ l) m =
 module _ (x : StreamNumbers) (l : List Packet) where
   row-declared : (i : ℕ) → rowsOf (rulesOf x) (stateAt x l i) (at l i) ≡ F.rowsAt (rulesOf x .plan) (frameHistory x l) i
   unfolding stateAt
-  row-declared i = rw (add-one i) (FF.rows-step (rulesOf x .plan) (frameHistory x l) i)
+  row-declared i = FF.rows-step (rulesOf x .plan) (frameHistory x l) i
 
   state-take : (i : ℕ) → i ≤ length l → stateAfter (rulesOf x) (stateAt x l 0) (take i l) ≡ stateAt x l i
   state-take = fold-up-to (stepOf (rulesOf x)) l noPacket (stateAt x l) (λ i h. step-declared x l i)
