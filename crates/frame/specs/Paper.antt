@@ -175,7 +175,7 @@ module _ (plan : Plan) (h : History) where
     pub peak : r .peak ≡ pos 0
     pub least : r .least ≡ pos 0
 
-  -- V1: "A closed frame writes ten numbers": those of the frame that packet i closes. V10: "Each row gets an eleventh number, the place in
+  -- V1, V10: "A closed frame writes ten numbers": those of the frame that packet i closes. "Each row gets an eleventh number, the place in
   -- the history of the frame's first packet, filled for broken frames too."
   pub record RowIs (i : ℕ) (r : Row) : Type 0 where
     pub number : r .number ≡ pos (numberAt h i)

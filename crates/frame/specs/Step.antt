@@ -94,7 +94,7 @@ brokenRow number kind detail began = record {
   began = pos began;
 }
 
--- V3: "For kinds 1 to 3 the last seven are 0", numbers 4 to 10; V10: where the frame began is "filled for broken frames too"
+-- V3, V10: "For kinds 1 to 3 the last seven are 0", of ten, so numbers 4 to 10; the eleventh is "filled for broken frames too"
 unfoldable pub rowOf : Plan → ℕ → ℕ → ℕ → Frame → Row
 unfolding kindOf wholeRow
 rowOf plan number marked began f =
