@@ -73,11 +73,11 @@ extern "C" {
 
 /* Room for vtiming_measure: the summary, and a row for each frame that closes. vtiming_measure_room adds them up. Or without
  * asking: VTIMING_ENOUGH_BYTES(file_len), six times the file's length, is always enough. That is proved of every file (in the
- * project's repository, crates/demands/specs/Calls.antt: room-at-most and always-enough). Five times is too little where nearly
- * every packet closes a frame. */
+ * project's repository, crates/demands/specs/Calls.antt: room-at-most and always-enough). The product is made in size_t, whatever
+ * type file_len has. Five times is too little where nearly every packet closes a frame. */
 #define VTIMING_SUMMARY_BYTES 72
 #define VTIMING_ROW_BYTES 88
-#define VTIMING_ENOUGH_BYTES(file_len) (6 * (file_len))
+#define VTIMING_ENOUGH_BYTES(file_len) ((size_t)6 * (file_len))
 
 /* How many numbers stand in front of the rows, and how many a row has: number j of row r, both from 0, is number
  * VTIMING_SUMMARY_NUMBERS + VTIMING_ROW_NUMBERS * r + j of the answer. */

@@ -162,6 +162,8 @@ static int try_room(void)
     uint64_t arrivals[PACKETS] = {0};
     uint32_t stamps[PACKETS] = {0};
     uint8_t markers[PACKETS], file[SIZE], answer[VTIMING_ENOUGH_BYTES(SIZE)];
+    uint32_t gigabyte = UINT32_C(1000000000); /* a host may keep a length in fewer bits than the product needs */
+    TRY(VTIMING_ENOUGH_BYTES(gigabyte) == UINT64_C(6000000000));
     for (size_t k = 0; k < PACKETS; k++) markers[k] = 1;
     TRY(vtiming_write(6, 0, 1, 1080, 1, 1460, VTIMING_DEFAULT_TRO, arrivals, PACKETS, stamps, PACKETS, markers, PACKETS, file, SIZE) ==
         VTIMING_ACCEPTED);
