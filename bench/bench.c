@@ -17,6 +17,7 @@
 #define RATE 6 /* 50 frames a second */
 #define FRAME_NS 20000000ull
 #define TICKS_PER_FRAME 1800u
+#define NINE_TICKS_NS 100000ull /* fewer ticks are no whole nanoseconds */
 #define LONGEST_NS 590000000000ull /* a list longer than 600 s is refused */
 #define ROUNDS 7
 
@@ -136,7 +137,8 @@ static uint32_t agree(struct stream s, struct list l, size_t row_count)
     return agree_with(twin_feed, s, l, row_count);
 }
 
-/* Short lists of every sort: all rates and classes, frames short, long and of two timestamps, bursts, long pauses, refusals. */
+/* Short lists of every sort: all rates and classes, frames short, long and of two timestamps, first packets half a wrap from two
+   encoded times, bursts, long pauses, refusals. */
 static void agree_on_short_lists(unsigned lists)
 {
     unsigned by_answer[256] = {0};
@@ -165,6 +167,11 @@ static void agree_on_short_lists(unsigned lists)
         if (t > UINT64_MAX - 2000000000000ull) t -= 2000000000000ull;
         uint64_t held = 0;
         for (size_t i = 0; i < l.count; i++) {
+            if (held == 0 && below(8) == 0) { /* exactly half a wrap, or a nanosecond to a side */
+                t += NINE_TICKS_NS - t % NINE_TICKS_NS;
+                stamp = (uint32_t)(t / NINE_TICKS_NS * 9) + (1u << 31);
+                t += below(3) - 1;
+            }
             l.arrivals[i] = t;
             l.stamps[i] = below(100) ? stamp : (uint32_t)any();
             held++;

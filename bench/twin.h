@@ -154,6 +154,16 @@ INLINE void arrives(struct twin *w, const struct rules *r, uint64_t t, uint32_t 
     w->held++;
 }
 
+/* Arrival less encoded time, which is the nearest of those that the timestamp has, one a wrap; of two that are equally near, the
+   later. Both are taken within one wrap, so that the difference is below a wrap in size, and one wrap off at most. */
+INLINE int64_t latency_of(uint64_t t, uint32_t stamp)
+{
+    int64_t latency = (int64_t)grains_mod(t, WRAP) - TICK * (int64_t)stamp;
+    if (2 * latency >= (int64_t)WRAP) return latency - (int64_t)WRAP;
+    if (2 * latency < -(int64_t)WRAP) return latency + (int64_t)WRAP;
+    return latency;
+}
+
 /* The frame that a marker closes: its eleven numbers, and the buffer's answer. */
 INLINE void row_of(struct twin *w, const struct rules *r, int64_t *row)
 {
@@ -167,7 +177,7 @@ INLINE void row_of(struct twin *w, const struct rules *r, int64_t *row)
         return;
     }
     int64_t fpt = (int64_t)w->phase - (int64_t)r->frame;
-    int64_t latency = (int64_t)grains_mod(w->first, WRAP) - TICK * (int64_t)w->stamp;
+    int64_t latency = latency_of(w->first, w->stamp);
     int64_t top = w->least < 1 ? 1 - w->least : 0;
     int64_t lack = w->most > 0 ? w->most : 0;
     row[3] = fpt;

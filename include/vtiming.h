@@ -63,9 +63,9 @@ extern "C" {
 #endif
 
 /* The version of this header and of the archive that it belongs to. */
-#define VTIMING_VERSION "2.0.0"
+#define VTIMING_VERSION "2.1.0"
 #define VTIMING_VERSION_MAJOR 2
-#define VTIMING_VERSION_MINOR 0
+#define VTIMING_VERSION_MINOR 1
 #define VTIMING_VERSION_PATCH 0
 
 /* A TRO of all ones stands for the default: 43F/1125 from height 1080 on, 28F/750 below. */
@@ -156,7 +156,8 @@ enum vtiming_buffer_answer {
  *   0  frame         its number, from 0
  *   1  kind          0 whole, 1 short, 2 long, 3 stamp
  *   2  detail        the count of packets for 1 and 2, the place of the first differing timestamp for 3, else 0
- *   3 to 7           FPT, RTP_OFFSET, VL, margin, GAP: five times in grains
+ *   3 to 7           FPT, RTP_OFFSET, VL, margin, GAP: five times in grains. Of the times that a timestamp may mean, 2^32 ticks
+ *                    apart, the one nearest to the arrival is taken, so VL is less than 6 h 38 min either way
  *   8, 9             the buffer's peak; its least
  *   10 first packet  where the frame began: the place of its first packet among all packets of the file, from 0, the lead-in
  *                    counted. Its record is at byte 19 + 16·place of the file
@@ -219,7 +220,7 @@ uint32_t vtiming_limits(uint8_t rate, uint8_t schedule, uint8_t stream_class, ui
                         uint16_t maxudp, uint32_t tro, uint64_t *out, size_t out_len);
 
 /* Three figures of a row for a graph: FPT, margin and VL, taken in grains, come out as microseconds. n counts doubles.
- * Refuses by 16, then by 15 where there is room for fewer than three. */
+ * Refuses by 16, which is given for no figures of a row, then by 15 where there is room for fewer than three. */
 uint32_t vtiming_graph(int64_t fpt, int64_t margin, int64_t latency, double *out, size_t n);
 
 #ifdef __cplusplus

@@ -400,7 +400,45 @@ fn fixed_limits() -> Vec<Call> {
     calls
 }
 
-/// Lists that document 01 speaks of, with the numbers they need.
+/// Frames of one packet with each timestamp at `t` and at the nanoseconds before
+/// it and after it.
+fn around(t: u64, timestamps: &[u32]) -> Vec<Packet> {
+    let mut list = packets(&[(t - 1, 0, 1)]);
+    for arrival in [t - 1, t, t + 1] {
+        let at = |timestamp: &u32| Packet::new(arrival, *timestamp, 1);
+        list.extend(timestamps.iter().map(at));
+    }
+    list
+}
+
+/// Request (v): both sides of a wrap and of a tie, from the epoch to the end of
+/// 64 bits.
+fn wraps_and_ties() -> Vec<(Numbers, Vec<Packet>)> {
+    let one = Numbers {
+        packets_per_frame: 1,
+        ..NARROW
+    };
+    let half = 1 << 31;
+    let end = u64::MAX;
+    let lists = vec![
+        // The first wrap, the first on a whole nanosecond, and the last.
+        around(47_721_858_844_445, &[u32::MAX, 0]),
+        around(429_496_729_600_000, &[u32::MAX, 0]),
+        around(18_446_741_370_743_466_667, &[u32::MAX, 0]),
+        packets(&[(0, 0, 1), (0, half, 1), (1, half, 1)]),
+        around(100_000, &[half + 9]),
+        // The later encoded time is after the next wrap.
+        around(23_860_929_500_000, &[7]),
+        around(1_760_000_000_000_000_000, &[3_753_607_168]),
+        around(18_446_744_073_709_500_000, &[2_390_750_591]),
+        packets(&[(end, 0, 1), (end, 2_390_750_595, 1)]),
+        packets(&[(end, 0, 1), (end, 2_390_750_596, 1)]),
+    ];
+    lists.into_iter().map(|list| (one, list)).collect()
+}
+
+/// Lists that document 01 speaks of, with the numbers they need, and those of
+/// request (v).
 fn streams() -> Vec<(Numbers, Vec<Packet>)> {
     let one = Numbers {
         packets_per_frame: 1,
@@ -455,7 +493,7 @@ fn streams() -> Vec<(Numbers, Vec<Packet>)> {
     };
     let mut pile = vec![Packet::new(0, 0, 1)];
     pile.extend((0..20).map(|j| Packet::new(19_990_000, 0, u8::from(j == 19))));
-    vec![
+    let of_document_01 = vec![
         (NARROW, example()),
         (NARROW, mixed),
         (NARROW, vec![]),
@@ -491,7 +529,8 @@ fn streams() -> Vec<(Numbers, Vec<Packet>)> {
         (NARROW, packets(&[(5, 0, 1), (4, 0, 1)])),
         (NARROW, packets(&[(5, 0, 1), (5, 0, 2)])),
         (NARROW, packets(&[(5, 0, 255)])),
-    ]
+    ];
+    [of_document_01, wraps_and_ties()].concat()
 }
 
 fn fixed_lists() -> Vec<Call> {
@@ -554,6 +593,8 @@ fn fixed_files(random: &mut Random) -> Vec<Call> {
     files.into_iter().map(Call::Measure).collect()
 }
 
+/// The ends of VL among them, which are accepted; 16 is for figures from
+/// elsewhere.
 fn fixed_figures() -> Vec<Call> {
     let edge = 1_i64 << 53;
     let mut calls = vec![];
@@ -561,6 +602,8 @@ fn fixed_figures() -> Vec<Call> {
         0,
         27_000,
         -27_000,
+        -644_245_094_400_000,
+        644_245_094_399_999,
         edge,
         -edge,
         edge + 1,

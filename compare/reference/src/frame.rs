@@ -1,5 +1,7 @@
 //! Frames: where they begin and end, their kinds and their times.
 
+use std::cmp::Reverse;
+
 use crate::fraction::Fraction;
 use crate::numbers::{Limits, GRAINS_PER_TICK, WRAP};
 use crate::packet::Packet;
@@ -116,11 +118,38 @@ pub fn t_cf(first: &Packet, frame: i128) -> i128 {
     n * frame
 }
 
-/// "Encoded time, formulas (1) and (2): the arrival's wrap count times P plus
-/// 300,000 times the timestamp, with [...] wrap count INT(27t/P)."
+/// Request (v): "the encoded time shall instead be the one nearest to the
+/// arrival, so that VL is at least minus P/2 and below plus P/2." By formulas
+/// (1) and (2) a timestamp has one for each wrap count, and before the epoch wrap
+/// counts are below 0; those around the arrival's own are tried. Of two equally
+/// near it is the later that has VL minus P/2.
 pub fn encoded_time(first: &Packet) -> i128 {
-    let wrap_count = Fraction::new(first.grains(), WRAP).floor();
-    wrap_count * WRAP + GRAINS_PER_TICK * i128::from(first.timestamp)
+    let own = Fraction::new(first.grains(), WRAP).floor();
+    (own - 2..=own + 2)
+        .map(|wrap_count| wrap_count * WRAP + GRAINS_PER_TICK * i128::from(first.timestamp))
+        .min_by_key(|&encoded| ((first.grains() - encoded).abs(), Reverse(encoded)))
+        .expect("five wrap counts are tried")
+}
+
+/// "Latency VL = 27t − encoded."
+fn latency(first: &Packet, encoded: i128) -> i128 {
+    let latency = first.grains() - encoded;
+    // "VL is at least minus P/2 and below plus P/2."
+    assert!(-WRAP <= 2 * latency && 2 * latency < WRAP);
+    assert_eq!(latency, latency_by_the_clock(first));
+    latency
+}
+
+/// VL as a receiver's 90 kHz clock of 32 bits tells it: how far it is past the
+/// timestamp, as a signed number, where an exact half is negative; and what has
+/// gone by since the clock's last tick.
+fn latency_by_the_clock(first: &Packet) -> i128 {
+    let since_epoch = first.grains() / GRAINS_PER_TICK;
+    // The clock shows the low 32 bits of all ticks since the epoch.
+    let clock = since_epoch as u32;
+    let ticks = clock.wrapping_sub(first.timestamp) as i32;
+    let since_tick = first.grains() - since_epoch * GRAINS_PER_TICK;
+    i128::from(ticks) * GRAINS_PER_TICK + since_tick
 }
 
 /// "FPT = 27t − T_CF", "RTP_OFFSET = encoded − T_CF. Latency VL = 27t −
@@ -129,15 +158,19 @@ pub fn encoded_time(first: &Packet) -> i128 {
 pub fn times(limits: &Limits, frame: &Frame) -> Times {
     let first = frame.first();
     let t_cf = t_cf(first, limits.frame);
-    let encoded = encoded_time(first);
     let first_packet_time = first.grains() - t_cf;
     // "FPT is at least minus half a frame and below plus half."
     assert!(-limits.frame <= 2 * first_packet_time && 2 * first_packet_time < limits.frame);
+    let encoded = encoded_time(first);
+    let latency = latency(first, encoded);
+    let rtp_offset = encoded - t_cf;
+    // Request (v): "RTP_OFFSET follows as FPT less VL."
+    assert_eq!(rtp_offset, first_packet_time - latency);
     Times {
         t_cf,
         first_packet_time,
-        rtp_offset: encoded - t_cf,
-        latency: first.grains() - encoded,
+        rtp_offset,
+        latency,
         margin: limits.tro - first_packet_time,
         gap: first.grains() - frame.marker_before.grains(),
     }

@@ -13,6 +13,12 @@ use crate::reads::read_instant;
 const MOST_IN_A_FILE: usize = 20_100;
 /// 27·2^64: the first instant that no arrival can name.
 const END_OF_TIME: i128 = GRAINS_PER_NANOSECOND << 64;
+/// The last time that timestamps wrap within 64 bits.
+const LAST_WRAP: i128 = END_OF_TIME / WRAP;
+/// Nine ticks are this many whole nanoseconds, and fewer are none: only at
+/// multiples of it is an arrival on a tick, and can it be exactly half of P from
+/// an encoded time.
+const NINE_TICKS: i128 = 9 * GRAINS_PER_TICK / GRAINS_PER_NANOSECOND;
 /// About now, in nanoseconds.
 const MODERN: i128 = 1_760_000_000_000_000_000;
 
@@ -78,7 +84,10 @@ const AIMS: [Aim; 12] = [
 enum Stamps {
     Ideal,
     Shifted(i128),
-    BeforeWrap,
+    /// A tick a frame, from so many ticks before a wrap.
+    AroundWrap(i128),
+    /// Half of P from the arrival, where two encoded times are equally near.
+    HalfWrap,
     Random,
     Constant,
 }
@@ -227,15 +236,17 @@ fn greatest_tro(rate: u64) -> u64 {
 }
 
 /// Where in time the stream lies: at the epoch, now, where timestamps wrap, at
-/// the end of 64 bits, anywhere. Multiples of 27 put T_CF on whole nanoseconds
-/// at every rate.
+/// the end of 64 bits, anywhere. Every ninth wrap is on a whole nanosecond.
+/// Multiples of 27 put T_CF on whole nanoseconds at every rate.
 fn first_frame(random: &mut Random, frame: i128) -> i128 {
-    let wraps = random.pick(&[1, 2, 3, 1000, 36_880]);
-    let near_wrap = wraps * WRAP / frame - random.between(0, 4);
+    let wraps = random.pick(&[1, 2, 9, 1000, 36_880, LAST_WRAP, LAST_WRAP]);
+    let near_wrap = wraps * WRAP / frame - random.pick(&[0, 1, 1, 2, 4]);
     let now = MODERN * GRAINS_PER_NANOSECOND / frame + random.between(0, 100_000);
     let last = END_OF_TIME / frame - random.between(0, 60);
     let any = i128::from(random.bits()) * GRAINS_PER_NANOSECOND / frame;
-    let chosen = random.pick(&[0, 1, 2, now, now, near_wrap, near_wrap, last, any, any]);
+    let chosen = random.pick(&[
+        0, 1, 2, now, now, near_wrap, near_wrap, near_wrap, last, any, any,
+    ]);
     if random.chance(40) {
         chosen - chosen % 27
     } else {
@@ -245,14 +256,34 @@ fn first_frame(random: &mut Random, frame: i128) -> i128 {
 
 fn stamps(random: &mut Random) -> Stamps {
     let shift = random.between(-2000, 2000);
+    let before = random.between(0, 4);
     random.pick(&[
         Stamps::Ideal,
         Stamps::Ideal,
         Stamps::Shifted(shift),
-        Stamps::BeforeWrap,
+        Stamps::Shifted(shift),
+        Stamps::AroundWrap(before),
+        Stamps::AroundWrap(before),
+        Stamps::HalfWrap,
         Stamps::Random,
         Stamps::Constant,
     ])
+}
+
+/// The first nanosecond of the wrap count that begins nearest to an arrival,
+/// before it or after it.
+fn nearest_wrap(arrival: i128) -> i128 {
+    let half = Fraction::new(1, 2);
+    let wraps = Fraction::new(arrival * GRAINS_PER_NANOSECOND, WRAP);
+    let begins = wraps.plus(half).floor() * WRAP;
+    nanosecond(Fraction::whole(begins), true)
+}
+
+/// The tick nearest to an arrival, counted from the epoch.
+fn nearest_tick(arrival: i128) -> i128 {
+    let half = Fraction::new(1, 2);
+    let ticks = Fraction::new(arrival * GRAINS_PER_NANOSECOND, GRAINS_PER_TICK);
+    ticks.plus(half).floor()
 }
 
 /// Down to a whole nanosecond, or up.
@@ -271,8 +302,12 @@ impl Sender<'_> {
     }
 
     /// Sent in order: an arrival before the last one is moved to it.
+    fn in_order(&self, arrival: i128) -> i128 {
+        arrival.max(self.last_arrival()).min(i128::from(u64::MAX))
+    }
+
     fn send(&mut self, arrival: i128, timestamp: u32, marker: u8) {
-        let arrival = arrival.max(self.last_arrival()).min(i128::from(u64::MAX));
+        let arrival = self.in_order(arrival);
         self.packets
             .push(Packet::new(arrival as u64, timestamp, marker));
     }
@@ -288,12 +323,14 @@ impl Sender<'_> {
         self.random.pick(&[0, 0, 0, 0, 0, 0, 0, 0, -1, 1])
     }
 
-    fn timestamp(&mut self, frame: i128) -> u32 {
+    /// Of a frame whose first packet comes at `arrival`.
+    fn timestamp(&mut self, frame: i128, arrival: i128) -> u32 {
         let ideal = (self.first_frame + frame) * self.limits.frame / GRAINS_PER_TICK;
         let ticks = match self.stamps {
             Stamps::Ideal => ideal,
             Stamps::Shifted(shift) => ideal + shift,
-            Stamps::BeforeWrap => i128::from(u32::MAX) - 2 + frame,
+            Stamps::AroundWrap(before) => frame - before,
+            Stamps::HalfWrap => nearest_tick(arrival) + (1 << 31),
             Stamps::Random => i128::from(self.random.bits()),
             Stamps::Constant => 0,
         };
@@ -334,8 +371,8 @@ impl Sender<'_> {
     fn send_lead_in(&mut self) {
         let most = self.limits.n.min(50);
         let count = self.random.pick(&[1, 1, 1, 2, most]);
-        let timestamp = self.timestamp(0);
         let start = self.t_cf(0) + self.limits.tro;
+        let timestamp = self.timestamp(0, nanosecond(Fraction::whole(start), false));
         for left in (0..count).rev() {
             let at = Fraction::whole(start + (count - left) * self.limits.frame / 64);
             let arrival = nanosecond(at, false);
@@ -361,7 +398,8 @@ impl Sender<'_> {
             _ => n,
         };
         let arrivals = self.arrivals(frame, pattern, count);
-        let stamps = self.frame_stamps(frame, arrivals.len(), fault);
+        let arrivals = self.moved(arrivals);
+        let stamps = self.frame_stamps(frame, &arrivals, fault);
         let unmarked = fault == 4;
         for (j, arrival) in arrivals.iter().enumerate() {
             let marker = u8::from(j + 1 == arrivals.len() && !unmarked);
@@ -371,9 +409,27 @@ impl Sender<'_> {
         }
     }
 
+    /// At a wrap the arrival's own wrap count turns over, and half of P from an
+    /// encoded time the next one becomes the nearest. A stream stamped for the
+    /// one or the other has its frames moved, so that the first packet comes
+    /// there or a nanosecond to a side; to a wrap, if it is less than a frame off.
+    fn moved(&mut self, arrivals: Vec<i128>) -> Vec<i128> {
+        let first = self.in_order(arrivals[0]);
+        let wrap = nearest_wrap(first);
+        let near = (wrap - first).abs() * GRAINS_PER_NANOSECOND < self.limits.frame;
+        let edge = match self.stamps {
+            Stamps::AroundWrap(_) if near && self.random.chance(75) => wrap,
+            Stamps::HalfWrap => first + (-first).rem_euclid(NINE_TICKS),
+            _ => return arrivals,
+        };
+        let by = edge + self.random.pick(&[0, 0, -1, 1]) - arrivals[0];
+        arrivals.iter().map(|arrival| arrival + by).collect()
+    }
+
     /// Faults 2, 5, 6 and 7 stamp one place, or all from it on, otherwise.
-    fn frame_stamps(&mut self, frame: i128, count: usize, fault: u64) -> Vec<u32> {
-        let timestamp = self.timestamp(frame);
+    fn frame_stamps(&mut self, frame: i128, arrivals: &[i128], fault: u64) -> Vec<u32> {
+        let count = arrivals.len();
+        let timestamp = self.timestamp(frame, self.in_order(arrivals[0]));
         let other = timestamp.wrapping_add(self.random.pick(&[1, 1800, 1 << 31, u32::MAX]));
         let mut stamps = vec![timestamp; count];
         let anywhere = self.random.place(count);
@@ -611,7 +667,9 @@ impl Sender<'_> {
         let n = self.limits.n as usize;
         let phase = self.random.place(n);
         for (i, arrival) in arrivals.iter().enumerate() {
-            let timestamp = self.timestamp(((i + phase) / n) as i128);
+            let frame = (i + phase) / n;
+            let first = arrivals[(frame * n).saturating_sub(phase)];
+            let timestamp = self.timestamp(frame as i128, first);
             let marker = u8::from((i + phase) % n == n - 1);
             self.send(*arrival, timestamp, marker);
         }

@@ -1,5 +1,5 @@
 //! Document 01, sentence by sentence: its twelve cases, its example, and every
-//! refusal number that can occur; and request (ii) of document 02.
+//! refusal number that can occur; and requests (ii) and (v) of document 02.
 
 use vtiming_reference::bucket::{drain_instant, Run};
 use vtiming_reference::feed::Lists;
@@ -158,12 +158,13 @@ fn case_9_five_at_one_instant() {
     assert_eq!((four.peak, four.network), (4, Network::Pass));
 }
 
+/// Request (v): "Case 10 becomes 300,015."
 #[test]
 fn case_10_the_timestamp_that_went_round() {
     let t = 47_721_858_844_445;
     let list = packets(&[(t - 1, 0, 1), (t, 4_294_967_295, 1)]);
     let row = measure(&narrow(1), &list).unwrap().rows[0];
-    assert_eq!(row[5], -1_288_490_188_499_985);
+    assert_eq!(row[3..6], [-31_199_985, -31_500_000, 300_015]);
 }
 
 #[test]
@@ -182,6 +183,7 @@ fn case_12_the_empty_file() {
 #[test]
 fn two_to_the_32_ticks_are_p() {
     assert_eq!(GRAINS_PER_TICK << 32, WRAP);
+    assert_eq!(2 * i128::from(HALF_OF_P), WRAP);
 }
 
 #[test]
@@ -598,7 +600,11 @@ fn arrivals_at_the_end_of_64_bits() {
     let grains = 27 * i128::from(u64::MAX);
     let t_cf = (grains + 270_000_000) / 540_000_000 * 540_000_000;
     assert_eq!(i128::from(row[3]), grains - t_cf);
-    assert_eq!(i128::from(row[5]), grains % WRAP);
+    // Less than P/2 after the last wrap, when the clock was at 0.
+    let encoded = 386_547 * WRAP;
+    assert!(2 * (grains - encoded) < WRAP);
+    assert_eq!(i128::from(row[4]), encoded - t_cf);
+    assert_eq!(i128::from(row[5]), grains - encoded);
     assert_eq!(row[7], 27);
 }
 
@@ -683,4 +689,123 @@ fn a_row_of_the_c_call_is_88_bytes() {
         let too_few = (15, file.len() as u64, None);
         assert_eq!(expected_c_call(&file, needed - 1), too_few);
     }
+}
+
+// --- request (v): "the encoded time shall instead be the one nearest to the arrival" ---
+
+const HALF_OF_P: i64 = 644_245_094_400_000;
+
+/// FPT, RTP_OFFSET and VL at rate 6, of a frame of one packet that arrives at
+/// `t` with its marker before it.
+fn offsets(t: u64, timestamp: u32) -> [i64; 3] {
+    let list = packets(&[(t, 0, 1), (t, timestamp, 1)]);
+    let row = measure(&narrow(1), &list).unwrap().rows[0];
+    assert_eq!(row[4], row[3] - row[5], "RTP_OFFSET follows as FPT less VL");
+    [row[3], row[4], row[5]]
+}
+
+fn latency(t: u64, timestamp: u32) -> i64 {
+    offsets(t, timestamp)[2]
+}
+
+#[test]
+fn an_encoded_time_may_be_before_the_epoch() {
+    assert_eq!(offsets(0, 0), [0, 0, 0]);
+    assert_eq!(offsets(0, u32::MAX), [0, -300_000, 300_000]);
+    assert_eq!(offsets(1, u32::MAX), [27, -300_000, 300_027]);
+    assert_eq!(offsets(0, 1), [0, 300_000, -300_000]);
+}
+
+/// The first wrap is 12 grains after one nanosecond and 15 before the next.
+#[test]
+fn timestamps_of_both_sides_of_a_wrap_received_on_both_sides() {
+    let (before, after) = (47_721_858_844_444, 47_721_858_844_445);
+    assert_eq!(
+        offsets(before, u32::MAX),
+        [-31_200_012, -31_500_000, 299_988]
+    );
+    assert_eq!(offsets(before, 0), [-31_200_012, -31_200_000, -12]);
+    assert_eq!(
+        offsets(after, u32::MAX),
+        [-31_199_985, -31_500_000, 300_015]
+    );
+    assert_eq!(offsets(after, 0), [-31_199_985, -31_200_000, 15]);
+}
+
+/// The ninth wrap is the first on a whole nanosecond.
+#[test]
+fn an_arrival_exactly_on_a_wrap() {
+    let wrap = 429_496_729_600_000;
+    assert_eq!(27 * i128::from(wrap), 9 * WRAP);
+    let stamps = [u32::MAX, 0, 1];
+    let around = |t| stamps.map(|timestamp| latency(t, timestamp));
+    assert_eq!(around(wrap - 1), [299_973, -27, -300_027]);
+    assert_eq!(around(wrap), [300_000, 0, -300_000]);
+    assert_eq!(around(wrap + 1), [300_027, 27, -299_973]);
+}
+
+/// "VL is at least minus P/2 and below plus P/2": exactly half is minus P/2,
+/// with the later encoded time; a nanosecond earlier the earlier is nearer.
+#[test]
+fn an_exact_tie_and_a_nanosecond_to_each_side() {
+    let timestamp = (1 << 31) + 9;
+    let (earlier, later) = (-644_245_091_700_000, 644_245_097_100_000);
+    let near = HALF_OF_P - 27;
+    assert_eq!(offsets(99_999, timestamp), [2_699_973, earlier, near]);
+    assert_eq!(offsets(100_000, timestamp), [2_700_000, later, -HALF_OF_P]);
+    assert_eq!(offsets(100_001, timestamp), [2_700_027, later, -near]);
+}
+
+/// At the first arrival, just after P/2, where the later encoded time is after
+/// the next wrap, in our days, and at the last tie of 64 bits.
+#[test]
+fn ties_from_the_epoch_to_the_end_of_64_bits() {
+    assert_eq!(latency(0, 1 << 31), -HALF_OF_P);
+    assert_eq!(latency(1, 1 << 31), -HALF_OF_P + 27);
+    for (t, timestamp) in [
+        (23_860_929_500_000, 7),
+        (1_760_000_000_000_000_000, 3_753_607_168),
+        (18_446_744_073_709_500_000, 2_390_750_591),
+    ] {
+        assert_eq!(latency(t - 1, timestamp), HALF_OF_P - 27);
+        assert_eq!(latency(t, timestamp), -HALF_OF_P);
+        assert_eq!(latency(t + 1, timestamp), -HALF_OF_P + 27);
+    }
+}
+
+/// Nine ticks are 100,000 ns. In the middle, 4.5 ticks after the epoch, no
+/// timestamp is exactly half of P away.
+#[test]
+fn between_ticks_there_is_no_tie() {
+    let half = 1 << 31;
+    assert_eq!(latency(50_000, half + 4), -HALF_OF_P + 150_000);
+    assert_eq!(latency(50_000, half + 5), HALF_OF_P - 150_000);
+}
+
+/// Nothing is different at the last nanosecond of 64 bits: an encoded time may
+/// be before the last wrap, and later than any arrival.
+#[test]
+fn the_last_arrival_with_timestamps_of_all_sides() {
+    let last = u64::MAX;
+    let first_packet_time = 257_893_605;
+    let before_the_wrap = [first_packet_time, -72_979_826_700_000, 72_980_084_593_605];
+    assert_eq!(offsets(last, u32::MAX), before_the_wrap);
+    // The clock is at 243,266,947, and 193,605 grains beyond it.
+    assert_eq!(latency(last, 243_266_947), 193_605);
+    assert_eq!(latency(last, 243_266_948), 193_605 - 300_000);
+    let later = [first_packet_time, 644_245_352_100_000, -644_245_094_206_395];
+    assert_eq!(offsets(last, 2_390_750_595), later);
+    let earlier = [first_packet_time, -644_244_836_400_000, 644_245_094_293_605];
+    assert_eq!(offsets(last, 2_390_750_596), earlier);
+}
+
+/// 16 stays for figures that are lent; VL is nowhere near it.
+#[test]
+fn the_graph_takes_the_greatest_latencies() {
+    let [first_packet_time, _, latency] = offsets(99_999, (1 << 31) + 9);
+    let figures = graph(first_packet_time, 0, latency).unwrap();
+    assert_eq!(figures.latency, 644_245_094_399_973.0 / 27_000.0);
+    let [first_packet_time, _, latency] = offsets(100_000, (1 << 31) + 9);
+    let figures = graph(first_packet_time, 0, latency).unwrap();
+    assert_eq!(figures.latency, -644_245_094_400_000.0 / 27_000.0);
 }

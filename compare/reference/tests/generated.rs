@@ -1,15 +1,16 @@
 //! The generated files reach what they are meant to reach: every refusal of a
-//! file, every kind and verdict, and arrivals exactly on reads and drains.
+//! file, every kind and verdict, arrivals exactly on reads and drains, and
+//! timestamps from both sides of a wrap and of a tie.
 
 use std::collections::BTreeMap;
 
 use vtiming_reference::bucket::{drain_instant, drains_by};
 use vtiming_reference::cases::{case, fixed, Call, Case};
 use vtiming_reference::fraction::Fraction;
-use vtiming_reference::frame::{closed_frames, encoded_time, t_cf, Kind};
+use vtiming_reference::frame::{closed_frames, t_cf, Kind};
 use vtiming_reference::generate::file;
 use vtiming_reference::measure::{measure_accepted, Row};
-use vtiming_reference::numbers::WRAP;
+use vtiming_reference::numbers::{GRAINS_PER_NANOSECOND, GRAINS_PER_SECOND, GRAINS_PER_TICK, WRAP};
 use vtiming_reference::reads::read_instant;
 use vtiming_reference::record::read;
 use vtiming_reference::*;
@@ -160,7 +161,6 @@ fn generated_files_reach_every_stream_and_both_ends() {
         "on a half frame",
         "the nanosecond after a half frame",
         "the nanosecond before a half frame",
-        "stamped before a wrap and received after it",
         "no packets in a frame but its marker",
     ] {
         assert!(seen.0.contains_key(what), "never seen: {}", what);
@@ -181,10 +181,6 @@ fn look_at_start(seen: &mut Seen, limits: &Limits, packets: &[Packet]) {
         seen.add("the nanosecond after a half frame");
     } else if twice + 2 * 27 >= limits.frame {
         seen.add("the nanosecond before a half frame");
-    }
-    let latency = packets[0].grains() - encoded_time(&packets[0]);
-    if latency < -WRAP / 10 * 9 {
-        seen.add("stamped before a wrap and received after it");
     }
 }
 
@@ -227,6 +223,134 @@ fn the_eleventh_number_is_the_place_where_the_frame_begins() {
         }
     }
     assert_eq!(seen.0.len(), 4, "not of every kind: {:?}", seen.0);
+}
+
+// --- request (v) ---
+
+/// The rows of a file's whole frames, which alone have VL, each with the first
+/// packet of its frame.
+fn whole_rows(seed: u64, index: u64) -> Vec<(Row, Packet)> {
+    let reading = read(&file(seed, index));
+    let limits = match reading.numbers {
+        Some(numbers) => set_up(&numbers).unwrap(),
+        None => return vec![],
+    };
+    let rows = measure_accepted(&limits, &reading.packets).rows;
+    rows.into_iter()
+        .filter(|row| row[1] == 0)
+        .map(|row| (row, reading.packets[row[10] as usize]))
+        .collect()
+}
+
+/// Half of P before such an arrival is before the epoch, or half of P after it
+/// is after the last arrival there is. The last wrap is among the latter.
+fn end_of_time(first: &Packet) -> &'static str {
+    if 2 * first.grains() < WRAP {
+        "near the epoch"
+    } else if 2 * (first.grains() - (GRAINS_PER_NANOSECOND << 64)) >= -WRAP {
+        "near the end of 64 bits"
+    } else {
+        "in between"
+    }
+}
+
+/// Arrival and encoded time less than a second apart, and a wrap between them.
+fn side_of_a_wrap(first: &Packet, latency: i128) -> Option<&'static str> {
+    let encoded = first.grains() - latency;
+    match encoded.div_euclid(WRAP) - first.grains().div_euclid(WRAP) {
+        _ if latency.abs() >= GRAINS_PER_SECOND => None,
+        -1 => Some("stamped before a wrap and received after it"),
+        1 => Some("stamped after a wrap and received before it"),
+        _ => None,
+    }
+}
+
+/// "VL is at least minus P/2 and below plus P/2."
+fn side_of_a_tie(latency: i128) -> Option<&'static str> {
+    match 2 * latency + WRAP {
+        0 => Some("on a tie"),
+        54 => Some("the nanosecond after a tie"),
+        above if above == 2 * WRAP - 54 => Some("the nanosecond before a tie"),
+        _ => None,
+    }
+}
+
+fn look_at_encoded_time(seen: &mut Seen, first: &Packet, latency: i128) {
+    let wrap = side_of_a_wrap(first, latency);
+    for side in wrap.into_iter().chain(side_of_a_tie(latency)) {
+        seen.add(&format!("{}, {}", side, end_of_time(first)));
+    }
+    let since_wrap = first.grains().rem_euclid(WRAP);
+    match wrap {
+        Some(side) if !(27..WRAP - 27).contains(&since_wrap) => {
+            seen.add(&format!("{}, in the nanosecond beside it", side));
+        }
+        None if since_wrap == 0 && first.arrival > 0 => seen.add("exactly on a wrap"),
+        _ => {}
+    }
+    if 2 * latency == -WRAP && since_wrap - latency >= WRAP {
+        seen.add("on a tie, the later after the next wrap");
+    } else if 2 * latency == -WRAP {
+        seen.add("on a tie, the later before the next wrap");
+    }
+}
+
+/// All that there is to see. Nothing is received before the epoch.
+fn sides_and_ends() -> Vec<String> {
+    let mut all = vec![
+        "exactly on a wrap".to_string(),
+        "on a tie, the later after the next wrap".to_string(),
+        "on a tie, the later before the next wrap".to_string(),
+        "stamped after a wrap and received before it, in the nanosecond beside it".to_string(),
+        "stamped before a wrap and received after it, in the nanosecond beside it".to_string(),
+    ];
+    let ends = ["near the epoch", "in between", "near the end of 64 bits"];
+    for (side, from) in [
+        ("stamped before a wrap and received after it", 0),
+        ("stamped after a wrap and received before it", 1),
+        ("on a tie", 0),
+        ("the nanosecond after a tie", 0),
+        ("the nanosecond before a tie", 0),
+    ] {
+        all.extend(ends[from..].iter().map(|end| format!("{}, {}", side, end)));
+    }
+    all.sort();
+    all
+}
+
+#[test]
+fn generated_files_lie_on_both_sides_of_wraps_and_ties() {
+    let mut seen = Seen::default();
+    for (row, first) in (0..6000).flat_map(|index| whole_rows(2110, index)) {
+        look_at_encoded_time(&mut seen, &first, i128::from(row[5]));
+    }
+    println!("{:#?}", seen.0);
+    let seen: Vec<String> = seen.0.into_keys().collect();
+    assert_eq!(seen, sides_and_ends());
+}
+
+/// "VL is at least minus P/2 and below plus P/2. [...] RTP_OFFSET follows as FPT
+/// less VL." One encoded time alone of a timestamp is so near.
+#[test]
+fn every_latency_is_to_the_nearest_encoded_time() {
+    for (row, first) in (0..FILES).flat_map(|index| whole_rows(1, index)) {
+        let latency = i128::from(row[5]);
+        assert!(-WRAP <= 2 * latency && 2 * latency < WRAP);
+        let stamped = GRAINS_PER_TICK * i128::from(first.timestamp);
+        assert_eq!((first.grains() - latency - stamped).rem_euclid(WRAP), 0);
+        assert_eq!(row[4], row[3] - row[5]);
+    }
+}
+
+/// "a figure for the graph above 2^53 in size": of FPT, margin and VL of a row
+/// none is.
+#[test]
+fn the_graph_takes_every_whole_row() {
+    let rows: Vec<(Row, Packet)> = (0..FILES).flat_map(|index| whole_rows(1, index)).collect();
+    assert!(!rows.is_empty());
+    for (row, _) in rows {
+        assert!(graph(row[3], row[6], row[5]).is_ok());
+    }
 }
 
 #[test]

@@ -107,9 +107,9 @@ module _ (s : List ℕ) where
     file-as-fed = file-proved.as-fed s w ps e
 
     -- C3: "Each number is 8 bytes, signed, big-endian": number k of the report is what its 8 bytes are, read as a signed number
-    pub reads-back : AllBelow 256 s → (k : ℕ) → k < length (reportOf (ofParameters w) ps)
+    pub reads-back : (k : ℕ) → k < length (reportOf (ofParameters w) ps)
         → toZ w64 (numberOf (take numberBytes (drop (numberBytes * k) (bytesFor w ps)))) ≡ getD (reportOf (ofParameters w) ps) k (pos 0)
-    reads-back b k h = number-back (reportOf (ofParameters w) ps) k (report-fits s w ps (bytes-all s b) e) h
+    reads-back k h = number-back (reportOf (ofParameters w) ps) k (report-fits s w ps e) h
 
 -- X4: what `vtiming_write` writes is accepted: the bytes of its file, with the room that is told of them
 pub written-measured : (w : Parameters) (ts ss ms out after : List ℕ) → ParametersHeld w

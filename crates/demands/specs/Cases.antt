@@ -4,7 +4,7 @@ use Rattle.laws.specs.Kit.{_≡_, refl, List, [], _∷_, map, ℕ, ℤ, pos, ne
 use Rattle.laws.specs.Choose.{pick}
 use Rattle.laws.specs.Count.{count}
 use Rattle.laws.specs.Fold.{fold}
-use Rattle.grain.specs.Paper.{grains, nearest, phase, firstPacketTime, encoded, latency}
+use Rattle.grain.specs.Paper.{grains, nearest, phase, firstPacketTime, latency}
 use Rattle.limits.specs.Fraction.{int}
 use Rattle.limits.specs.Paper.{rateOf, frameLength, activeRatio, classOf, cMax, vrxFull, defaultTro, troGrains, troFits, firstNo}
 use Rattle.limits.specs.Paper.{setUpRefusal, given}
@@ -118,8 +118,12 @@ cases =
     ∷ (one (rulesOf (rate6 4 700) .limit) gives one 4)
     ∷ (network (after (rate6 4 700) (packet 5 0 0 ∷ packet 5 0 0 ∷ packet 5 0 0 ∷ packet 5 0 0 ∷ packet 5 0 0 ∷ []))
     gives (pos 1 ∷ pos 0 ∷ pos 4 ∷ []))
-    -- K10: "t 47,721,858,844,445 with timestamp 4,294,967,295: VL −1,288,490,188,499,985."
-    ∷ ((latency (grains 47721858844445) 4294967295 ∷ []) gives (negℤ (pos 1288490188499985) ∷ []))
+    -- K10: "t 47,721,858,844,445 with timestamp 4,294,967,295": VL, which "becomes 300,015"; and at rate 6 its row: FPT −31,199,985,
+    -- RTP_OFFSET −31,500,000
+    ∷ ((latency (grains 47721858844445) 4294967295 ∷ []) gives (pos 300015 ∷ []))
+    ∷ (rows (rate6 1 700) (packet 47721857844445 0 1 ∷ packet 47721858844445 4294967295 1 ∷ [])
+    gives (pos 0 ∷ pos 0 ∷ pos 0 ∷ negℤ (pos 31199985) ∷ negℤ (pos 31500000) ∷ pos 300015 ∷ pos 50099985 ∷ pos 27000000 ∷ pos 1 ∷ pos 0 ∷ pos 1
+    ∷ []))
     -- K11: "The file above.": its row, which "ends [..] with 1", and packets 5, frames 1, peak 2, network pass, buffer pass
     ∷ (measured (fileOf the-file)
     gives (pos 5 ∷ pos 1 ∷ pos 2 ∷ pos 0 ∷ pos 0 ∷ pos 0 ∷ pos 1 ∷ pos 0 ∷ pos 0
@@ -130,7 +134,7 @@ cases =
 
 -- K1, K2, K3, K4, K5, K6, K7, K8, K9, K10, K11, K12: what the definitions give is what document 01 gives
 pub cases-hold : map (λ c. c .got) cases ≡ map (λ c. c .want) cases
-unfolding cases setUpRefusal firstNo troFits rateOf frameLength activeRatio classOf cMax vrxFull int troGrains defaultTro nearest phase encoded
+unfolding cases setUpRefusal firstNo troFits rateOf frameLength activeRatio classOf cMax vrxFull int troGrains defaultTro nearest phase latency
     count fold rulesOf arriveOf markOf stepOf rowsAfter numbers summaryWith B.stepOf F.openedOf F.countedOf F.kindOf F.wholeRow
     F.rowOf F.answerOf F.joined F.arriveOf F.closeOf F.rowsOf since readingOf packetsBy formatRefusal isParameters kindLength numberOf
     refusalOf

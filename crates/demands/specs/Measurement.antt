@@ -2,10 +2,11 @@
 -- the work. To believe it, read the definitions that it names: of timing, Feed (the call, and calls in a row), Range (refusal 9), Answers
 -- (set-up, verdict, graph, and the number that each answer stands for) and History (an accepted history: its state, its plan, its frames,
 -- its arrivals); and the Paper.antt of each crate below.
-use Rattle.laws.specs.Kit.{_≡_, _↔_, true, false, List, [], _∷_, _++_, ℕ, suc, _+_, _-_, _*_, _≤_, _<_, ℤ, length, take, drop, sets}
+use Rattle.laws.specs.Kit.{_≡_, _↔_, true, false, List, [], _∷_, _++_, ℕ, suc, _+_, _-_, _*_, _≤_, _<_, ℤ, _-ℤ_, length, take, drop, sets}
 use Rattle.laws.specs.Count.{count}
 use Rattle.laws.proofs.Lay.{sets-front}
-use Rattle.grain.specs.Paper.{InstantBy}
+use Rattle.grain.specs.Paper.{LatencyIs, NearestEncoded, latency, InstantBy}
+use Rattle.grain.proofs.EncodedTime.{latency-is, latency-unique, nearest-encoded}
 use Rattle.limits.specs.Fraction.{Same}
 use Rattle.limits.specs.Paper.{classOf, readSpacing}
 use Rattle.limits.specs.Exact.{CMaxIs, VrxFullIs, TroIs}
@@ -86,6 +87,16 @@ pub first-refusal : (x : StreamNumbers) → setUpOf x ≡ 0 → (l : List Packet
     → (calls : List Call) → allOf calls ≡ l → Rooms (freshOf x) calls → Stops (freshOf x) calls (r .number) (r .place)
 first-refusal = all-stop
 
+-- ---- Of any arrival g, in grains, and any timestamp: its VL. Demand 2 reads so.
+
+-- P9, P11: "VL is at least minus P/2 and below plus P/2.": one VL is so (`LatencyIs`), and it is what is worked out
+pub one-latency : (g stamp : ℕ) → LatencyIs g stamp (latency g stamp) × ((vl : ℤ) → LatencyIs g stamp vl → vl ≡ latency g stamp)
+one-latency g stamp = (latency-is g stamp, λ vl l. latency-unique g stamp vl (latency g stamp) l (latency-is g stamp))
+
+-- P9: "the encoded time shall instead be the one nearest to the arrival": it is the VL of that one
+pub latency-of-nearest : (g stamp : ℕ) (vl : ℤ) → LatencyIs g stamp vl ↔ NearestEncoded g stamp vl
+latency-of-nearest = nearest-encoded
+
 -- ---- Of an accepted history h (History), the state that feeding it reaches.
 
 module _ (h : AcceptedHistory) where
@@ -108,11 +119,19 @@ module _ (h : AcceptedHistory) where
   pub rows-in-order : rowsOfAll h ≡ rowsTo (h .stream) (h .packets) (size h)
   rows-in-order = rows-declared (h .stream) (h .packets)
 
-  -- D2a, D2b, V1, V2, V3, V10, P6, P8, P10, P11, P12, P13, P17, P18: and each is the row of its frame: FPT, RTP_OFFSET, VL, margin, GAP,
+  -- D2a, D2b, V1, V2, V3, V10, P6, P8, P9, P10, P11, P12, P13, P17, P18: and each is the row of its frame: FPT, RTP_OFFSET, VL, margin, GAP,
   -- peak, least, kind, detail, number and the place of its first packet
   pub row-of-frame : (i : ℕ) → i < size h → closesAt (frames h) i ≡ true
       → (r : Row) × (rowsAt (plan h) (frames h) i ≡ r ∷ []) × RowIs (plan h) (frames h) i r
   row-of-frame = proved.row-at h
+
+  -- P10: "RTP_OFFSET follows as FPT less VL.", in every row
+  pub offset-follows : (i : ℕ) (r : Row) → RowIs (plan h) (frames h) i r → r .offset ≡ r .fpt -ℤ r .latency
+  offset-follows = proved.offset-of-row h
+
+  -- V9, N9: 16 is for no row: the graph takes the FPT, margin and VL of each
+  pub row-drawn : (i : ℕ) (r : Row) → RowIs (plan h) (frames h) i r → drawnNumber (graphOf (r .fpt) (r .margin) (r .latency)) ≡ 0
+  row-drawn = proved.figures-drawn h
 
   -- D2b, V1: its eleven numbers stand from 11·k on among the lent ones, k being the frame's number
   pub numbers-of-row : (i : ℕ) (r : Row) (lent : List ℤ) → i < size h → rowsAt (plan h) (frames h) i ≡ r ∷ []

@@ -1,7 +1,7 @@
 -- A closed frame's row is the row of its stretch of the history, and one row only is so: each number that was kept, packet by packet, is
 -- document 01's number over the frame's arrivals (Duality).
 use Rattle.laws.specs.Kit.{_≡_, refl, sym, ap, _∙_, subst, Bool, true, false, ℕ, suc, pred, _+_, _-_, _≤_, _<_, arith, add-zero}
-use Rattle.laws.specs.Kit.{ltb, eqb, ℤ, pos, subℕ, ltb-false, eqb-true, eqb-false}
+use Rattle.laws.specs.Kit.{ltb, eqb, ℤ, pos, subℕ, _-ℤ_, ltb-false, eqb-true, eqb-false}
 use Rattle.laws.specs.Choose.{pick}
 use Rattle.laws.specs.Climb.{Climbs}
 use Rattle.laws.proofs.Climb.{climbs-le}
@@ -10,9 +10,9 @@ use Rattle.laws.proofs.Most.{most-same}
 use Rattle.laws.specs.Seek.{seek}
 use Rattle.laws.proofs.Seek.{seek-same}
 use Rattle.laws.proofs.Differ.{differ-sub, differ-same, both-ways}
-use Rattle.grain.specs.Paper.{grains, firstPacketTime, latency, phase}
+use Rattle.grain.specs.Paper.{grains, firstPacketTime, LatencyIs, latency, phase}
 use Rattle.grain.proofs.Rounding.{phase-less}
-use Rattle.grain.proofs.EncodedTime.{offset-is, margin-is}
+use Rattle.grain.proofs.EncodedTime.{latency-is, latency-unique, offset-is, margin-is}
 use Rattle.frame.specs.declared.Plan.{Plan}
 use Rattle.frame.specs.declared.Frame.{Frame}
 use Rattle.frame.specs.declared.Row.{Row}
@@ -147,8 +147,8 @@ module _ {plan : Plan} {h : History} {i : ℕ} (w : WholeFrame plan h i) where
   fpt-is : subℕ (kept .phase) (plan .period) ≡ firstPacketTime (arrival plan h s 0) (plan .period)
   fpt-is = rw phase-is (phase-less (arrival plan h s 0) (plan .period) (omega (arith, w .planned .long)))
 
-  latency-is : latency (grains (kept .first)) (kept .stamp) ≡ latency (arrival plan h s 0) (h .stamp s)
-  latency-is = rw (first-is, stamp-is)
+  vl-is : LatencyIs (arrival plan h s 0) (h .stamp s) (latency (grains (kept .first)) (kept .stamp))
+  vl-is = rw (first-is, stamp-is) (latency-is (arrival plan h s 0) (h .stamp s))
 
   -- the marker packet before the frame comes no later than its first
   gap-is : closesAt h i ≡ true → pos (grains (kept .first - markedTime plan h i)) ≡ subℕ (arrival plan h s 0) (grains (h .time (pred s)))
@@ -167,8 +167,8 @@ module _ {plan : Plan} {h : History} {i : ℕ} (w : WholeFrame plan h i) where
   unfolding wholeRow
   times-are e = record {
     fpt = fpt-is;
-    offset = rw (fpt-is, latency-is) (sym (offset-is (arrival plan h s 0) (h .stamp s) (plan .period)));
-    latency = latency-is;
+    latency = vl-is;
+    offset = rw fpt-is (sym (offset-is (arrival plan h s 0) (h .stamp s) (plan .period) _ vl-is));
     margin = rw phase-is (margin-is (arrival plan h s 0) (plan .tro) (plan .period) (omega (arith, w .planned .long)));
     gap = gap-is e;
   }
@@ -227,6 +227,29 @@ same-row a b c d e f g h i k l = λ j. record {
   began = l j;
 }
 
+-- P10: RTP_OFFSET is FPT less VL; one VL is so, and so one RTP_OFFSET
+module _ {plan : Plan} {h : History} {s : ℕ} where
+  times-follow : {r : Row} → Times plan h s r → r .offset ≡ r .fpt -ℤ r .latency
+  times-follow {r} a =
+      a .offset ∙ offset-is (arrival plan h s 0) (h .stamp s) (plan .period) (r .latency) (a .latency)
+      ∙ ap (λ (z : ℤ). z -ℤ r .latency) (sym (a .fpt))
+
+  vl-same : {r q : Row} → Times plan h s r → Times plan h s q → r .latency ≡ q .latency
+  vl-same {r} {q} a b = latency-unique (arrival plan h s 0) (h .stamp s) (r .latency) (q .latency) (a .latency) (b .latency)
+
+  offset-same : {r q : Row} → Times plan h s r → Times plan h s q → r .offset ≡ q .offset
+  offset-same {r} {q} a b =
+      times-follow a ∙ ap (λ (z : ℤ). z -ℤ r .latency) (a .fpt ∙ sym (b .fpt)) ∙ ap (λ (z : ℤ). q .fpt -ℤ z) (vl-same a b)
+      ∙ sym (times-follow b)
+
+-- of a broken frame all three are 0
+pub offset-follows : (plan : Plan) (h : History) (i : ℕ) (r : Row) → RowIs plan h i r → r .offset ≡ r .fpt -ℤ r .latency
+offset-follows plan h i r x = go (eqb (kindAt plan h i) 0) refl
+  where
+    go : (t : Bool) → eqb (kindAt plan h i) 0 ≡ t → r .offset ≡ r .fpt -ℤ r .latency
+    go true e = times-follow (x .times (eqb-true (kindAt plan h i) 0 e))
+    go false e = let z = x .broken (eqb-false (kindAt plan h i) 0 e) in rw (z .offset, z .fpt, z .latency)
+
 pub row-unique : (plan : Plan) (h : History) (i : ℕ) (r q : Row) → RowIs plan h i r → RowIs plan h i q → r ≡ q
 row-unique plan h i r q x y = go (eqb (kindAt plan h i) 0) refl
   where
@@ -235,7 +258,7 @@ row-unique plan h i r q x y = go (eqb (kindAt plan h i) 0) refl
         let k = eqb-true (kindAt plan h i) 0 e in
         let a = x .times k in
         let b = y .times k in
-        same-row (cc) (cc) (cc) (cc) (cc) (cc) (cc) (cc)
+        same-row (cc) (cc) (cc) (cc) (offset-same a b) (vl-same a b) (cc) (cc)
         (peak-unique plan h (since h i) (r .peak) (q .peak) (x .levels k .peak) (y .levels k .peak))
         (least-unique plan h (since h i) (r .least) (q .least) (x .levels k .least) (y .levels k .least)) (cc)
     go false e =

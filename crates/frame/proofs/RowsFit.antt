@@ -1,19 +1,17 @@
--- Each number of a row fits 64 bits with its sign. No difference is longer than a wrap of the timestamps and two frames, if
--- the timestamps are below 2^32; so that is kept of the open frame's.
-use Rattle.laws.specs.Kit.{refl, subst, List, [], _∷_, _++_, ℕ, zero, suc, _+_, _-_, _*_, _%_, _≤_, _<_, arith, mod-lt, eqb, ℤ, pos, subℕ}
+-- Each number of a row fits 64 bits with its sign: no difference is longer than half a wrap of the timestamps and two frames.
+use Rattle.laws.specs.Kit.{refl, subst, List, [], _∷_, _++_, ℕ, zero, suc, _+_, _-_, _≤_, _<_, arith, eqb, ℤ, pos, subℕ}
 use Rattle.laws.specs.Kit.{_-ℤ_, getD}
 use mir.Syntax.{w64}
 use mir.Val.{SFits}
 use Rattle.laws.proofs.Choose.{pick-either}
 use Rattle.laws.proofs.Differ.{differ-sub}
-use Rattle.grain.specs.Paper.{grains, tick, wrap, latency}
+use Rattle.grain.specs.Paper.{grains, latency}
 use Rattle.grain.proofs.SignedRange.{differ-fits, back-fits}
-use Rattle.grain.proofs.EncodedTime.{latency-is, offset-made, offset-read}
+use Rattle.grain.proofs.EncodedTime.{latency-fits, offset-made, offset-read}
 use Rattle.frame.specs.declared.Plan.{Plan}
 use Rattle.frame.specs.declared.Frame.{Frame}
-use Rattle.frame.specs.declared.Frames.{Frames}
 use Rattle.frame.specs.declared.Row.{Row}
-use Rattle.frame.specs.Step.{openedOf, countedOf, kindOf, detailOf, wholeRow, brokenRow, rowOf, numbersOf, arriveOf}
+use Rattle.frame.specs.Step.{kindOf, detailOf, wholeRow, brokenRow, rowOf, numbersOf}
 use Rattle.frame.specs.Range.{Planned, RowAsks}
 use Rattle.frame.proofs.FrameKinds.{kind-small, detail-small}
 
@@ -44,25 +42,20 @@ zero-fits = small-fits (omega arith)
 sub-fits : (a b : ℕ) → a < 9223372036854775808 → b < 9223372036854775808 → SFits w64 (subℕ a b)
 sub-fits a b h k = differ-fits (subℕ a b) a b (differ-sub a b) h k
 
-module _ (plan : Plan) (number marked began : ℕ) (f : Frame) (p : Planned plan) (r : RowAsks plan number marked began f)
-    (small : f .stamp < 4294967296) where
+module _ (plan : Plan) (number marked began : ℕ) (f : Frame) (p : Planned plan) (r : RowAsks plan number marked began f) where
   abbrev g : ℕ
   g = grains (f .first)
 
   fpt-fits : SFits w64 (subℕ (f .phase) (plan .period))
   fpt-fits = sub-fits (f .phase) (plan .period) (omega (arith, r .phased, p .short)) (omega (arith, p .short))
 
-  latency-fits : SFits w64 (latency g (f .stamp))
-  latency-fits =
-      subst (SFits w64) (latency-is g (f .stamp))
-      (sub-fits (g % wrap) (tick * f .stamp) (omega (arith, mod-lt g {m = wrap} (omega arith))) (omega arith))
-
   offset-fits : SFits w64 (subℕ (f .phase) (plan .period) -ℤ latency g (f .stamp))
   offset-fits =
       let within : f .phase ≤ 4294967296 = omega (arith, r .phased, p .short) in
       let short : plan .period ≤ 4294967296 = omega (arith, p .short) in
-      subst (SFits w64) (offset-read g (f .stamp) (f .phase) (plan .period) small within short refl refl fpt-fits latency-fits)
-      (back-fits (offset-made g (f .stamp) (f .phase) (plan .period) small within short refl refl fpt-fits latency-fits))
+      let vl-fits = latency-fits g (f .stamp) in
+      subst (SFits w64) (offset-read g (f .stamp) (f .phase) (plan .period) within short refl refl fpt-fits vl-fits)
+      (back-fits (offset-made g (f .stamp) (f .phase) (plan .period) within short refl refl fpt-fits vl-fits))
 
   margin-fits : SFits w64 (subℕ (plan .tro + plan .period) (f .phase))
   margin-fits = sub-fits (plan .tro + plan .period) (f .phase) (omega (arith, p .early, p .short)) (omega (arith, r .phased, p .short))
@@ -79,7 +72,7 @@ module _ (plan : Plan) (number marked began : ℕ) (f : Frame) (p : Planned plan
       let own = small-fits (r .counted) in
       let peak = small-fits (r .top) in
       let place = small-fits (r .placed) in
-      (own, (zero-fits, (zero-fits, (fpt-fits, (offset-fits, (latency-fits, (margin-fits, (gap-fits, (peak, (least-fits, (place, tt)))))))))))
+      (own, (zero-fits, (zero-fits, (fpt-fits, (offset-fits, (latency-fits g (f .stamp), (margin-fits, (gap-fits, (peak, (least-fits, (place, tt)))))))))))
 
   broken-fits : (kind : ℕ) → kind ≤ 3 → AllFit (numbersOf (brokenRow number kind (detailOf f kind) began))
   broken-fits kind h =
@@ -94,12 +87,3 @@ module _ (plan : Plan) (number marked began : ℕ) (f : Frame) (p : Planned plan
   row-fits =
       pick-either (λ (row : Row). AllFit (numbersOf row)) (eqb (kindOf f (plan .packets)) 0) (λ e. whole-fits)
       (λ e. broken-fits (kindOf f (plan .packets)) (kind-small f (plan .packets)))
-
--- ---- the timestamp that the open frame keeps
-
-pub stamp-arrives : (plan : Plan) (s : Frames) (t stamp : ℕ) → s .current .stamp < 4294967296 → stamp < 4294967296
-    → (arriveOf plan s t stamp) .current .stamp < 4294967296
-unfolding arriveOf countedOf openedOf
-stamp-arrives plan s t stamp kept new =
-    pick-either (λ (f : Frame). f .stamp < 4294967296) (s .begun)
-    (λ e. pick-either (λ (n : ℕ). n < 4294967296) (eqb (s .current .held) 0) (λ e. new) (λ e. kept)) (λ e. kept)

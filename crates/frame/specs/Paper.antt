@@ -4,7 +4,7 @@ use Rattle.laws.specs.Kit.{_-ℤ_, _≤ℤ_, _<ℤ_}
 use Rattle.laws.specs.Choose.{pick}
 use Rattle.laws.specs.Count.{count, begun, again}
 use Rattle.laws.specs.Seek.{seek, Lowest}
-use Rattle.grain.specs.Paper.{grains, frameTime, firstPacketTime, rtpOffset, latency, readsBefore}
+use Rattle.grain.specs.Paper.{grains, frameTime, firstPacketTime, LatencyIs, rtpOffset, readsBefore}
 use Rattle.frame.specs.declared.Plan.{Plan}
 use Rattle.frame.specs.declared.Row.{Row}
 use Rattle.frame.specs.declared.Place.{Place}
@@ -148,12 +148,13 @@ module _ (plan : Plan) (h : History) where
     abbrev pub Overfull : Type 0
     Overfull = (z : ℤ) × PeakIs z × (pos (plan .full) <ℤ z)
 
-    -- P8, P10, P11, P12, P13: "FPT = 27t − T_CF", "RTP_OFFSET = encoded − T_CF. Latency VL = 27t − encoded. Margin = TRO −
-    -- FPT. GAP = first arrival of this frame less arrival of the marker packet before it"
+    -- P8, P9, P10, P11, P12, P13: "FPT = 27t − T_CF", "RTP_OFFSET = encoded − T_CF. Latency VL = 27t − encoded. Margin = TRO −
+    -- FPT. GAP = first arrival of this frame less arrival of the marker packet before it". VL and RTP_OFFSET are of one encoded time,
+    -- "the one nearest to the arrival".
     pub record Times (r : Row) : Type 0 where
       pub fpt : r .fpt ≡ firstPacketTime (arrival 0) (plan .period)
-      pub offset : r .offset ≡ rtpOffset (arrival 0) (h .stamp s) (plan .period)
-      pub latency : r .latency ≡ latency (arrival 0) (h .stamp s)
+      pub latency : LatencyIs (arrival 0) (h .stamp s) (r .latency)
+      pub offset : r .offset ≡ rtpOffset (arrival 0) (h .stamp s) (latency .wraps) (plan .period)
       pub margin : r .margin ≡ pos (plan .tro) -ℤ firstPacketTime (arrival 0) (plan .period)
       pub gap : r .gap ≡ subℕ (arrival 0) (grains (h .time (pred s)))
 

@@ -6,3 +6,4 @@ pub mod InstantCount
 pub mod ReadCount
 pub mod SignedRange
 pub mod Extremes
+pub mod Examples

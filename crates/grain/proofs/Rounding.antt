@@ -1,6 +1,6 @@
 -- N = round(g/F), halves up, is the one N that is nearest; FPT lies in [−F/2, F/2); and N is told by the rest of g divided by F. For any F.
-use Rattle.laws.specs.Kit.{ℕ, _+_, _*_, _-_, _/_, _%_, _≤_, _<_, _≡_, ap, _∙_, arith, div-add-mod', mod-lt, div-mul-le-self}
-use Rattle.laws.specs.Kit.{lt-div-mul-add, mul-le-mul-right, suc-mul, add-mul, pos, negℤ, subℕ, _≤ℤ_, _<ℤ_}
+use Rattle.laws.specs.Kit.{ℕ, _+_, _*_, _-_, _/_, _%_, _≤_, _<_, _≡_, sym, ap, _∙_, arith, decLt, div-add-mod', mod-eq-of-lt, mod-lt}
+use Rattle.laws.specs.Kit.{div-mul-le-self, lt-div-mul-add, mul-le-mul-right, suc-mul, add-mul, pos, negℤ, subℕ, _≤ℤ_, _<ℤ_}
 use Rattle.laws.proofs.Differ.{differ-sub, differ-le, differ-lt, differ-neg, sub-same}
 use Rattle.grain.specs.Paper.{Nearest, nearest, frameTime, phase, firstPacketTime}
 
@@ -54,6 +54,17 @@ module _ (g F : ℕ) (p : 0 < F) where
   pub phase-up : F - g % F ≤ g % F → g % F ≡ phase g F
   unfolding phase
   phase-up l = omega (arith, ap (λ (n : ℕ). n * F) (goes-up l), next, div-add-mod' g F)
+
+-- so the rest alone tells the phase
+pub phase-rest : (g F : ℕ) → 0 < F → phase (g % F) F ≡ phase g F
+phase-rest g F p = go (decLt (g % F) (F - g % F))
+  where
+    own : g % F % F ≡ g % F
+    own = mod-eq-of-lt (mod-lt g p)
+
+    go : Dec (g % F < F - g % F) → phase (g % F) F ≡ phase g F
+    go (yes l) = sym (phase-down (g % F) F p (omega (arith, own))) ∙ ap (λ (n : ℕ). n + F) own ∙ phase-down g F p l
+    go (no l) = sym (phase-up (g % F) F p (omega (arith, own))) ∙ own ∙ phase-up g F p (omega arith)
 
 -- the phase with its frame start is the time with a frame, so FPT is the phase less a frame; and it is below two frames
 module _ (g F : ℕ) (p : 0 < F) where

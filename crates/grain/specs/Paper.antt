@@ -1,5 +1,5 @@
 -- Document 01's sentences about times, each definition under the sentence that it renders. Times are naturals, differences are integers.
-use Rattle.laws.specs.Kit.{Bool, ℕ, _+_, _*_, _-_, _/_, _≤_, _<_, ltb, ℤ, pos, subℕ, _-ℤ_}
+use Rattle.laws.specs.Kit.{_≡_, Bool, ℕ, _+_, _*_, _-_, _/_, _≤_, _<_, ltb, ℤ, pos, natAbs, negℤ, subℕ, _+ℤ_, _*ℤ_, _-ℤ_, _≤ℤ_, _<ℤ_}
 use Rattle.laws.specs.Count.{count}
 
 -- G1: "27 grains are one nanosecond."
@@ -39,18 +39,38 @@ tick = 300000
 abbrev pub wrap : ℕ
 wrap = 1288490188800000
 
--- P9: "Encoded time, formulas (1) and (2): the arrival's wrap count times P plus 300,000 times the timestamp, with [..] wrap count
--- INT(27t/P)." An integer, as is what depends on it: only formulas (1) and (2) say that it is not before the epoch.
-unfoldable pub encoded : ℕ → ℕ → ℤ
-encoded g stamp = pos (g / wrap * wrap + tick * stamp)
+-- P9: "Encoded time [..]: the [..] wrap count times P plus 300,000 times the timestamp": one for each whole wrap count k, below 0 too, so
+-- a timestamp has encoded times without end on both sides, P apart, and some lie before the epoch
+abbrev pub encoded : ℕ → ℤ → ℤ
+encoded stamp k = pos wrap *ℤ k +ℤ pos (tick * stamp)
 
--- P10: "RTP_OFFSET = encoded − T_CF.", which is FPT less VL whatever is encoded: proofs/EncodedTime.antt, offset-is
-abbrev pub rtpOffset : ℕ → ℕ → ℕ → ℤ
-rtpOffset g stamp F = encoded g stamp -ℤ pos (frameTime g F)
+-- P9, P11: "Latency VL = 27t − encoded.", of one of the encoded times, and "VL is at least minus P/2 and below plus P/2.": twice VL is at
+-- least −P and below P. One VL is so: proofs/EncodedTime.antt.
+pub record LatencyIs (g stamp : ℕ) (vl : ℤ) : Type 0 where
+  pub wraps : ℤ
+  pub is : vl ≡ pos g -ℤ encoded stamp wraps
+  pub low : negℤ (pos wrap) ≤ℤ (pos 2 *ℤ vl)
+  pub high : (pos 2 *ℤ vl) <ℤ pos wrap
 
--- P11: "Latency VL = 27t − encoded."
-abbrev pub latency : ℕ → ℕ → ℤ
-latency g stamp = pos g -ℤ encoded g stamp
+-- P9: "the encoded time shall instead be the one nearest to the arrival": none is nearer, and of two as near it is the later. The VL of
+-- that one is the VL of those bounds: proofs/EncodedTime.antt, nearest-encoded.
+pub record NearestEncoded (g stamp : ℕ) (vl : ℤ) : Type 0 where
+  pub wraps : ℤ
+  pub is : vl ≡ pos g -ℤ encoded stamp wraps
+  pub none-nearer : (k : ℤ) → natAbs vl ≤ natAbs (pos g -ℤ encoded stamp k)
+  pub later : (k : ℤ) → natAbs vl ≡ natAbs (pos g -ℤ encoded stamp k) → encoded stamp k ≤ℤ encoded stamp wraps
+
+-- P10: "RTP_OFFSET = encoded − T_CF.", of the encoded time of so many wraps. It is FPT less VL: proofs/EncodedTime.antt, offset-is
+abbrev pub rtpOffset : ℕ → ℕ → ℤ → ℕ → ℤ
+rtpOffset g stamp wraps F = encoded stamp wraps -ℤ pos (frameTime g F)
+
+-- VL as it is worked out. A timestamp's encoded times lie P apart as frame starts lie F apart, so VL is to them what FPT is to the frame
+-- starts: it is the FPT, with P for F, of the time since one of them. The one of −stamp wraps is never after the arrival.
+abbrev pub sinceEncoded : ℕ → ℕ → ℕ
+sinceEncoded g stamp = g + (wrap - tick) * stamp
+
+unfoldable pub latency : ℕ → ℕ → ℤ
+latency g stamp = firstPacketTime (sinceEncoded g stamp) wrap
 
 -- E1: Instants lie k·num/den after a start, k = 1, 2, and so on: instant k is at most e. No fraction is made: both sides times den.
 abbrev pub InstantBy : ℕ → ℕ → ℕ → ℕ → Type 0

@@ -5,7 +5,7 @@
 ghost use Rattle.laws.specs.Kit.{_≡_, _+_, _*_, _-_, _/_, _%_, _≤_, _<_, subℕ};
 ghost use mir.Syntax.{w64};
 ghost use mir.Val.{ofZ};
-ghost use Rattle.grain.specs.Paper.{nanosecond, grains, phase, latency, instants as instantsOf, readsBefore};
+ghost use Rattle.grain.specs.Paper.{nanosecond, grains, phase, wrap, sinceEncoded, latency, instants as instantsOf, readsBefore};
 
 // The one home of both numbers: every crate that needs them takes them from here.
 pub const GRAINS_PER_NANOSECOND: u64 = 27;
@@ -37,18 +37,38 @@ pub fn frame_phase(t: u64, frame: u64) -> u64
     requires { ⌜ (nanosecond ≤ frame) × (frame ≤ 576460752303423488) ⌝ }
     ensures { λ r. ⌜ r ≡ phase (grains t) frame ⌝ }
 {
-    let past = rest27(t, frame);
-    let left = frame - past;
-    if past < left { past + frame } else { past }
+    phase_of_rest(rest27(t, frame), frame)
 }
 
-// VL: 27·t less the time that its timestamp encodes. Both count the same wraps, which drop out.
+// The phase of a time that is `past` after the last of the starts, which lie one period apart: frame starts,
+// or the times that a timestamp encodes.
+pub fn phase_of_rest(past: u64, period: u64) -> u64
+    requires { ⌜ (past < period) × (period ≤ 576460752303423488) ⌝ }
+    ensures { λ r. ⌜ r ≡ phase past period ⌝ }
+{
+    let left = period - past;
+    if past < left { past + period } else { past }
+}
+
+// How far 27·t lies after the last time that its timestamp encodes. Those times lie a wrap apart.
+pub fn since_encoded(t: u64, stamp: u32) -> u64
+    ensures { λ r. ⌜ r ≡ sinceEncoded (grains t) stamp % wrap ⌝ }
+{
+    let past = rest27(t, WRAP);
+    let ticks = GRAINS_PER_TICK * (stamp as u64);
+    if ticks <= past {
+        past - ticks
+    } else {
+        past + (WRAP - ticks)
+    }
+}
+
+// VL: 27·t less the nearest of the times that its timestamp encodes.
 pub fn video_latency(t: u64, stamp: u32) -> i64
     ensures { λ r. ⌜ r ≡ latency (grains t) stamp ⌝ }
 {
-    let past = rest27(t, WRAP);
-    let ticks = stamp as u64;
-    difference(past, GRAINS_PER_TICK * ticks)
+    let past = since_encoded(t, stamp);
+    difference(phase_of_rest(past, WRAP), WRAP)
 }
 
 // a less b, with its sign.

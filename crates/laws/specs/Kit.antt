@@ -14,7 +14,7 @@ pub use native.Mathlib.Nat.{not-suc-le-zero, one-le-pow, one-mul, pow-le-pow-rig
 pub use native.Mathlib.Nat.{sub-zero, suc-inj, suc-mul, zero-add, zero-div, zero-mul, zero-sub}
 pub use native.Mathlib.Decide.{decLe, decLt, ℕ-discrete}
 pub use lib.Dec.{T, eqb, eqb·suc-zero, leb, leb·zero, leb→le, le→leb, lit<, ltb, nleb→lt}
-pub use lib.IntN.{_-ℤ_, natAbs, negsuc, negℤ, pos, subℕ, ℤ}
+pub use lib.IntN.{_*ℤ_, _+ℤ_, _-ℤ_, natAbs, negsuc, negℤ, pos, subℕ, ℤ}
 pub use lib.Signed.{_<ℤ_, _≤ℤ_, leZ, ltZ, mag, nonNeg}
 pub use lib.ListN.{List·getD-append, List·getD-eq-default, drop, drop-of-length-le, getD, length, length-append, length-drop, length-map}
 pub use lib.ListN.{length-replicate, length-reverse, length-set, length-take, replicate, set, take, take-append-drop}

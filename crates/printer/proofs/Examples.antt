@@ -2,7 +2,7 @@
 use Rattle.laws.specs.Kit.{_≡_, refl, List, [], _∷_, _++_, ℕ}
 use Rattle.laws.specs.Count.{count}
 use Rattle.laws.specs.Fold.{fold}
-use Rattle.grain.specs.Paper.{nearest, phase, encoded}
+use Rattle.grain.specs.Paper.{nearest, phase, latency}
 use Rattle.limits.specs.Fraction.{int}
 use Rattle.limits.specs.Paper.{rateOf, frameLength, activeRatio, classOf, cMax, vrxFull, defaultTro, troGrains, troFits, firstNo, setUpRefusal}
 use Rattle.packet.specs.Step.{refusalOf}
@@ -35,7 +35,7 @@ packets =
 pub file-output : outputOf (head ++ packets)
     ≡ codes "frame 0 0 0 18900000 0 18900000 1740000 45900000 1 0 1\npackets 5 frames 1 peak 2 network pass buffer pass\n"
 unfolding outputOf rowLines rowLine fields digitsOf summaryLine refusalLine setUpRefusal firstNo troFits rateOf frameLength activeRatio classOf
-    cMax vrxFull int troGrains defaultTro nearest phase encoded count fold rulesOf arriveOf markOf stepOf rowsAfter B.stepOf F.openedOf
+    cMax vrxFull int troGrains defaultTro nearest phase latency count fold rulesOf arriveOf markOf stepOf rowsAfter B.stepOf F.openedOf
     F.countedOf F.kindOf F.wholeRow F.rowOf F.answerOf F.joined F.arriveOf F.closeOf F.rowsOf readingOf packetsBy formatRefusal
     isParameters kindLength numberOf refusalOf verdictOf inRange
 file-output = refl

@@ -1,7 +1,7 @@
 -- What an accepted history is known to be, in the owner's words. The state that feeding it reaches is the declared one, and `as-declared`
 -- carries over to it what the crates below show of the declared bucket and the declared frames.
 use Rattle.laws.specs.Kit.{_≡_, refl, sym, ap, subst, _∙_, ⊎-elim, _↔_, true, false, List, [], _∷_, ℕ, suc, _+_, _-_, _*_, _≤_, _<_, arith, ℤ}
-use Rattle.laws.specs.Kit.{append-nil, pos, length, take, drop, drop-length, sets}
+use Rattle.laws.specs.Kit.{append-nil, pos, _-ℤ_, length, take, drop, drop-length, sets}
 use Rattle.laws.specs.Climb.{Climbs}
 use Rattle.laws.proofs.Lay.{sets-front}
 use Rattle.laws.specs.Count.{count}
@@ -23,12 +23,12 @@ use Rattle.frame.specs.Step.{rowWidth, rowOf, numbersOf}
 use Rattle.frame.specs.ByPlace.{markedTime, closedAt, framesAt, rowsAt}
 use Rattle.frame.proofs.Stretches.{since-is}
 use Rattle.frame.proofs.Places.{began-after, began-later, began-next, frame-holds}
-use Rattle.frame.proofs.RowOfFrame.{row-is}
+use Rattle.frame.proofs.RowOfFrame.{row-is, offset-follows}
 use Rattle.frame.proofs.BufferOfFrames.{buffer-is, dry-late, late-dry}
 use Rattle.timing.specs.declared.State.{State}
 use Rattle.timing.specs.declared.Judged.the-variants.{Given}
 use Rattle.timing.specs.Step.{frameOf, rulesOf, freshOf, stateAfter, rowsAfter, numbers}
-use Rattle.timing.specs.Answers.{answersOf, verdictOf}
+use Rattle.timing.specs.Answers.{answersOf, verdictOf, graphOf, drawnNumber}
 use Rattle.timing.specs.Feed.{Call, allOf, Accepts, Deals, Rooms}
 use Rattle.timing.specs.History.{stateAt, AcceptedHistory, reached, rowsOfAll, plan, frames, arrivals, size, limit}
 use Rattle.timing.proofs.Planning.{planned, frame-long}
@@ -38,6 +38,7 @@ use Rattle.timing.proofs.Declared.{arrivals-climb, state-declared, rows
 use Rattle.timing.proofs.Dealing.{accepts, deals}
 use Rattle.timing.proofs.Stopping.{passes, sound-reached}
 use Rattle.timing.proofs.Numbered.{numbers-of-frame}
+use Rattle.timing.proofs.Figures.{row-drawn}
 
 module _ (h : AcceptedHistory) where
   -- what holds of the declared state holds of the state reached
@@ -130,6 +131,12 @@ module _ (h : AcceptedHistory) where
     rw e,
     row-is (plan h) (frames h) in-order i b (planned (h .stream) (h .set-up)) e,
   )
+
+  pub offset-of-row : (i : ℕ) (r : Row) → RowIs (plan h) (frames h) i r → r .offset ≡ r .fpt -ℤ r .latency
+  offset-of-row = offset-follows (plan h) (frames h)
+
+  pub figures-drawn : (i : ℕ) (r : Row) → RowIs (plan h) (frames h) i r → drawnNumber (graphOf (r .fpt) (r .margin) (r .latency)) ≡ 0
+  figures-drawn = row-drawn (plan h) (planned (h .stream) (h .set-up)) (frames h)
 
   -- its numbers among those of all the rows, laid into lent ones
   pub numbers-at : (i : ℕ) (r : Row) (lent : List ℤ) → i < size h → rowsAt (plan h) (frames h) i ≡ r ∷ []

@@ -1,6 +1,6 @@
 -- Whole numbers that a double holds, by size; and one that came back from its bits is itself.
-use Rattle.laws.specs.Kit.{_^_, _≡_, refl, sym, ap, _∙_, subst, Bool, true, false, arith, le-ltb, lt-ltb, ltb-true, ltb-false, T, ℤ, pos}
-use Rattle.laws.specs.Kit.{negsuc, ltZ, leZ}
+use Rattle.laws.specs.Kit.{_^_, _≡_, refl, sym, ap, _∙_, subst, Bool, true, false, _≤_, arith, le-leb, le-ltb, lt-ltb, ltb-true, ltb-false, T, ℤ}
+use Rattle.laws.specs.Kit.{pos, negsuc, natAbs, ltZ, leZ}
 use lib.Ieee.{binary64, inFloat, ofInt, ofBits}
 use mir.Syntax.{w64}
 use mir.Val.{SFits, toZ, ofZ}
@@ -16,6 +16,11 @@ pub up-to-high : (z : ℤ) → ltZ z (negsuc 9007199254740991) ≡ false → leZ
 unfolding inFloat
 up-to-high (pos n) h = refl
 up-to-high (negsuc n) h = sym (lt-ltb n (2 ^ 53) (omega (arith, ltb-false 9007199254740991 n h)))
+
+pub small-exact : (z : ℤ) → natAbs z ≤ 9007199254740992 → inFloat binary64 z ≡ true
+unfolding inFloat
+small-exact (pos n) h = le-leb n (2 ^ 53) h
+small-exact (negsuc n) h = lt-ltb n (2 ^ 53) (omega arith)
 
 -- the literal 27000.0 is the double of 27000
 pub divisor : ofBits binary64 4673150917443321856 ≡ ofInt binary64 (pos 27000)

@@ -1,12 +1,12 @@
 -- Every number that is reported of accepted packets fits 64 bits with its sign: the nine of a state in range, since none is above a
 -- billion, and those of the rows, since each is made of a state in range (frame's RowsFit), packet by packet.
-use Rattle.laws.specs.Kit.{_≡_, sym, ap, subst, _&&_, List, [], _∷_, map, ℕ, suc, _≤_, _<_, arith, pos}
+use Rattle.laws.specs.Kit.{_≡_, sym, ap, subst, _&&_, List, [], _∷_, map, ℕ, _≤_, arith, pos}
 use mir.Syntax.{w64}
 use mir.Val.{SFits}
 use Rattle.laws.proofs.Choose.{pick-either}
 use Rattle.packet.specs.declared.Past.{Past}
 use Rattle.packet.specs.declared.Packet.{Packet}
-use Rattle.packet.specs.Paper.{marked, at}
+use Rattle.packet.specs.Paper.{marked}
 use Rattle.packet.specs.Step.{numberOf}
 use Rattle.bucket.specs.declared.Network.{Network}
 use Rattle.bucket.specs.declared.Network.the-variants as network
@@ -16,10 +16,10 @@ use Rattle.frame.specs.declared.Buffer.the-variants as buffer
 use Rattle.frame.specs.declared.Row.{Row}
 use Rattle.frame.specs.Paper.{bufferNumber}
 use Rattle.frame.specs.Step as F
-use Rattle.frame.proofs.RowsFit.{AllFit, fit-append, small-fits, row-fits, stamp-arrives}
+use Rattle.frame.proofs.RowsFit.{AllFit, fit-append, small-fits, row-fits}
 use Rattle.timing.specs.declared.Rules.{Rules}
 use Rattle.timing.specs.declared.State.{State}
-use Rattle.timing.specs.Step.{rulesOf, arriveOf, markOf, stepOf, rowsOf, rowsAfter, numbers}
+use Rattle.timing.specs.Step.{rulesOf, arriveOf, stepOf, rowsOf, rowsAfter, numbers}
 use Rattle.timing.specs.Answers.{summaryWith, summaryOf}
 use Rattle.timing.specs.Range.{Sound}
 use Rattle.timing.specs.Feed.{Passes}
@@ -60,35 +60,24 @@ summary-fits s x =
 
 -- ---- the rows
 
--- the timestamp that is kept stays below 2^32
-stamp-step : (rules : Rules) (s : State) (p : Packet) → s .frames .current .stamp < 4294967296 → p .stamp < 4294967296
-    → (stepOf rules s p) .frames .current .stamp < 4294967296
-unfolding stepOf arriveOf markOf F.closeOf
-stamp-step rules s p kept new =
-    pick-either (λ (x : State). x .frames .current .stamp < 4294967296) (marked p) (λ e. omega arith)
-    (λ e. stamp-arrives (rules .plan) (s .frames) (p .time) (p .stamp) kept new)
-
 -- the row that one packet writes, if it writes one
-row-here : (s : State) (p : Packet) → Sound s → numberOf (s .past) p ≡ 0 → s .frames .current .stamp < 4294967296
-    → p .stamp < 4294967296 → AllFit (numbers (rowsOf (rulesOf (s .numbers)) s p))
+row-here : (s : State) (p : Packet) → Sound s → numberOf (s .past) p ≡ 0 → AllFit (numbers (rowsOf (rulesOf (s .numbers)) s p))
 unfolding F.rowsOf arriveOf F.arriveOf numbers
-row-here s p x e kept new =
-    let plan = rulesOf (s .numbers) .plan in
+row-here s p x e =
     pick-either (λ (l : List Row). AllFit (numbers l)) (marked p && s .frames .begun)
-    (λ t. row-fits plan (s .frames .closed) (s .frames .marked) _ _ (planned (s .numbers) (x .accepted))
-    (rows-made s p x e (and-right (marked p) (s .frames .begun) t) .row) (stamp-arrives plan (s .frames) (p .time) (p .stamp) kept new))
+    (λ t. row-fits (rulesOf (s .numbers) .plan) (s .frames .closed) (s .frames .marked) _ _ (planned (s .numbers) (x .accepted))
+    (rows-made s p x e (and-right (marked p) (s .frames .begun) t) .row))
     (λ t. tt)
 
--- and those of a list, whose timestamps are below 2^32 as a u32 is
-pub rows-fit : (l : List Packet) (s : State) → Sound s → Passes (s .past) l → s .frames .current .stamp < 4294967296
-    → ((i : ℕ) → at l i .stamp < 4294967296) → AllFit (numbers (rowsAfter (rulesOf (s .numbers)) s l))
+-- and those of a list
+pub rows-fit : (l : List Packet) (s : State) → Sound s → Passes (s .past) l → AllFit (numbers (rowsAfter (rulesOf (s .numbers)) s l))
 unfolding rowsAfter Passes numbers
-rows-fit [] s x pass kept held = tt
-rows-fit (p ∷ l) s x pass kept held =
+rows-fit [] s x pass = tt
+rows-fit (p ∷ l) s x pass =
     let rules = rulesOf (s .numbers) in
     let same : rulesOf ((stepOf rules s p) .numbers) ≡ rules = ap rulesOf (step-numbers rules s p) in
     let others = rows-fit l (stepOf rules s p) (sound-step s p x (pass .0))
-    (subst (λ (q : Past). Passes q l) (sym (step-past rules s p)) (pass .1)) (stamp-step rules s p kept (held 0)) (λ i. held (suc i)) in
+    (subst (λ (q : Past). Passes q l) (sym (step-past rules s p)) (pass .1)) in
     let rest = subst (λ (r : Rules). AllFit (numbers (rowsAfter r (stepOf rules s p) l))) same others in
     subst AllFit (sym (both as-numbers (rowsOf rules s p) (rowsAfter rules (stepOf rules s p) l)))
-    (fit-append (numbers (rowsOf rules s p)) _ (row-here s p x (pass .0) kept (held 0)) rest)
+    (fit-append (numbers (rowsOf rules s p)) _ (row-here s p x (pass .0)) rest)

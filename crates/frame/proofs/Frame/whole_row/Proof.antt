@@ -20,7 +20,7 @@ sub-offset c = let s = c .before .before in
     let a = s .args in
     let d = c .before .difference in
     let v = c .video-latency in
-    offset-made (grains (a .self .first)) (a .self .stamp) (a .self .phase) (a .plan .period) (omega arith) (omega arith) (omega arith)
+    offset-made (grains (a .self .first)) (a .self .stamp) (a .self .phase) (a .plan .period) (omega arith) (omega arith)
     (d .ensures) (v .ensures) (record { sfits = d .ok }) (record { sfits = v .ok })
 
 cast-t9 : tie.Need-cast-t9
@@ -59,7 +59,6 @@ returns c = let s = c .before .before .before .before .before .before .before in
     let m = c .before .before .before .difference2 in
     let fpt = toZ-ofZ {w = w64} (record { sfits = d .ok }) ∙ d .ensures in
     let offset = offset-read (grains (a .self .first)) (a .self .stamp) (a .self .phase) (a .plan .period) (omega arith) (omega arith)
-    (omega arith)
     (d .ensures) (v .ensures) (record { sfits = d .ok }) (record { sfits = v .ok }) in
     let latency = toZ-ofZ {w = w64} (record { sfits = v .ok }) ∙ v .ensures in
     λ j. record {
