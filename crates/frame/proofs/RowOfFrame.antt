@@ -227,7 +227,7 @@ same-row a b c d e f g h i k l = λ j. record {
   began = l j;
 }
 
--- P10: RTP_OFFSET is FPT less VL; one VL is so, and so one RTP_OFFSET
+-- RTP_OFFSET is FPT less VL; one VL is so, and so one RTP_OFFSET
 module _ {plan : Plan} {h : History} {s : ℕ} where
   times-follow : {r : Row} → Times plan h s r → r .offset ≡ r .fpt -ℤ r .latency
   times-follow {r} a =
@@ -242,7 +242,7 @@ module _ {plan : Plan} {h : History} {s : ℕ} where
       times-follow a ∙ ap (λ (z : ℤ). z -ℤ r .latency) (a .fpt ∙ sym (b .fpt)) ∙ ap (λ (z : ℤ). q .fpt -ℤ z) (vl-same a b)
       ∙ sym (times-follow b)
 
--- of a broken frame all three are 0
+-- P10: of every row, since all three are 0 in a broken frame's
 pub offset-follows : (plan : Plan) (h : History) (i : ℕ) (r : Row) → RowIs plan h i r → r .offset ≡ r .fpt -ℤ r .latency
 offset-follows plan h i r x = go (eqb (kindAt plan h i) 0) refl
   where

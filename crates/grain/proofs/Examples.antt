@@ -1,6 +1,6 @@
--- Both sides of a tie, a wrap, the epoch and the end of 64 bits: each VL with the wraps of its encoded time, by computing.
-use Rattle.laws.specs.Kit.{refl, pos, negℤ}
-use Rattle.grain.specs.Paper.{grains, LatencyIs}
+-- Both sides of a tie, a wrap, the epoch and the end of 64 bits: each VL with the wraps of its encoded time. By computing.
+use Rattle.laws.specs.Kit.{_≡_, refl, pos, negℤ}
+use Rattle.grain.specs.Paper.{grains, nearest, LatencyIs, rtpOffset}
 
 -- P9, P11: timestamp 2^31 + 9 encodes P/2 before 100,000 ns and P/2 after: "at least minus P/2", so the later is taken
 pub at-tie : LatencyIs (grains 100000) 2147483657 (negℤ (pos 644245094400000))
@@ -21,6 +21,11 @@ over-wrap = record { wraps = pos 0; is = refl; low = record { le = tt }; high = 
 -- the epoch is no exception: the timestamp of the tick before it, and VL a tick
 pub at-epoch : LatencyIs (grains 0) 4294967295 (pos 300000)
 at-epoch = record { wraps = negℤ (pos 1); is = refl; low = record { le = tt }; high = record { lt = tt } }
+
+-- P10: and RTP_OFFSET is a tick before it, of frames of 20 ms
+pub offset-at-epoch : rtpOffset (grains 0) 4294967295 (negℤ (pos 1)) 540000000 ≡ negℤ (pos 300000)
+unfolding nearest
+offset-at-epoch = refl
 
 -- nor is the end of 64 bits: this encoded time is after it
 pub at-end : LatencyIs (grains 18446744073709551615) 243266948 (negℤ (pos 106395))

@@ -26,7 +26,6 @@ module _ (g F : ℕ) (p : 0 < F) where
       (differ-minus (pos tro) (firstPacketTime g F) tro 0 g (frameTime g F) (omega arith) (differ-sub g (frameTime g F)))
       (omega (arith, near .high)) (omega (arith, near .low))
 
--- V9, N9: 16 is for no row
 module _ (plan : Plan) (p : Planned plan) (h : History) (i : ℕ) (r : Row) (x : RowIs plan h i r) where
   abbrev Exact : Type 0
   Exact = (inFloat binary64 (r .fpt) ≡ true) × (inFloat binary64 (r .margin) ≡ true) × (inFloat binary64 (r .latency) ≡ true)
@@ -51,5 +50,6 @@ module _ (plan : Plan) (p : Planned plan) (h : History) (i : ℕ) (r : Row) (x :
           let nothing = small-exact (pos 0) (omega arith) in
           (rw (z .fpt) nothing, rw (z .margin) nothing, rw (z .latency) nothing)
 
+  -- V9, N9: 16 is for no row
   pub row-drawn : drawnNumber (graphOf (r .fpt) (r .margin) (r .latency)) ≡ 0
   row-drawn = graph-numbered (r .fpt) (r .margin) (r .latency) ∙ rw (exact .0, exact .1, exact .2)
