@@ -9,7 +9,8 @@ use Rattle.laws.proofs.Differ.{differ-sub, differ-own, differ-same, differ-le, 
 use Rattle.laws.proofs.Differ.{le-differ, lt-differ, both-ways, through, size-most, above-size, below-size}
 use Rattle.grain.proofs.Rounding.{nearest-is, phase-from, phase-rest, phase-less, phase-small}
 use Rattle.grain.proofs.SignedRange.{differ-fits, less-fits, less-is}
-use Rattle.grain.specs.Paper.{nearest, frameTime, phase, firstPacketTime, tick, wrap, encoded, LatencyIs, NearestEncoded, rtpOffset, sinceEncoded, latency}
+use Rattle.grain.specs.Paper.{nearest, frameTime, phase, firstPacketTime, tick, wrap, encoded, LatencyIs, NearestEncoded, rtpOffset}
+use Rattle.grain.specs.Paper.{sinceEncoded, latency}
 
 -- ---- 27t less the encoded time of k wraps, as a difference of naturals
 
