@@ -23,9 +23,9 @@ use Rattle.timing.specs.declared.StreamNumbers.{StreamNumbers}
 use Rattle.timing.specs.declared.State.{State}
 use Rattle.timing.specs.declared.Fed.the-variants.{Accepted, Refused}
 use Rattle.timing.specs.declared.Judged.the-variants.{Given}
-use Rattle.timing.specs.Step.{setUpOf, frameOf, freshOf, numbers}
+use Rattle.timing.specs.Step.{setUpOf, frameOf, rulesOf, freshOf, rowsAfter, numbers}
 use Rattle.timing.specs.Range.{inRange}
-use Rattle.timing.specs.Answers.{setUpAs, answersOf, verdictOf, graphOf, graphNumber, setUpNumber, judgedNumber, drawnNumber}
+use Rattle.timing.specs.Answers.{setUpAs, answersOf, verdictOf, graphOf, graphNumber, setUpNumber, judgedNumber, drawnNumber, AllRows, Drawable}
 use Rattle.timing.specs.Feed.{feedOf, feedAll, fedRefusal, refusals, firstOf, rangeNumber, Call, allOf, Accepts, Deals, Rooms, Stops}
 use Rattle.timing.specs.History.{stateAt, rowsTo, AcceptedHistory, reached, rowsOfAll, plan, frames, arrivals, size, limit}
 use Rattle.timing.proofs.InRange.{sound-fresh, of-sound}
@@ -34,6 +34,7 @@ use Rattle.timing.proofs.Feeding.{refused-stays, feed-slices, nothing-fed}
 use Rattle.timing.proofs.Declared.{state-declared, rows-declared}
 use Rattle.timing.proofs.Dealing.{stays-in-range}
 use Rattle.timing.proofs.Stopping.{all-stop}
+use Rattle.timing.proofs.Figures.{rows-drawn as all-drawn}
 use Rattle.timing.proofs.Accepting as proved
 
 -- ---- Demand 1: "Bad input gets the numbered refusal of document 01, exactly when its table says, with the state and lent rows as they
@@ -62,6 +63,11 @@ verdict-number = verdict-numbered
 -- D1c, N9: the graph by 16
 pub graph-number : (fpt margin latency : ℤ) → drawnNumber (graphOf fpt margin latency) ≡ graphNumber fpt margin latency
 graph-number = graph-numbered
+
+-- V9, N9: 16 is for no row that an accepted call writes, whatever state it was lent: the graph takes FPT, margin and VL of each
+pub rows-drawn : (s t : State) (rows : List ℤ) (l : List Packet) → (feedAll s rows l) .answer ≡ Accepted t
+    → AllRows Drawable (rowsAfter (rulesOf (s .numbers)) s l)
+rows-drawn = all-drawn
 
 -- P2, N6: slices of one length are answered as the packets that they hold; 10 is for any others
 pub slices-are-packets : (s : State) (rows : List ℤ) (ts ss ms : List ℕ) → OneLength ts ss ms
@@ -128,10 +134,6 @@ module _ (h : AcceptedHistory) where
   -- P10: "RTP_OFFSET follows as FPT less VL.", in every row
   pub offset-follows : (i : ℕ) (r : Row) → RowIs (plan h) (frames h) i r → r .offset ≡ r .fpt -ℤ r .latency
   offset-follows = proved.offset-of-row h
-
-  -- V9, N9: 16 is for no row: the graph takes the FPT, margin and VL of each
-  pub row-drawn : (i : ℕ) (r : Row) → RowIs (plan h) (frames h) i r → drawnNumber (graphOf (r .fpt) (r .margin) (r .latency)) ≡ 0
-  row-drawn = proved.figures-drawn h
 
   -- D2b, V1: its eleven numbers stand from 11·k on among the lent ones, k being the frame's number
   pub numbers-of-row : (i : ℕ) (r : Row) (lent : List ℤ) → i < size h → rowsAt (plan h) (frames h) i ≡ r ∷ []

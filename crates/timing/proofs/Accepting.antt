@@ -28,7 +28,7 @@ use Rattle.frame.proofs.BufferOfFrames.{buffer-is, dry-late, late-dry}
 use Rattle.timing.specs.declared.State.{State}
 use Rattle.timing.specs.declared.Judged.the-variants.{Given}
 use Rattle.timing.specs.Step.{frameOf, rulesOf, freshOf, stateAfter, rowsAfter, numbers}
-use Rattle.timing.specs.Answers.{answersOf, verdictOf, graphOf, drawnNumber}
+use Rattle.timing.specs.Answers.{answersOf, verdictOf}
 use Rattle.timing.specs.Feed.{Call, allOf, Accepts, Deals, Rooms}
 use Rattle.timing.specs.History.{stateAt, AcceptedHistory, reached, rowsOfAll, plan, frames, arrivals, size, limit}
 use Rattle.timing.proofs.Planning.{planned, frame-long}
@@ -38,7 +38,6 @@ use Rattle.timing.proofs.Declared.{arrivals-climb, state-declared, rows
 use Rattle.timing.proofs.Dealing.{accepts, deals}
 use Rattle.timing.proofs.Stopping.{passes, sound-reached}
 use Rattle.timing.proofs.Numbered.{numbers-of-frame}
-use Rattle.timing.proofs.Figures.{row-drawn}
 
 module _ (h : AcceptedHistory) where
   -- what holds of the declared state holds of the state reached
@@ -134,9 +133,6 @@ module _ (h : AcceptedHistory) where
 
   pub offset-of-row : (i : ℕ) (r : Row) → RowIs (plan h) (frames h) i r → r .offset ≡ r .fpt -ℤ r .latency
   offset-of-row = offset-follows (plan h) (frames h)
-
-  pub figures-drawn : (i : ℕ) (r : Row) → RowIs (plan h) (frames h) i r → drawnNumber (graphOf (r .fpt) (r .margin) (r .latency)) ≡ 0
-  figures-drawn = row-drawn (plan h) (planned (h .stream) (h .set-up)) (frames h)
 
   -- its numbers among those of all the rows, laid into lent ones
   pub numbers-at : (i : ℕ) (r : Row) (lent : List ℤ) → i < size h → rowsAt (plan h) (frames h) i ≡ r ∷ []

@@ -1,55 +1,53 @@
--- FPT, margin and VL of every row are at most 2^53 in size, so the graph takes them: half a frame, half a frame and TRO, half a wrap; or 0.
-use Rattle.laws.specs.Kit.{_≡_, refl, _∙_, Bool, true, false, ℕ, _+_, _*_, _≤_, _<_, arith, eqb, eqb-true, eqb-false, pos, natAbs, _-ℤ_}
-use lib.Ieee.{binary64, inFloat}
-use Rattle.laws.proofs.Differ.{differ-sub, differ-minus, size-most}
-use Rattle.grain.specs.Paper.{frameTime, firstPacketTime}
-use Rattle.grain.proofs.Rounding.{nearest-is}
-use Rattle.grain.proofs.EncodedTime.{latency-size}
+-- FPT, margin and VL of every row that is written are at most 2^53 in size, so the graph takes them: two frames at most, or half a wrap.
+use Rattle.laws.specs.Kit.{_≡_, _∙_, List, ℕ, _+_, _*_, _≤_, arith, eqb, ℤ, pos, natAbs, subℕ}
+use Rattle.laws.proofs.Choose.{pick-either}
+use Rattle.laws.proofs.Differ.{differ-sub, size-most}
+use Rattle.grain.specs.Paper.{grains, latency}
+use Rattle.grain.proofs.EncodedTime.{latency-is, latency-size}
+use Rattle.packet.specs.declared.Packet.{Packet}
 use Rattle.frame.specs.declared.Plan.{Plan}
-use Rattle.frame.specs.declared.Row.{Row}
-use Rattle.frame.specs.Paper.{History, since, kindAt, arrival, Times, RowIs}
-use Rattle.frame.specs.Range.{Planned}
-use Rattle.timing.specs.Answers.{graphOf, drawnNumber}
+use Rattle.frame.specs.declared.Frame.{Frame}
+use Rattle.frame.specs.Step.{kindOf, wholeRow, rowOf}
+use Rattle.frame.specs.Range.{Planned, RowAsks}
+use Rattle.timing.specs.declared.State.{State}
+use Rattle.timing.specs.declared.Fed.the-variants.{Accepted}
+use Rattle.timing.specs.Step.{rulesOf, rowsAfter}
+use Rattle.timing.specs.Answers.{graphOf, drawnNumber, AllRows, Drawable}
+use Rattle.timing.specs.Feed.{feedAll}
+use Rattle.timing.proofs.InRange.{sound-of}
+use Rattle.timing.proofs.Feeding.{accepted-from}
 use Rattle.timing.proofs.Answering.{graph-numbered}
+use Rattle.timing.proofs.Fitting.{rows-hold}
 use Rattle.timing.proofs.Doubles.{small-exact}
 
-module _ (g F : ℕ) (p : 0 < F) where
-  fpt-size : 2 * natAbs (firstPacketTime g F) ≤ F
-  fpt-size =
-      let near = nearest-is g F p in
-      size-most (firstPacketTime g F) g (frameTime g F) F (differ-sub g (frameTime g F)) (omega (arith, near .low)) (omega (arith, near .high))
+drawn : (fpt margin vl : ℤ) → natAbs fpt ≤ 9007199254740992 → natAbs margin ≤ 9007199254740992 → natAbs vl ≤ 9007199254740992
+    → drawnNumber (graphOf fpt margin vl) ≡ 0
+drawn fpt margin vl f m v = graph-numbered fpt margin vl ∙ rw (small-exact fpt f, small-exact margin m, small-exact vl v)
 
-  margin-size : (tro : ℕ) → 2 * natAbs (pos tro -ℤ firstPacketTime g F) ≤ 2 * tro + F
-  margin-size tro =
-      let near = nearest-is g F p in
-      size-most (pos tro -ℤ firstPacketTime g F) (tro + frameTime g F) (g + 0) (2 * tro + F)
-      (differ-minus (pos tro) (firstPacketTime g F) tro 0 g (frameTime g F) (omega arith) (differ-sub g (frameTime g F)))
-      (omega (arith, near .high)) (omega (arith, near .low))
+sub-size : (a b most : ℕ) → a ≤ most → b ≤ most → 2 * natAbs (subℕ a b) ≤ 2 * most
+sub-size a b most h k = size-most (subℕ a b) a b (2 * most) (differ-sub a b) (omega arith) (omega arith)
 
-module _ (plan : Plan) (p : Planned plan) (h : History) (i : ℕ) (r : Row) (x : RowIs plan h i r) where
-  abbrev Exact : Type 0
-  Exact = (inFloat binary64 (r .fpt) ≡ true) × (inFloat binary64 (r .margin) ≡ true) × (inFloat binary64 (r .latency) ≡ true)
+module _ (plan : Plan) (number marked began : ℕ) (f : Frame) (p : Planned plan) (r : RowAsks plan number marked began f) where
+  whole-drawn : Drawable (wholeRow plan number marked began f)
+  unfolding wholeRow
+  whole-drawn =
+      let g = grains (f .first) in
+      let period = plan .period in
+      let size = latency-size (latency-is g (f .stamp)) in
+      drawn (subℕ (f .phase) period) (subℕ (plan .tro + period) (f .phase)) (latency g (f .stamp))
+      (omega (arith, p .short, sub-size (f .phase) period (2 * period) (r .phased) (omega arith)))
+      (omega (arith, p .short, sub-size (plan .tro + period) (f .phase) (2 * period) (omega (arith, p .early)) (r .phased)))
+      (omega (arith, size))
 
-  whole-exact : Times plan h (since h i) r → Exact
-  whole-exact t =
-      let g = arrival plan h (since h i) 0 in
-      let some : 0 < plan .period = omega (arith, p .long) in (
-        rw (t .fpt) (small-exact (firstPacketTime g (plan .period)) (omega (arith, p .short, fpt-size g (plan .period) some))),
-        rw (t .margin) (small-exact (pos (plan .tro) -ℤ firstPacketTime g (plan .period))
-            (omega (arith, p .short, p .early, margin-size g (plan .period) some (plan .tro)))),
-        small-exact (r .latency) (omega (arith, latency-size (t .latency))),
-      )
+  row-drawn : Drawable (rowOf plan number marked began f)
+  unfolding rowOf
+  row-drawn =
+      pick-either Drawable (eqb (kindOf f (plan .packets)) 0) (λ e. whole-drawn)
+      (λ e. drawn (pos 0) (pos 0) (pos 0) (omega arith) (omega arith) (omega arith))
 
-  exact : Exact
-  exact = go (eqb (kindAt plan h i) 0) refl
-    where
-      go : (t : Bool) → eqb (kindAt plan h i) 0 ≡ t → Exact
-      go true e = whole-exact (x .times (eqb-true (kindAt plan h i) 0 e))
-      go false e =
-          let z = x .broken (eqb-false (kindAt plan h i) 0 e) in
-          let nothing = small-exact (pos 0) (omega arith) in
-          (rw (z .fpt) nothing, rw (z .margin) nothing, rw (z .latency) nothing)
-
-  -- V9, N9: 16 is for no row
-  pub row-drawn : drawnNumber (graphOf (r .fpt) (r .margin) (r .latency)) ≡ 0
-  row-drawn = graph-numbered (r .fpt) (r .margin) (r .latency) ∙ rw (exact .0, exact .1, exact .2)
+-- V9, N9: 16 is for no row that a call writes
+pub rows-drawn : (s t : State) (rows : List ℤ) (l : List Packet) → (feedAll s rows l) .answer ≡ Accepted t
+    → AllRows Drawable (rowsAfter (rulesOf (s .numbers)) s l)
+rows-drawn s t rows l e =
+    let a = accepted-from s t rows l e in
+    rows-hold Drawable row-drawn l s (sound-of s (a .in-range)) (a .passes)

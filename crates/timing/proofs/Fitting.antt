@@ -1,6 +1,6 @@
 -- Every number that is reported of accepted packets fits 64 bits with its sign: the nine of a state in range, since none is above a
 -- billion, and those of the rows, since each is made of a state in range (frame's RowsFit), packet by packet.
-use Rattle.laws.specs.Kit.{_≡_, sym, ap, subst, _&&_, List, [], _∷_, map, ℕ, _≤_, arith, pos}
+use Rattle.laws.specs.Kit.{_≡_, sym, ap, subst, _&&_, List, [], _∷_, _++_, map, ℕ, _≤_, arith, pos}
 use mir.Syntax.{w64}
 use mir.Val.{SFits}
 use Rattle.laws.proofs.Choose.{pick-either}
@@ -13,21 +13,23 @@ use Rattle.bucket.specs.declared.Network.the-variants as network
 use Rattle.bucket.specs.Paper.{networkNumber}
 use Rattle.frame.specs.declared.Buffer.{Buffer}
 use Rattle.frame.specs.declared.Buffer.the-variants as buffer
+use Rattle.frame.specs.declared.Plan.{Plan}
+use Rattle.frame.specs.declared.Frame.{Frame}
 use Rattle.frame.specs.declared.Row.{Row}
 use Rattle.frame.specs.Paper.{bufferNumber}
 use Rattle.frame.specs.Step as F
+use Rattle.frame.specs.Range.{Planned, RowAsks}
 use Rattle.frame.proofs.RowsFit.{AllFit, fit-append, small-fits, row-fits}
 use Rattle.timing.specs.declared.Rules.{Rules}
 use Rattle.timing.specs.declared.State.{State}
 use Rattle.timing.specs.Step.{rulesOf, arriveOf, stepOf, rowsOf, rowsAfter, numbers}
-use Rattle.timing.specs.Answers.{summaryWith, summaryOf}
+use Rattle.timing.specs.Answers.{summaryWith, summaryOf, AllRows}
 use Rattle.timing.specs.Range.{Sound}
 use Rattle.timing.specs.Feed.{Passes}
 use Rattle.laws.proofs.Every.{and-right}
 use Rattle.timing.proofs.Planning.{planned}
 use Rattle.timing.proofs.Staying.{sound-step, rows-made}
 use Rattle.timing.proofs.Running.{step-numbers, step-past}
-use Rattle.timing.proofs.Sink.{both, as-numbers}
 
 -- ---- the nine numbers of a state
 
@@ -60,24 +62,41 @@ summary-fits s x =
 
 -- ---- the rows
 
--- the row that one packet writes, if it writes one
-row-here : (s : State) (p : Packet) → Sound s → numberOf (s .past) p ≡ 0 → AllFit (numbers (rowsOf (rulesOf (s .numbers)) s p))
-unfolding F.rowsOf arriveOf F.arriveOf numbers
-row-here s p x e =
-    pick-either (λ (l : List Row). AllFit (numbers l)) (marked p && s .frames .begun)
-    (λ t. row-fits (rulesOf (s .numbers) .plan) (s .frames .closed) (s .frames .marked) _ _ (planned (s .numbers) (x .accepted))
-    (rows-made s p x e (and-right (marked p) (s .frames .begun) t) .row))
-    (λ t. tt)
+-- what holds of each row that is made of a state in range holds of each row that is written
+module _ (P : Row → Type 0) (made : (plan : Plan) (number marked began : ℕ) (f : Frame) → Planned plan → RowAsks plan number marked began f
+    → P (F.rowOf plan number marked began f)) where
+  -- of the row that one packet writes, if it writes one
+  row-here : (s : State) (p : Packet) → Sound s → numberOf (s .past) p ≡ 0 → AllRows P (rowsOf (rulesOf (s .numbers)) s p)
+  unfolding F.rowsOf arriveOf F.arriveOf
+  row-here s p x e =
+      pick-either (AllRows P) (marked p && s .frames .begun)
+      (λ t. (
+        made (rulesOf (s .numbers) .plan) (s .frames .closed) (s .frames .marked) _ _ (planned (s .numbers) (x .accepted))
+            (rows-made s p x e (and-right (marked p) (s .frames .begun) t) .row),
+        tt,
+      ))
+      (λ t. tt)
 
--- and those of a list
+  all-append : (a b : List Row) → AllRows P a → AllRows P b → AllRows P (a ++ b)
+  all-append [] b h k = k
+  all-append (r ∷ a) b h k = (h .0, all-append a b (h .1) k)
+
+  -- and of those of a list
+  pub rows-hold : (l : List Packet) (s : State) → Sound s → Passes (s .past) l → AllRows P (rowsAfter (rulesOf (s .numbers)) s l)
+  unfolding rowsAfter Passes
+  rows-hold [] s x pass = tt
+  rows-hold (p ∷ l) s x pass =
+      let rules = rulesOf (s .numbers) in
+      let same : rulesOf ((stepOf rules s p) .numbers) ≡ rules = ap rulesOf (step-numbers rules s p) in
+      let others = rows-hold l (stepOf rules s p) (sound-step s p x (pass .0))
+      (subst (λ (q : Past). Passes q l) (sym (step-past rules s p)) (pass .1)) in
+      all-append (rowsOf rules s p) _ (row-here s p x (pass .0))
+      (subst (λ (r : Rules). AllRows P (rowsAfter r (stepOf rules s p) l)) same others)
+
+rows-numbers : (rs : List Row) → AllRows (λ r. AllFit (F.numbersOf r)) rs → AllFit (numbers rs)
+unfolding numbers
+rows-numbers [] h = tt
+rows-numbers (r ∷ rs) h = fit-append (F.numbersOf r) (numbers rs) (h .0) (rows-numbers rs (h .1))
+
 pub rows-fit : (l : List Packet) (s : State) → Sound s → Passes (s .past) l → AllFit (numbers (rowsAfter (rulesOf (s .numbers)) s l))
-unfolding rowsAfter Passes numbers
-rows-fit [] s x pass = tt
-rows-fit (p ∷ l) s x pass =
-    let rules = rulesOf (s .numbers) in
-    let same : rulesOf ((stepOf rules s p) .numbers) ≡ rules = ap rulesOf (step-numbers rules s p) in
-    let others = rows-fit l (stepOf rules s p) (sound-step s p x (pass .0))
-    (subst (λ (q : Past). Passes q l) (sym (step-past rules s p)) (pass .1)) in
-    let rest = subst (λ (r : Rules). AllFit (numbers (rowsAfter r (stepOf rules s p) l))) same others in
-    subst AllFit (sym (both as-numbers (rowsOf rules s p) (rowsAfter rules (stepOf rules s p) l)))
-    (fit-append (numbers (rowsOf rules s p)) _ (row-here s p x (pass .0)) rest)
+rows-fit l s x pass = rows-numbers (rowsAfter (rulesOf (s .numbers)) s l) (rows-hold (λ r. AllFit (F.numbersOf r)) row-fits l s x pass)

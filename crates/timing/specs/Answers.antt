@@ -1,8 +1,9 @@
 -- Set-up, the verdict, the summary and the graph: what each answers, for every input.
-use Rattle.laws.specs.Kit.{_&&_, List, [], _∷_, ℕ, eqb, ℤ, pos}
+use Rattle.laws.specs.Kit.{_≡_, _&&_, List, [], _∷_, ℕ, eqb, ℤ, pos}
 use lib.Ieee.{Float, binary64, ofInt, div, inFloat}
 use Rattle.laws.specs.Choose.{pick}
 use Rattle.bucket.specs.Paper.{networkNumber, networkFirst, networkLast}
+use Rattle.frame.specs.declared.Row.{Row}
 use Rattle.frame.specs.Paper.{bufferNumber, bufferFrame, bufferPlace}
 use Rattle.timing.specs.declared.StreamNumbers.{StreamNumbers}
 use Rattle.timing.specs.declared.State.{State}
@@ -72,6 +73,11 @@ graphOf fpt margin latency =
 abbrev pub graphNumber : ℤ → ℤ → ℤ → ℕ
 graphNumber fpt margin latency = pick (inFloat binary64 fpt && (inFloat binary64 margin && inFloat binary64 latency)) 0 16
 
+-- each row of a list is so
+abbrev pub AllRows : (Row → Type 0) → List Row → Type 0
+AllRows P [] = Unit
+AllRows P (r ∷ rows) = P r × AllRows P rows
+
 -- For each answer that is an enum, document 01's number, 0 where nothing is refused, and its place.
 abbrev pub fedNumber : Fed → ℕ
 fedNumber (Accepted s) = 0
@@ -96,3 +102,7 @@ judgedNumber (Not-Judged number) = number
 abbrev pub drawnNumber : Drawn → ℕ
 drawnNumber (Figures g) = 0
 drawnNumber (Not-Drawn number) = number
+
+-- V9: the graph takes the row's FPT, margin and VL
+abbrev pub Drawable : Row → Type 0
+Drawable r = drawnNumber (graphOf (r .fpt) (r .margin) (r .latency)) ≡ 0
