@@ -426,7 +426,7 @@ fn wraps_and_ties() -> Vec<(Numbers, Vec<Packet>)> {
         around(429_496_729_600_000, &[u32::MAX, 0]),
         around(18_446_741_370_743_466_667, &[u32::MAX, 0]),
         packets(&[(0, 0, 1), (0, half, 1), (1, half, 1)]),
-        around(100_000, &[half + 9]),
+        around(100_000, &[half + 8, half + 9, half + 10]),
         // The later encoded time is after the next wrap.
         around(23_860_929_500_000, &[7]),
         around(1_760_000_000_000_000_000, &[3_753_607_168]),

@@ -756,6 +756,14 @@ fn an_exact_tie_and_a_nanosecond_to_each_side() {
     assert_eq!(offsets(100_001, timestamp), [2_700_027, later, -near]);
 }
 
+/// The arrival of that tie, with the timestamps of the ticks around it.
+#[test]
+fn a_tie_and_a_tick_to_each_side() {
+    let around = [8, 9, 10].map(|past| latency(100_000, (1 << 31) + past));
+    let near = HALF_OF_P - 300_000;
+    assert_eq!(around, [-near, -HALF_OF_P, near]);
+}
+
 /// At the first arrival, just after P/2, where the later encoded time is after
 /// the next wrap, in our days, and at the last tie of 64 bits.
 #[test]

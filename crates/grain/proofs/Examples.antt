@@ -14,6 +14,14 @@ before-tie = record { wraps = negℤ (pos 1); is = refl; low = record { le = tt 
 pub after-tie : LatencyIs (grains 100001) 2147483657 (negℤ (pos 644245094399973))
 after-tie = record { wraps = pos 0; is = refl; low = record { le = tt }; high = record { lt = tt } }
 
+-- at that arrival, a timestamp one tick later: its encoded times are a tick later too, and the earlier is nearer
+pub tick-after-tie : LatencyIs (grains 100000) 2147483658 (pos 644245094100000)
+tick-after-tie = record { wraps = negℤ (pos 1); is = refl; low = record { le = tt }; high = record { lt = tt } }
+
+-- and one tick earlier, the later
+pub tick-before-tie : LatencyIs (grains 100000) 2147483656 (negℤ (pos 644245094100000))
+tick-before-tie = record { wraps = pos 0; is = refl; low = record { le = tt }; high = record { lt = tt } }
+
 -- K10: stamped a tick before the wrap and received 15 grains after it: the encoded time is the one of no wraps, not of the arrival's one
 pub over-wrap : LatencyIs (grains 47721858844445) 4294967295 (pos 300015)
 over-wrap = record { wraps = pos 0; is = refl; low = record { le = tt }; high = record { lt = tt } }
