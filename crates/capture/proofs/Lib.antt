@@ -1,0 +1,6 @@
+-- The theorems of this crate, file by file, lowest first; each file says in its first line what it shows.
+pub mod Ways
+pub mod Records
+pub mod Checking
+pub mod InPieces
+pub mod Counting
