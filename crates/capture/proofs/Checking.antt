@@ -127,30 +127,36 @@ opened-whole s = go (ltb (length s) headerBytes) refl
     go true e = rw e
     go false e = refl
 
+-- what was opened is what the header says
+module _ (s : List ℕ) {r : Opened} (e : r ≡ openedOf s true) where
+  pub header-known : {f : Format} → r ≡ opened.Capture f → headerOf s ≡ capture f
+  header-known {f} g = go (headerOf s) (sym g ∙ e ∙ opened-whole s)
+    where
+      go : (header : Header) → opened.Capture f ≡ openedBy header → header ≡ capture f
+      go (capture k) q = let same : f ≡ k = cc in rw same
+      go unknown q = let z : _≡_ {A = ℕ} 0 1 = cc in absurd (omega arith)
+
+  pub header-unknown : OneOf (0 ∷ 1 ∷ []) (tagOf opened-type r) → headerOf s ≡ unknown
+  header-unknown k = go (headerOf s) (e ∙ opened-whole s)
+    where
+      go : (header : Header) → r ≡ openedBy header → header ≡ unknown
+      go (capture f) g = absurd (miss (0 ∷ 1 ∷ []) 2 tt (subst (λ (o : Opened). OneOf (0 ∷ 1 ∷ []) (tagOf opened-type o)) g k))
+      go unknown g = refl
+
 module _ (port offset : ℕ) (y : Seen) (s : List ℕ) where
   pub check-offset : 99 < offset → Refused 33 0 ≡ checkedOf port offset y s
   unfolding checkedOf
   check-offset h = rw (lt-leb offset 99 h)
 
-  module _ (h : offset ≤ 99) {r : Opened} (e : r ≡ openedOf s true) where
-    pub check-unknown : OneOf (0 ∷ 1 ∷ []) (tagOf opened-type r) → Refused 30 0 ≡ checkedOf port offset y s
+  module _ (h : offset ≤ 99) where
+    pub check-unknown : headerOf s ≡ unknown → Refused 30 0 ≡ checkedOf port offset y s
     unfolding checkedOf
-    check-unknown k = rw (le-leb offset 99 h) (go (headerOf s) (e ∙ opened-whole s))
-      where
-        go : (header : Header) → r ≡ openedBy header → Refused 30 0 ≡ checkHeaded header port offset y s
-        go (capture f) g = absurd (miss (0 ∷ 1 ∷ []) 2 tt (subst (λ (o : Opened). OneOf (0 ∷ 1 ∷ []) (tagOf opened-type o)) g k))
-        go unknown g = refl
+    check-unknown e = rw (le-leb offset 99 h, e)
 
-    pub check-capture : {f : Format} → r ≡ opened.Capture f
+    pub check-capture : {f : Format} → headerOf s ≡ capture f
         → checkRecords y (recordsIn (record { format = f; port = port; offset = offset }) (drop headerBytes s)) ≡ checkedOf port offset y s
     unfolding checkedOf
-    check-capture {f} g = rw (le-leb offset 99 h) (go (headerOf s) (sym g ∙ e ∙ opened-whole s))
-      where
-        go : (header : Header) → opened.Capture f ≡ openedBy header
-            → checkRecords y (recordsIn (record { format = f; port = port; offset = offset }) (drop headerBytes s))
-            ≡ checkHeaded header port offset y s
-        go (capture g) q = let same : f ≡ g = cc in rw same
-        go unknown q = let z : _≡_ {A = ℕ} 0 1 = cc in absurd (omega arith)
+    check-capture e = rw (le-leb offset 99 h, e)
 
 -- a capture has its header
 pub capture-long : (s : List ℕ) {r : Opened} {f : Format} → r ≡ openedOf s true → r ≡ opened.Capture f → headerBytes ≤ length s

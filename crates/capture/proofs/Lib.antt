@@ -4,3 +4,4 @@ pub mod Records
 pub mod Checking
 pub mod InPieces
 pub mod Counting
+pub mod Seeking

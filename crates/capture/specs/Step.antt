@@ -1,10 +1,11 @@
 -- A capture piece by piece: what stands in front of a window, and a reader that passes over a record's bytes before it tells what became
 -- of it; what the contracts cite.
-use Rattle.laws.specs.Kit.{_≡_, Bool, true, List, ℕ, _+_, _-_, _≤_, _<_, ltb, leb, eqb, min, length, drop}
+use Rattle.laws.specs.Kit.{_≡_, Bool, true, List, ℕ, zero, suc, _+_, _-_, _≤_, _<_, ltb, leb, eqb, min, length, drop}
 use Rattle.laws.specs.Choose.{pick}
 use Rattle.headers.specs.declared.Handed.{Handed}
 use Rattle.headers.specs.declared.Handed.the-variants as handed
 use Rattle.headers.specs.Step.{matter, handedOf}
+use Rattle.packet.specs.declared.Packet as Packets
 use Rattle.packet.specs.declared.Scanned.{Scanned}
 use Rattle.packet.specs.declared.Scanned.the-variants as scanned
 use Rattle.packet.specs.Step.{numberOf, tallyOf}
@@ -19,6 +20,8 @@ use Rattle.capture.specs.declared.Front.the-variants as front
 use Rattle.capture.specs.declared.Cursor.{Cursor}
 use Rattle.capture.specs.declared.Next.{Next}
 use Rattle.capture.specs.declared.Next.the-variants as next
+use Rattle.capture.specs.declared.Sought.{Sought}
+use Rattle.capture.specs.declared.Sought.the-variants as sought
 use Rattle.capture.specs.declared.Seen.{Seen}
 use Rattle.capture.specs.declared.Checked.{Checked}
 use Rattle.capture.specs.declared.Checked.the-variants.{Fine, Refused}
@@ -114,6 +117,31 @@ checkedBy (scanned.Refused r) y e = Refused (r .number) (r .place)
 checkedBy (scanned.Fine closed) y done = Fine y
 checkedBy (scanned.Fine closed) y (stopped number) = Refused number (y .records)
 
+-- ---- packet by packet
+
+-- the packets handed on in the rest of a file
+abbrev pub handedIn : Setting → List ℕ → List Packets.Packet
+handedIn p l = handedOn (recordsIn p l .found)
+
+-- the first of them, and where the record behind it stands; by at most so many records
+abbrev pub soughtBy : (ℕ → List ℕ → Sought) → ℕ → List ℕ → Told → ℕ → Sought
+soughtBy on at l (Packet q) size = sought.Packet q (at + size)
+soughtBy on at l Skipped size = on (at + size) (drop size l)
+soughtBy on at l Late size = sought.Nothing
+
+abbrev pub seekFront : (ℕ → List ℕ → Sought) → ℕ → List ℕ → Front → Sought
+seekFront on at l (front.Record told size) = soughtBy on at l told size
+seekFront on at l front.End = sought.Nothing
+seekFront on at l front.More = sought.Nothing
+seekFront on at l front.Cut = sought.Nothing
+
+unfoldable pub seekBy : ℕ → Setting → ℕ → List ℕ → Sought
+seekBy zero p at l = sought.Nothing
+seekBy (suc k) p at l = seekFront (seekBy k p) at l (frontOf p l true)
+
+unfoldable pub soughtOf : Setting → ℕ → List ℕ → Sought
+soughtOf p at s = seekBy (length (drop at s)) p at (drop at s)
+
 -- ---- what the parts of the code ask and give
 
 -- a window shows all that a record's answer hangs on
@@ -122,6 +150,12 @@ pub record Enough (f : Format) (w : List ℕ) (captured : ℕ) : Type 0 where
   pub read : captured ≡ capturedAt f w
   pub small : captured < 4294967296
   pub shown : recordBytes + min captured matter ≤ length w
+
+-- a record that is not skipped ends the search
+unfoldable pub foundOf : Told → ℕ → Sought
+foundOf (Packet q) at = sought.Packet q at
+foundOf Skipped at = sought.Nothing
+foundOf Late at = sought.Nothing
 
 -- the number by which a record is refused, 0 where it is not
 unfoldable pub refusalOf : Seen → Told → ℕ

@@ -14,7 +14,7 @@ ghost use Rattle.endian.specs.Number.{Room};
 ghost use Rattle.capture.specs.Paper.{headerBytes, linkedBy, magicBy, headerOf, secondOf, arrivalOf, recordsIn, seenFrom, checkRecords};
 ghost use Rattle.capture.specs.Paper.{checkedOf};
 ghost use Rattle.capture.specs.Step.{openedBy, openedOf, foundTold, toldOf, recordOf, frontOf, between, settledBy, passedOf, nextOf};
-ghost use Rattle.capture.specs.Step.{Enough, refusalOf, refusedAt, seenOf, closing};
+ghost use Rattle.capture.specs.Step.{soughtOf, foundOf, Enough, refusalOf, refusedAt, seenOf, closing};
 ghost use Rattle.capture.specs.Step.{Room as SeenRoom};
 
 // How a file writes its numbers: which byte stands first, and whether sub-seconds are nanoseconds or microseconds.
@@ -66,6 +66,12 @@ pub enum Next {
     More { cursor: Cursor, used: usize },
     End,
     Refused { number: u8 },
+}
+
+// The next packet that is handed on, and where the record behind it stands; or there is none.
+pub enum Sought {
+    Packet { packet: Packet, next: usize },
+    Nothing,
 }
 
 // The records so far: the packets handed on, how many records were read, and how many were skipped.
@@ -244,6 +250,40 @@ impl Setting {
             return self.record_in(window, captured);
         }
         Front::More
+    }
+}
+
+// A record that is not skipped ends the search for a packet.
+fn found(told: Told, next: usize) -> Sought
+    ensures { λ r. ⌜ r ≡ foundOf told next ⌝ }
+{
+    let Told::Packet(packet) = told else {
+        return Sought::Nothing;
+    };
+    Sought::Packet {
+        packet: packet,
+        next: next,
+    }
+}
+
+impl Setting {
+    // The next packet of a whole file that is handed on, from the record at `from` on: skipped records are passed over, and a record that
+    // is refused ends it.
+    pub fn seek(self, s: &[u8], from: usize) -> Sought
+        ensures { λ r. ⌜ r ≡ soughtOf self from (now (s .entry)) ⌝ }
+    {
+        let mut at = from;
+        while at < s.len() {
+            let front = self.front(&s[at..], true);
+            let Front::Record { told, size } = front else {
+                return Sought::Nothing;
+            };
+            let Told::Skipped = told else {
+                return found(told, at + size);
+            };
+            at += size;
+        }
+        Sought::Nothing
     }
 }
 

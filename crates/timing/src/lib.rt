@@ -238,7 +238,7 @@ impl State {
     }
 
     // That row laid into `rows` from `at` on, where the lead-in is over; where the next one goes.
-    fn lay_row(self, rules: Rules, rows: &mut [i64], at: usize) -> usize
+    pub fn lay_row(self, rules: Rules, rows: &mut [i64], at: usize) -> usize
         requires { ⌜ LayAsks numbers rules self at (length (now rows)) ⌝ }
         ensures { λ r. ⌜ Put (numbers (closing rules self)) at (now (rows .entry)) r (now (rows .exit)) ⌝ }
     {

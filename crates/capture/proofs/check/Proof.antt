@@ -1,6 +1,6 @@
 -- The offset, the header, then the records.
 use Rattle.laws.specs.Kit.{refl, sym, _∙_, arith}
-use Rattle.capture.proofs.Checking.{check-offset, check-unknown, check-capture, capture-long}
+use Rattle.capture.proofs.Checking.{header-known, header-unknown, check-offset, check-unknown, check-capture, capture-long}
 use borrow.Author.Needs.{needs}
 use Rattle.capture.proofs.check.Statement.{statement}
 use Rattle.capture.proofs.check.Tie as tie
@@ -15,7 +15,7 @@ enum-known-opened : tie.Need-enum-known-opened
 enum-known-opened c = search needs
 
 returns-2 : tie.Need-returns-2
-returns-2 c = check-unknown _ _ _ _ (c .before .before .if1 .left) (c .before .open .ensures) (c .match .keys2)
+returns-2 c = check-unknown _ _ _ _ (c .before .before .if1 .left) (header-unknown _ (c .before .open .ensures) (c .match .keys2))
 
 check-records-requires : tie.Need-check-records-requires
 check-records-requires c κs =
@@ -27,7 +27,7 @@ returns-3 : tie.Need-returns-3
 returns-3 c =
     let told = c .before .before in
     let opened = told .before .before in
-    c .check-records .ensures ∙ check-capture _ _ _ _ (opened .before .if1 .left) (opened .open .ensures) (told .opened .given .1)
+    c .check-records .ensures ∙ check-capture _ _ _ _ (opened .before .if1 .left) (header-known _ (opened .open .ensures) (told .opened .given .1))
 
 pub check-spec : {M : Type 1} → statement M
 check-spec =
