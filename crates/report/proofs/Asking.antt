@@ -28,20 +28,20 @@ use Rattle.report.specs.declared.Asked.{Asked}
 use Rattle.report.specs.declared.Asked.the-variants.{Fine, Refused}
 use Rattle.report.specs.Paper.{stateOf, rowsOf, reportOf, inBytes, encoded, bytesFor, answer, answered, answerOf}
 use Rattle.report.specs.Paper.{numberBytes, roomFor, roomOf, filled, filledBy}
-use Rattle.report.specs.Step.{needed, asAsked, askedOf, askedNumber, askedOffset, packetsOf, MeasureAsks, MeasureGives}
+use Rattle.report.specs.Step.{neededBehind, needed, asAsked, askedOf, askedNumber, askedOffset, packetsOf, MeasureAsks, MeasureGives}
 use Rattle.report.proofs.Bytes.{nine, length-stored, length-encoded, encoded-append, naturals, front-last}
 
--- the room, divided: fewer than nine numbers; then the rows
-pub too-few : (closed room : ℕ) → room / numberBytes < summaryWidth → false ≡ leb (needed closed) room
-too-few closed room h = sym (lt-leb (needed closed) room (omega arith))
+-- the room, divided: too few numbers for those in front; then the rows
+pub too-few : (front closed room : ℕ) → room / numberBytes < front → false ≡ leb (neededBehind front closed) room
+too-few front closed room h = sym (lt-leb (neededBehind front closed) room (omega arith))
 
-pub enough-or-not : (closed room : ℕ) → summaryWidth ≤ room / numberBytes
-    → leb closed ((room / numberBytes - summaryWidth) / rowWidth) ≡ leb (needed closed) room
-enough-or-not closed room h = go (leb closed ((room / numberBytes - summaryWidth) / rowWidth)) refl
+pub enough-or-not : (front closed room : ℕ) → front ≤ room / numberBytes
+    → leb closed ((room / numberBytes - front) / rowWidth) ≡ leb (neededBehind front closed) room
+enough-or-not front closed room h = go (leb closed ((room / numberBytes - front) / rowWidth)) refl
   where
-    go : (t : Bool) → leb closed ((room / numberBytes - summaryWidth) / rowWidth) ≡ t → t ≡ leb (needed closed) room
-    go true e = sym (le-leb (needed closed) room (omega (arith, leb-true closed ((room / numberBytes - summaryWidth) / rowWidth) e)))
-    go false e = sym (lt-leb (needed closed) room (omega (arith, leb-false closed ((room / numberBytes - summaryWidth) / rowWidth) e)))
+    go : (t : Bool) → leb closed ((room / numberBytes - front) / rowWidth) ≡ t → t ≡ leb (neededBehind front closed) room
+    go true e = sym (le-leb (neededBehind front closed) room (omega (arith, leb-true closed ((room / numberBytes - front) / rowWidth) e)))
+    go false e = sym (lt-leb (neededBehind front closed) room (omega (arith, leb-false closed ((room / numberBytes - front) / rowWidth) e)))
 
 -- ---- how long a report is
 

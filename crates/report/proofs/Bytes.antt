@@ -23,7 +23,7 @@ length-stored [] = refl
 length-stored (x ∷ xs) =
     length-append (bytesOf 8 x) (inBytes xs) ∙ rw (length-bytes 8 x, length-stored xs) (omega arith)
 
-stored-append : (xs ys : List ℕ) → inBytes (xs ++ ys) ≡ inBytes xs ++ inBytes ys
+pub stored-append : (xs ys : List ℕ) → inBytes (xs ++ ys) ≡ inBytes xs ++ inBytes ys
 unfolding inBytes
 stored-append [] ys = refl
 stored-append (x ∷ xs) ys =

@@ -21,9 +21,12 @@ use Rattle.report.specs.declared.Asked.{Asked}
 use Rattle.report.specs.declared.Asked.the-variants.{Fine, Refused}
 use Rattle.report.specs.Paper.{rowsOf, rowBytes, numberBytes, summaryBytes, bytesFor, answerOf, filledBy, limitsNumber, limitsLeft}
 
--- the bytes of nine numbers, and of a row for each frame closed
+-- the bytes of some numbers in front, and of a row for each frame closed; nine stand in front of a file's rows
+abbrev pub neededBehind : ℕ → ℕ → ℕ
+neededBehind front closed = numberBytes * (front + closed * rowWidth)
+
 abbrev pub needed : ℕ → ℕ
-needed closed = numberBytes * (summaryWidth + closed * rowWidth)
+needed closed = neededBehind summaryWidth closed
 
 -- a file and the room for its report
 abbrev pub asAsked : ℕ → ℕ → File → Asked
