@@ -358,23 +358,206 @@ static struct ratios measure_file(uint32_t n, size_t wanted)
     return r;
 }
 
+/* ---- the C call over a capture */
+
+#define CAPTURE_SUMMARY 11
+#define PORT 20000
+#define OFFSET 37
+#define HEADERS 54 /* bytes of a frame up to the RTP header's end */
+
+static void put_little(uint8_t *b, uint32_t x)
+{
+    for (int k = 0; k < 4; k++) b[k] = (uint8_t)(x >> (8 * k));
+}
+
+/* Nanoseconds, little-endian, as tcpdump writes it on the machines that stations have; so many bytes captured of each frame. */
+static struct file capture_of(struct list l, size_t captured)
+{
+    struct file f = {24 + (16 + captured) * l.count, room(24 + (16 + captured) * l.count)};
+    uint8_t *b = f.bytes;
+    memset(b, 0, f.size);
+    put_little(b, 0xa1b23c4d), b[4] = 2, b[6] = 4, put_little(b + 16, (uint32_t)captured), put_little(b + 20, 1);
+    b += 24;
+    for (size_t i = 0; i < l.count; i++, b += captured) {
+        put_little(b, (uint32_t)(l.arrivals[i] / 1000000000 - OFFSET)), put_little(b + 4, (uint32_t)(l.arrivals[i] % 1000000000));
+        put_little(b + 8, (uint32_t)captured), put_little(b + 12, HEADERS + 1400);
+        b += 16;
+        put(b + 12, 2, 0x0800), b[14] = 0x45, put(b + 16, 2, HEADERS - 14 + 1400), b[23] = 17, put(b + 36, 2, PORT);
+        b[42] = 0x80, b[43] = (uint8_t)(l.markers[i] << 7 | 96), put(b + 44, 2, i & 0xffff), put(b + 46, 4, l.stamps[i]);
+    }
+    return f;
+}
+
+static uint32_t captured_by(capture_function *measure, struct stream s, struct file f, uint8_t *out, size_t size)
+{
+    return measure(f.bytes, f.size, PORT, OFFSET, s.rate, s.schedule, s.class, s.height, s.n, s.maxudp, s.tro, out, size);
+}
+
+static uint32_t captured_by_libpcap(const char *name, struct stream s, uint8_t *out, size_t size)
+{
+    return libpcap_capture(name, PORT, OFFSET, s.rate, s.schedule, s.class, s.height, s.n, s.maxudp, s.tro, out, size);
+}
+
+static void must_accept(const char *what, uint32_t refused)
+{
+    if (refused == 0) return;
+    printf("DIFFERENT: %s refuses the capture, by %" PRIu32 "\n", what, refused);
+    exit(1);
+}
+
+static double timed_capture(capture_function *measure, struct stream s, struct file f, uint8_t *out, size_t size)
+{
+    double start = now();
+    must_accept("one of them", captured_by(measure, s, f, out, size));
+    return now() - start;
+}
+
+static double timed_libpcap(const char *name, struct stream s, uint8_t *out, size_t size)
+{
+    double start = now();
+    must_accept("libpcap", captured_by_libpcap(name, s, out, size));
+    return now() - start;
+}
+
+static void same_bytes(const char *what, const uint8_t *out, const uint8_t *twin, size_t size)
+{
+    if (memcmp(out, twin, size) == 0) return;
+    printf("DIFFERENT: the bytes of a capture, by %s\n", what);
+    exit(1);
+}
+
+static void save(struct file f, const char *name)
+{
+    FILE *file = fopen(name, "wb");
+    if (!file || fwrite(f.bytes, 1, f.size, file) != f.size || fclose(file) != 0) {
+        perror(name);
+        exit(2);
+    }
+}
+
+/* The two on captures that are refused too: a short one with any bit turned, cut anywhere or whole. */
+static void agree_on_damaged(unsigned captures)
+{
+    unsigned by_answer[256] = {0};
+    struct stream s = {RATE, 0, 1, 1080, 2, 1460, DEFAULT_TRO};
+    struct list l = jittered(8, s.n);
+    struct file f = capture_of(l, 60), damaged = f;
+    free_list(l);
+    uint8_t out[8 * (CAPTURE_SUMMARY + ROW * 3)], walked[sizeof out];
+    for (unsigned k = 0; k < captures; k++) {
+        size_t at = below(f.size);
+        uint8_t bit = (uint8_t)(1u << below(8));
+        f.bytes[at] ^= bit;
+        damaged.size = below(4) ? f.size : below(f.size + 1);
+        size_t lent = below(10) ? sizeof out : below(sizeof out);
+        memset(out, 0x55, sizeof out);
+        memset(walked, 0x55, sizeof walked);
+        uint32_t proved = captured_by(vtiming_capture, s, damaged, out, lent);
+        uint32_t plain = captured_by(walker_capture, s, damaged, walked, lent);
+        f.bytes[at] ^= bit;
+        if (proved != plain) {
+            printf("DIFFERENT: byte %zu, bit %u, %zu bytes: proved %" PRIu32 ", walker %" PRIu32 "\n", at, bit, damaged.size, proved, plain);
+            exit(1);
+        }
+        same_bytes("the walker, damaged", out, walked, sizeof out);
+        by_answer[proved & 255]++;
+    }
+    printf("%u damaged captures: the two agree;", captures);
+    for (int i = 0; i < 256; i++)
+        if (by_answer[i]) printf(" %s%d: %u", i ? "refused by " : "answer ", i, by_answer[i]);
+    printf("\n");
+    free(f.bytes);
+}
+
+static struct ratios measure_capture(uint32_t n, size_t count, size_t captured, const char *name)
+{
+    struct stream s = {RATE, 0, 1, 1080, n, 1460, DEFAULT_TRO};
+    struct list l = jittered(count, n);
+    struct file f = capture_of(l, captured);
+    free_list(l);
+    save(f, name);
+    size_t size = 8 * (CAPTURE_SUMMARY + ROW * (count / n + 1));
+    uint8_t *out = room(size), *twin = room(size);
+    capture_function *walkers[] = {kit_walker_capture, walker_capture};
+    memset(out, 0x55, size);
+    must_accept("the proved call", captured_by(vtiming_capture, s, f, out, size));
+    for (int k = 0; k < 2; k++) {
+        memset(twin, 0x55, size);
+        must_accept("the walker", captured_by(walkers[k], s, f, twin, size));
+        same_bytes("the walker", out, twin, size);
+    }
+    memset(twin, 0x55, size);
+    uint32_t by_libpcap = captured_by_libpcap(name, s, twin, size);
+    int absent = by_libpcap == NO_LIBPCAP;
+    if (!absent) {
+        must_accept("libpcap", by_libpcap);
+        same_bytes("libpcap", out, twin, size);
+    }
+    double proved = 0, kit = 0, system = 0, libpcap = 0;
+    for (int round = 0; round < ROUNDS; round++) {
+        keep_least(&proved, timed_capture(vtiming_capture, s, f, out, size));
+        keep_least(&kit, timed_capture(kit_walker_capture, s, f, out, size));
+        keep_least(&system, timed_capture(walker_capture, s, f, out, size));
+        if (!absent) keep_least(&libpcap, timed_libpcap(name, s, out, size));
+    }
+    double packets = (double)count;
+    struct ratios r = {proved / kit, proved / system};
+    printf("%6" PRIu32 " %9zu %8zu %9.2f %9.2f %9.2f", n, count, captured, proved / packets, kit / packets, system / packets);
+    if (absent) printf(" %9s %9.2f %9.2f %9s\n", "absent", r.same, r.system, "absent");
+    else printf(" %9.2f %9.2f %9.2f %9.2f\n", libpcap / packets, r.same, r.system, libpcap / proved);
+    fflush(stdout);
+    free(f.bytes);
+    free(out);
+    free(twin);
+    return r;
+}
+
+static int64_t number(const uint8_t *out, size_t k)
+{
+    uint64_t x = 0;
+    for (int i = 0; i < 8; i++) x = x << 8 | out[8 * k + (size_t)i];
+    return (int64_t)x;
+}
+
+/* bench FILE and the nine words of vcapture: what vcapture prints of it, by libpcap; status 3 where there is no libpcap. */
+static int print_by_libpcap(char **words)
+{
+    static const char *const buffers[] = {"none", "pass", "under", "over"};
+    uint32_t x[9];
+    for (int k = 0; k < 9; k++) x[k] = (uint32_t)strtoul(words[k + 1], NULL, 10);
+    size_t size = 64 << 20;
+    uint8_t *out = room(size);
+    uint32_t refused = libpcap_capture(words[0], (uint16_t)x[0], x[1], (uint8_t)x[2], (uint8_t)x[3], (uint8_t)x[4], (uint16_t)x[5], x[6],
+                                       (uint16_t)x[7], x[8], out, size);
+    if (refused) return refused == NO_LIBPCAP ? 3 : 1;
+    for (int64_t frame = 0; frame < number(out, 1); frame++) {
+        printf("frame");
+        for (int k = 0; k < ROW; k++) printf(" %" PRId64, number(out, CAPTURE_SUMMARY + ROW * (size_t)frame + (size_t)k));
+        printf("\n");
+    }
+    printf("packets %" PRId64 " frames %" PRId64 " peak %" PRId64 " network ", number(out, 0), number(out, 1), number(out, 2));
+    if (number(out, 3)) printf("burst %" PRId64 " %" PRId64, number(out, 4), number(out, 5));
+    else printf("pass");
+    printf(" buffer %s", buffers[number(out, 6) & 3]);
+    if (number(out, 6) > 1) printf(" %" PRId64 " %" PRId64, number(out, 7), number(out, 8));
+    printf(" records %" PRId64 " skipped %" PRId64 "\n", number(out, 9), number(out, 10));
+    free(out);
+    return 0;
+}
+
 static void keep_worst(struct ratios *worst, struct ratios r)
 {
     if (r.same > worst->same) worst->same = r.same;
     if (r.system > worst->system) worst->system = r.system;
 }
 
-/* bench N PACKETS FILE: the record file of such a stream, for the programs. */
-static int write_file(uint32_t n, size_t count, const char *name)
+/* bench N PACKETS FILE: the record file of such a stream, for the programs. bench N PACKETS CAPTURED FILE: its capture. */
+static int write_file(uint32_t n, size_t count, size_t captured, const char *name)
 {
     struct stream s = {RATE, 0, 1, 1080, n, 1460, DEFAULT_TRO};
     struct list l = jittered(count, n);
-    struct file f = file_of(s, l);
-    FILE *file = fopen(name, "wb");
-    if (!file || fwrite(f.bytes, 1, f.size, file) != f.size || fclose(file) != 0) {
-        perror(name);
-        return 2;
-    }
+    struct file f = captured ? capture_of(l, captured) : file_of(s, l);
+    save(f, name);
     free_list(l);
     free(f.bytes);
     return 0;
@@ -382,7 +565,15 @@ static int write_file(uint32_t n, size_t count, const char *name)
 
 int main(int argc, char **argv)
 {
-    if (argc == 4) return write_file((uint32_t)strtoul(argv[1], NULL, 10), strtoul(argv[2], NULL, 10), argv[3]);
+    size_t word[4] = {0};
+    for (int k = 1; k < argc && k < 4; k++) word[k] = strtoul(argv[k], NULL, 10);
+    if (argc == 4) return write_file((uint32_t)word[1], word[2], 0, argv[3]);
+    if (argc == 5) return write_file((uint32_t)word[1], word[2], word[3], argv[4]);
+    if (argc == 11) return print_by_libpcap(argv + 1);
+    if (argc != 2) {
+        fprintf(stderr, "usage: bench SCRATCH; bench N PACKETS FILE; bench N PACKETS CAPTURED FILE; bench FILE and the nine words of vcapture\n");
+        return 2;
+    }
     agree_on_short_lists(20000);
     printf("1080p50, gapped, narrow, a jittered sender; the least of %d rounds, taking turns.\n", ROUNDS);
     printf("Rows were cleared once, before the first round, and not between; nothing was flushed from a cache.\n");
@@ -392,13 +583,23 @@ int main(int argc, char **argv)
            "RATIO", "RATIO/sys");
     static const size_t counts[] = {100000, 1000000, 4000000};
     static const uint32_t sizes[] = {1, 100, 4320, 20000};
-    struct ratios feed = {0, 0}, file = {0, 0};
+    struct ratios feed = {0, 0}, file = {0, 0}, capture = {0, 0};
     for (size_t j = 0; j < sizeof sizes / sizeof *sizes; j++)
         for (size_t k = 0; k < sizeof counts / sizeof *counts; k++) keep_worst(&feed, measure(sizes[j], counts[k]));
     printf("The same streams as record files through the C call, which checks, counts, measures and writes; READ is the bytes read once.\n");
     for (size_t j = 0; j < sizeof sizes / sizeof *sizes; j++)
         for (size_t k = 0; k < sizeof counts / sizeof *counts; k++) keep_worst(&file, measure_file(sizes[j], counts[k]));
-    printf("All results were the same. The highest ratios: arrays %.2f by the same compiler, %.2f by the system's; files %.2f and %.2f.\n",
-           feed.same, feed.system, file.same, file.system);
+    agree_on_damaged(20000);
+    printf("The same streams as captures in memory, of each frame so many bytes captured, through the C call; against a plain C walker that scans\n");
+    printf("for all refusals, parses and measures the same; and libpcap's walk over the file on disk with the twin, which does not scan first.\n");
+    printf("RATIO is proved to walker, by the same compiler and by the system's; PCAP is libpcap to proved.\n");
+    printf("%6s %9s %8s %9s %9s %9s %9s %9s %9s %9s\n", "n", "packets", "captured", "proved", "walker", "walk/sys", "libpcap", "RATIO",
+           "RATIO/sys", "PCAP");
+    keep_worst(&capture, measure_capture(4320, 1000000, 96, argv[1]));
+    keep_worst(&capture, measure_capture(100, 1000000, 96, argv[1]));
+    keep_worst(&capture, measure_capture(4320, 100000, 1414, argv[1]));
+    printf("All results were the same. The highest ratios: arrays %.2f by the same compiler, %.2f by the system's; files %.2f and %.2f;\n"
+           "captures %.2f and %.2f.\n",
+           feed.same, feed.system, file.same, file.system, capture.same, capture.system);
     return 0;
 }

@@ -1,4 +1,4 @@
-/* The measurement as C calls it, over arrays and over a whole record file, and the twins that bench.c compares with it. A
+/* The measurement as C calls it, over arrays, a whole record file and a whole capture, and the twins that bench.c compares with it. A
    Rattle slice is a pointer and a length. compare/host/host.c takes the first three functions from here. */
 #ifndef FEED_H
 #define FEED_H
@@ -42,5 +42,19 @@ typedef uint32_t measure_function(const uint8_t *file, size_t size, uint8_t *out
 extern measure_function vtiming_measure;  /* the proved code, from libreport.a */
 extern measure_function twin_measure;     /* twin.c, by the system's compiler */
 extern measure_function kit_twin_measure; /* twin.c, by the compiler that made libreport.a */
+
+/* A whole capture into bytes: include/vtiming.h. */
+typedef uint32_t capture_function(const uint8_t *capture, size_t size, uint16_t port, uint32_t offset, uint8_t rate, uint8_t schedule,
+                                  uint8_t class, uint16_t height, uint32_t n, uint16_t maxudp, uint32_t tro, uint8_t *out, size_t room);
+
+extern capture_function vtiming_capture;    /* the proved code, from libreport.a */
+extern capture_function walker_capture;     /* walker.c, by the system's compiler */
+extern capture_function kit_walker_capture; /* walker.c, by the compiler that made libreport.a */
+
+/* libpcap.c: the same answer for a file on disk, by libpcap's walk over it and the twin. It takes sound captures only, and is
+   NO_LIBPCAP where the bench was compiled without. */
+#define NO_LIBPCAP 1000
+uint32_t libpcap_capture(const char *name, uint16_t port, uint32_t offset, uint8_t rate, uint8_t schedule, uint8_t class, uint16_t height,
+                         uint32_t n, uint16_t maxudp, uint32_t tro, uint8_t *out, size_t room);
 
 #endif

@@ -52,14 +52,6 @@ uint32_t twin_feed(uint8_t rate, uint8_t schedule, uint8_t class, uint16_t heigh
     return 0;
 }
 
-static uint16_t big16(const uint8_t *b) { return (uint16_t)(b[0] << 8 | b[1]); }
-static uint32_t big32(const uint8_t *b) { return (uint32_t)big16(b) << 16 | big16(b + 2); }
-static uint64_t big64(const uint8_t *b) { return (uint64_t)big32(b) << 32 | big32(b + 4); }
-static void put64(uint8_t *b, uint64_t x)
-{
-    for (int k = 0; k < 8; k++) b[k] = (uint8_t)(x >> (56 - 8 * k));
-}
-
 /* A whole file: one pass that checks and counts, one that measures and writes. Damaged files are answered 21, whatever
    is wrong: the twin is timed on sound ones. */
 uint32_t twin_measure(const uint8_t *restrict file, size_t size, uint8_t *restrict out, size_t room)

@@ -1,6 +1,6 @@
 /* The same measurement in C, written for speed: what follows from a stream's numbers, one packet more, and a frame
    closed. It shares no code with the proved one, and nothing proves it: it is here to be timed, and bench.c holds its
-   results against the proved code's. twin.c measures arrays and files with it, plain.c is a program over it. */
+   results against the proved code's. twin.c measures arrays and files with it, walker.c captures; plain.c and walk.c are programs over it. */
 #ifndef TWIN_H
 #define TWIN_H
 
@@ -42,6 +42,14 @@ static uint8_t set_up_refusal(uint8_t rate, uint8_t schedule, uint8_t class, uin
 static uint64_t grains_mod(uint64_t t, uint64_t m) { return GRAINS * (t % m) % m; }
 
 #define INLINE static inline __attribute__((always_inline))
+
+INLINE uint16_t big16(const uint8_t *b) { return (uint16_t)(b[0] << 8 | b[1]); }
+INLINE uint32_t big32(const uint8_t *b) { return (uint32_t)big16(b) << 16 | big16(b + 2); }
+INLINE uint64_t big64(const uint8_t *b) { return (uint64_t)big32(b) << 32 | big32(b + 4); }
+INLINE void put64(uint8_t *b, uint64_t x)
+{
+    for (int k = 0; k < 8; k++) b[k] = (uint8_t)(x >> (56 - 8 * k));
+}
 
 /* What follows from the stream's numbers. */
 struct rules {

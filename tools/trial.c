@@ -1,10 +1,11 @@
 /* Tries what the package installs, as somebody else's program would use it: prints of each record file that is named what
- * `vtiming` prints of it, by the C functions and the names of the header alone; before that, the header's version. tools/package
- * compiles it as C and as C++ and compares what it prints. No file here closes a frame before it is refused, which the program
- * would print and the C call does not tell. */
+ * `vtiming` prints of it, and of each capture (NAME.pcap) what `vcapture --port 20000 --rate 50 --packets 8` does, by the C functions and
+ * the names of the header alone; before that, the header's version. tools/package compiles it as C and as C++ and compares what it
+ * prints. No file here closes a frame before it is refused, which the program would print and the C call does not tell. */
 #include <vtiming.h>
 #include <inttypes.h>
 #include <stdio.h>
+#include <string.h>
 
 enum { LONGEST = 65536 };
 
@@ -35,6 +36,10 @@ static const char *refusal(uint32_t number)
     case VTIMING_REFUSED_CUT: return "21";
     case VTIMING_REFUSED_KIND: return "22";
     case VTIMING_REFUSED_PARAMETERS: return "23";
+    case 30: return "30";
+    case 31: return "31";
+    case 32: return "32";
+    case 33: return "33";
     default: return "by a number that no file brings about";
     }
 }
@@ -59,11 +64,25 @@ static void put_verdict(const uint8_t *answer)
     case VTIMING_NETWORK_BURST: printf("network burst %" PRId64 " %" PRId64, a, b); break;
     }
     switch (vtiming_number(answer, 6)) {
-    case VTIMING_BUFFER_NONE: printf(" buffer none\n"); break;
-    case VTIMING_BUFFER_PASS: printf(" buffer pass\n"); break;
-    case VTIMING_BUFFER_UNDER: printf(" buffer under %" PRId64 " %" PRId64 "\n", c, d); break;
-    case VTIMING_BUFFER_OVER: printf(" buffer over %" PRId64 " %" PRId64 "\n", c, d); break;
+    case VTIMING_BUFFER_NONE: printf(" buffer none"); break;
+    case VTIMING_BUFFER_PASS: printf(" buffer pass"); break;
+    case VTIMING_BUFFER_UNDER: printf(" buffer under %" PRId64 " %" PRId64, c, d); break;
+    case VTIMING_BUFFER_OVER: printf(" buffer over %" PRId64 " %" PRId64, c, d); break;
     }
+}
+
+/* The rows, which stand behind so many numbers, and the last line up to its verdict. */
+static void put_answer(const uint8_t *answer, size_t numbers)
+{
+    for (int64_t frame = 0; frame < vtiming_number(answer, 1); frame++) {
+        size_t row = numbers + VTIMING_ROW_NUMBERS * (size_t)frame;
+        printf("frame %" PRId64 " %s", vtiming_number(answer, row), kind(vtiming_number(answer, row + 1)));
+        for (size_t k = row + 2; k < row + VTIMING_ROW_NUMBERS; k++) printf(" %" PRId64, vtiming_number(answer, k));
+        printf("\n");
+    }
+    printf("packets %" PRId64 " frames %" PRId64 " peak %" PRId64 " ", vtiming_number(answer, 0), vtiming_number(answer, 1),
+           vtiming_number(answer, 2));
+    put_verdict(answer);
 }
 
 static int put_file(const uint8_t *file, size_t size)
@@ -77,16 +96,38 @@ static int put_file(const uint8_t *file, size_t size)
         printf("refused %s %" PRIu64 "\n", refusal(refused), vtiming_measure_offset(file, size, room));
         return 0;
     }
-    for (int64_t frame = 0; frame < vtiming_number(answer, 1); frame++) {
-        size_t row = VTIMING_SUMMARY_NUMBERS + VTIMING_ROW_NUMBERS * (size_t)frame;
-        printf("frame %" PRId64 " %s", vtiming_number(answer, row), kind(vtiming_number(answer, row + 1)));
-        for (size_t k = row + 2; k < row + VTIMING_ROW_NUMBERS; k++) printf(" %" PRId64, vtiming_number(answer, k));
-        printf("\n");
-    }
-    printf("packets %" PRId64 " frames %" PRId64 " peak %" PRId64 " ", vtiming_number(answer, 0), vtiming_number(answer, 1),
-           vtiming_number(answer, 2));
-    put_verdict(answer);
+    put_answer(answer, VTIMING_SUMMARY_NUMBERS);
+    printf("\n");
     return 0;
+}
+
+/* The stream of the example captures: 1080p50, gapped, narrow, eight packets a frame, captured by a clock that shows UTC. */
+static int put_capture(const uint8_t *capture, size_t size)
+{
+    enum { PORT = 20000, OFFSET = 37, NUMBERS = 11, ROOM = 8 * NUMBERS + 8 * VTIMING_ROW_BYTES };
+    static uint8_t answer[ROOM];
+    uint32_t refused = vtiming_capture(capture, size, PORT, OFFSET, 6, 0, 1, 1080, 8, 1460, VTIMING_DEFAULT_TRO, answer, ROOM);
+    if (refused != VTIMING_ACCEPTED) {
+        printf("refused %s %" PRIu64 "\n", refusal(refused),
+               vtiming_capture_place(capture, size, PORT, OFFSET, 6, 0, 1, 1080, 8, 1460, VTIMING_DEFAULT_TRO, ROOM));
+        return 0;
+    }
+    /* One byte less than the answer is too little, and so is an offset above 99, whatever the capture. */
+    size_t least = 8 * NUMBERS + VTIMING_ROW_BYTES * (size_t)vtiming_number(answer, 1);
+    TRY(vtiming_capture(capture, size, PORT, OFFSET, 6, 0, 1, 1080, 8, 1460, VTIMING_DEFAULT_TRO, answer, least - 1) ==
+        VTIMING_REFUSED_ROOM);
+    TRY(vtiming_capture(capture, size, PORT, 100, 6, 0, 1, 1080, 8, 1460, VTIMING_DEFAULT_TRO, answer, ROOM) == 33);
+    TRY(vtiming_number(answer, 0) + vtiming_number(answer, 10) == vtiming_number(answer, 9));
+    put_answer(answer, NUMBERS);
+    printf(" records %" PRId64 " skipped %" PRId64 "\n", vtiming_number(answer, 9), vtiming_number(answer, 10));
+    return 0;
+}
+
+/* By its name. */
+static int is_capture(const char *name)
+{
+    size_t size = strlen(name);
+    return size >= 5 && strcmp(name + size - 5, ".pcap") == 0;
 }
 
 /* The numbers at both ends of 64 bits, and about 0. */
@@ -198,7 +239,7 @@ int main(int count, char **names)
         size_t size = fread(file, 1, sizeof file, from);
         TRY(!ferror(from) && size < sizeof file);
         fclose(from);
-        if (put_file(file, size)) return 1;
+        if (is_capture(names[k]) ? put_capture(file, size) : put_file(file, size)) return 1;
     }
     return fflush(stdout) ? 1 : 0;
 }
