@@ -5,3 +5,4 @@ pub mod Checking
 pub mod InPieces
 pub mod Counting
 pub mod Seeking
+pub mod Looking

@@ -20,6 +20,8 @@ use Rattle.capture.specs.declared.Front.the-variants as front
 use Rattle.capture.specs.declared.Cursor.{Cursor}
 use Rattle.capture.specs.declared.Next.{Next}
 use Rattle.capture.specs.declared.Next.the-variants as next
+use Rattle.capture.specs.declared.Ahead.{Ahead}
+use Rattle.capture.specs.declared.Ahead.the-variants as ahead
 use Rattle.capture.specs.declared.Sought.{Sought}
 use Rattle.capture.specs.declared.Sought.the-variants as sought
 use Rattle.capture.specs.declared.Seen.{Seen}
@@ -100,6 +102,45 @@ unfoldable pub restFrom : Setting → Cursor → List ℕ → Records
 restFrom p c l =
     pick (eqb (c .left) 0) (recordsIn p l)
     (pick (ltb (length l) (c .left)) (none (stopped 31)) (tellBy (c .told) (recordsIn p (drop (c .left) l))))
+
+-- ---- a window, with its skipped records passed over
+
+-- what was said behind so many bytes and skipped records
+unfoldable pub behindBy : ℕ → ℕ → Next → Ahead
+behindBy used skips (next.Packet p n) = ahead.Packet p skips (used + n)
+behindBy used skips (next.Skipped n) = ahead.End skips
+behindBy used skips (next.More c n) = ahead.Wait c skips (used + n)
+behindBy used skips next.End = ahead.End skips
+behindBy used skips (next.Refused number) = ahead.Refused number skips
+
+-- by at most so many records
+abbrev pub aheadNext : (ℕ → Ahead) → ℕ → ℕ → Next → Ahead
+aheadNext on used skips (next.Packet p n) = behindBy used skips (next.Packet p n)
+aheadNext on used skips (next.Skipped n) = on n
+aheadNext on used skips (next.More c n) = behindBy used skips (next.More c n)
+aheadNext on used skips next.End = behindBy used skips next.End
+aheadNext on used skips (next.Refused number) = behindBy used skips (next.Refused number)
+
+unfoldable pub aheadBy : ℕ → Setting → Cursor → List ℕ → Bool → ℕ → ℕ → Ahead
+aheadBy zero p c w last used skips = ahead.End skips
+aheadBy (suc k) p c w last used skips =
+    aheadNext (λ n. aheadBy k p between (drop n w) last (used + n) (skips + 1)) used skips (nextOf p c w last)
+
+unfoldable pub aheadOf : Setting → Cursor → List ℕ → Bool → Ahead
+aheadOf p c w last = aheadBy (suc (length w)) p c w last 0 0
+
+-- so many skipped records, and then others
+unfoldable pub skipping : ℕ → Records → Records
+skipping zero r = r
+skipping (suc k) r = more skipped (skipping k r)
+
+-- what is used lies within 64 bits
+abbrev pub UsedFits : Next → ℕ → Type 0
+UsedFits (next.Packet p n) used = used + n < 18446744073709551616
+UsedFits (next.Skipped n) used = Unit
+UsedFits (next.More c n) used = used + n < 18446744073709551616
+UsedFits next.End used = Unit
+UsedFits (next.Refused number) used = Unit
 
 -- ---- a capture, by its packets handed on
 

@@ -14,7 +14,7 @@ ghost use Rattle.endian.specs.Number.{Room};
 ghost use Rattle.capture.specs.Paper.{headerBytes, linkedBy, magicBy, headerOf, secondOf, arrivalOf, recordsIn, seenFrom, checkRecords};
 ghost use Rattle.capture.specs.Paper.{checkedOf};
 ghost use Rattle.capture.specs.Step.{openedBy, openedOf, foundTold, toldOf, recordOf, frontOf, between, settledBy, passedOf, nextOf};
-ghost use Rattle.capture.specs.Step.{soughtOf, foundOf, Enough, refusalOf, refusedAt, seenOf, closing};
+ghost use Rattle.capture.specs.Step.{soughtOf, foundOf, UsedFits, behindBy, aheadOf, Enough, refusalOf, refusedAt, seenOf, closing};
 ghost use Rattle.capture.specs.Step.{Room as SeenRoom};
 
 // How a file writes its numbers: which byte stands first, and whether sub-seconds are nanoseconds or microseconds.
@@ -66,6 +66,28 @@ pub enum Next {
     More { cursor: Cursor, used: usize },
     End,
     Refused { number: u8 },
+}
+
+// What lies ahead of the reader in a window, behind so many records that are skipped: a packet; the end of what is shown; the end of the
+// file; or a refusal.
+pub enum Ahead {
+    Packet {
+        packet: Packet,
+        skipped: u64,
+        used: usize,
+    },
+    Wait {
+        cursor: Cursor,
+        skipped: u64,
+        used: usize,
+    },
+    End {
+        skipped: u64,
+    },
+    Refused {
+        number: u8,
+        skipped: u64,
+    },
 }
 
 // The next packet that is handed on, and where the record behind it stands; or there is none.
@@ -356,6 +378,51 @@ impl Cursor {
                 used: 0,
             },
             Front::Cut => Next::Refused { number: 31 },
+        }
+    }
+}
+
+// What was said behind so many bytes and skipped records.
+fn behind(next: Next, used: usize, skipped: u64) -> Ahead
+    requires { ⌜ UsedFits next used ⌝ }
+    ensures { λ r. ⌜ r ≡ behindBy used skipped next ⌝ }
+{
+    match next {
+        Next::Packet { packet, used: more } => Ahead::Packet {
+            packet: packet,
+            skipped: skipped,
+            used: used + more,
+        },
+        Next::Skipped { used: _ } => Ahead::End { skipped: skipped },
+        Next::More { cursor, used: more } => Ahead::Wait {
+            cursor: cursor,
+            skipped: skipped,
+            used: used + more,
+        },
+        Next::End => Ahead::End { skipped: skipped },
+        Next::Refused { number } => Ahead::Refused {
+            number: number,
+            skipped: skipped,
+        },
+    }
+}
+
+impl Cursor {
+    // The same over all skipped records of the window: so a call that waits for packets passes them over at once.
+    pub fn ahead(self, setting: Setting, window: &[u8], last: bool) -> Ahead
+        ensures { λ r. ⌜ r ≡ aheadOf setting self (now (window .entry)) last ⌝ }
+    {
+        let mut cursor = self;
+        let mut used = 0;
+        let mut skipped = 0;
+        loop {
+            let next = cursor.read(setting, &window[used..], last);
+            let Next::Skipped { used: more } = next else {
+                return behind(next, used, skipped);
+            };
+            used += more;
+            skipped += 1;
+            cursor = Cursor::start();
         }
     }
 }

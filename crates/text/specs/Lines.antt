@@ -1,4 +1,4 @@
--- The three lines that document 01 says the program prints, as bytes; and what it is that a line was put into lent bytes.
+-- The lines that document 01 and the requests say the programs print, as bytes; and what it is that a line was put into lent bytes.
 use Rattle.laws.specs.Kit.{List, [], _∷_, _++_, ℕ, _^_, _≤_, _<_, ℤ, natAbs, length}
 use Rattle.laws.specs.Lay.{Put}
 use Rattle.bucket.specs.declared.Network.{Network}
@@ -42,9 +42,17 @@ bufferWords Pass = codes "pass"
 bufferWords (Under p) = pairWords (codes "under ") (p .frame) (p .place)
 bufferWords (Over p) = pairWords (codes "over ") (p .frame) (p .place)
 
+abbrev pub summaryWords : (packets closed peak : ℕ) → Network → Buffer → List ℕ
+summaryWords packets closed peak network buffer =
+    countWords packets closed peak ++ codes " network " ++ networkWords network ++ codes " buffer " ++ bufferWords buffer
+
 unfoldable pub summaryLine : (packets closed peak : ℕ) → Network → Buffer → List ℕ
-summaryLine packets closed peak network buffer =
-    countWords packets closed peak ++ codes " network " ++ networkWords network ++ codes " buffer " ++ bufferWords buffer ++ codes "\n"
+summaryLine packets closed peak network buffer = summaryWords packets closed peak network buffer ++ codes "\n"
+
+-- R17: "the last line goes on with `records R skipped S`"
+unfoldable pub captureLine : (packets closed peak : ℕ) → Network → Buffer → (records skipped : ℕ) → List ℕ
+captureLine packets closed peak network buffer records skipped =
+    summaryWords packets closed peak network buffer ++ codes " records " ++ digits records ++ codes " skipped " ++ digits skipped ++ codes "\n"
 
 -- L4: "or, after the rows closed before a refusal, `refused`, number, offset."
 unfoldable pub refusalLine : (number offset : ℕ) → List ℕ

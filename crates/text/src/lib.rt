@@ -4,8 +4,8 @@
 ghost use Rattle.laws.specs.Kit.{_++_, _+_, _*_, _≤_, _<_, _≡_, length};
 ghost use Rattle.frame.specs.Step.{rowWidth};
 ghost use Rattle.text.specs.Decimal.{codes, digits, signed};
-ghost use Rattle.text.specs.Lines.{fieldRoom, lineRoom, Line, Part, fields, rowLine, summaryLine, refusalLine};
-ghost use Rattle.text.specs.Lines.{pairWords, countWords, networkWords, bufferWords};
+ghost use Rattle.text.specs.Lines.{fieldRoom, lineRoom, Line, Part, fields, rowLine, summaryLine, captureLine, refusalLine};
+ghost use Rattle.text.specs.Lines.{pairWords, countWords, networkWords, bufferWords, summaryWords};
 use bucket::Network;
 use frame::Buffer;
 use frame::ROW;
@@ -118,8 +118,8 @@ fn put_counts(packets: u64, closed: u64, peak: u64, out: &mut [u8], at: usize) -
 }
 
 fn put_network(network: Network, out: &mut [u8], at: usize) -> usize
-    requires { ⌜ at + 60 ≤ length (now out) ⌝ }
-    ensures { λ r. ⌜ Part 60 (codes " network " ++ networkWords network) at (now (out .entry)) r (now (out .exit)) ⌝ }
+    requires { ⌜ at + 56 ≤ length (now out) ⌝ }
+    ensures { λ r. ⌜ Part 56 (codes " network " ++ networkWords network) at (now (out .entry)) r (now (out .exit)) ⌝ }
 {
     match network {
         Network::Pass => put_word(b" network pass", out, at),
@@ -128,8 +128,8 @@ fn put_network(network: Network, out: &mut [u8], at: usize) -> usize
 }
 
 fn put_buffer(buffer: Buffer, out: &mut [u8], at: usize) -> usize
-    requires { ⌜ at + 60 ≤ length (now out) ⌝ }
-    ensures { λ r. ⌜ Part 60 (codes " buffer " ++ bufferWords buffer) at (now (out .entry)) r (now (out .exit)) ⌝ }
+    requires { ⌜ at + 55 ≤ length (now out) ⌝ }
+    ensures { λ r. ⌜ Part 55 (codes " buffer " ++ bufferWords buffer) at (now (out .entry)) r (now (out .exit)) ⌝ }
 {
     match buffer {
         Buffer::None => put_word(b" buffer none", out, at),
@@ -137,6 +137,24 @@ fn put_buffer(buffer: Buffer, out: &mut [u8], at: usize) -> usize
         Buffer::Under(p) => put_pair(b" buffer under ", p.frame, p.place, out, at),
         Buffer::Over(p) => put_pair(b" buffer over ", p.frame, p.place, out, at),
     }
+}
+
+// The counts and the two answers, which every last line begins with.
+fn put_sum(
+    packets: u64,
+    closed: u64,
+    peak: u64,
+    network: Network,
+    buffer: Buffer,
+    out: &mut [u8],
+    at: usize,
+) -> usize
+    requires { ⌜ at + 193 ≤ length (now out) ⌝ }
+    ensures { λ r. ⌜ Part 193 (summaryWords packets closed peak network buffer) at (now (out .entry)) r (now (out .exit)) ⌝ }
+{
+    let counted = put_counts(packets, closed, peak, out, at);
+    let judged = put_network(network, out, counted);
+    put_buffer(buffer, out, judged)
 }
 
 // The last line of a file that was measured.
@@ -152,9 +170,28 @@ pub fn put_summary(
     requires { ⌜ at + lineRoom ≤ length (now out) ⌝ }
     ensures { λ r. ⌜ Line (summaryLine packets closed peak network buffer) at (now (out .entry)) r (now (out .exit)) ⌝ }
 {
-    let counted = put_counts(packets, closed, peak, out, at);
-    let judged = put_network(network, out, counted);
-    let next = put_buffer(buffer, out, judged);
+    let next = put_sum(packets, closed, peak, network, buffer, out, at);
+    put_word(b"\n", out, next)
+}
+
+// The last line of a capture that was measured: it goes on with the records read and those of them that were skipped.
+pub fn put_capture(
+    packets: u64,
+    closed: u64,
+    peak: u64,
+    network: Network,
+    buffer: Buffer,
+    records: u64,
+    skipped: u64,
+    out: &mut [u8],
+    at: usize,
+) -> usize
+    requires { ⌜ at + lineRoom ≤ length (now out) ⌝ }
+    ensures { λ r. ⌜ Line (captureLine packets closed peak network buffer records skipped) at (now (out .entry)) r (now (out .exit)) ⌝ }
+{
+    let read = put_sum(packets, closed, peak, network, buffer, out, at);
+    let passed = put_named(b" records ", records, out, read);
+    let next = put_named(b" skipped ", skipped, out, passed);
     put_word(b"\n", out, next)
 }
 

@@ -1,20 +1,13 @@
--- The counts, the two answers and the line's end, one behind the other.
+-- The counts and the answers, and the line's end.
 use Rattle.laws.specs.Kit.{arith}
-use borrow.Author.Needs.{needs}
 use Rattle.text.specs.Lines.{summaryLine}
-use Rattle.text.proofs.Parts.{part-then, part-is, part-put}
-use Rattle.text.proofs.Grouping.{summary-grouped}
+use Rattle.text.proofs.Parts.{part-then, part-put}
+use borrow.Author.Needs.{needs}
 use Rattle.text.proofs.put_summary.Statement.{statement}
 use Rattle.text.proofs.put_summary.Tie as tie
 
-put-counts-requires : tie.Need-put-counts-requires
-put-counts-requires c κs = search needs
-
-put-network-requires : tie.Need-put-network-requires
-put-network-requires c κs = search needs
-
-put-buffer-requires : tie.Need-put-buffer-requires
-put-buffer-requires c κs = search needs
+put-sum-requires : tie.Need-put-sum-requires
+put-sum-requires c κs = search needs
 
 slice-aggregate-put-word : tie.Need-slice-aggregate-put-word
 slice-aggregate-put-word c = search needs
@@ -29,22 +22,10 @@ returns : tie.Need-returns
 unfolding summaryLine
 returns c =
     let end = c .before .before in
-    let buffer = end .before .before .before .before .before in
-    let network = buffer .before .before .before .before in
-    let counts = network .before .before .before .before in
-    let args = counts .before .before .before .args in
-    let answers = part-then (part-then (counts .put-counts .ensures) (network .put-network .ensures)) (buffer .put-buffer .ensures) in
-    let line = part-then answers (end .put-word .ensures) in
-    part-put {m = 256} (omega arith) (part-is (omega arith) (summary-grouped _ _ _ (args .network) (args .buffer)) line)
+    let sum = end .before .before .before .before .before in
+    part-put {m = 194} (omega arith) (part-then (sum .put-sum .ensures) (end .put-word .ensures))
 
 pub put-summary-spec : {M : Type 1} → statement M
 put-summary-spec =
     tie.close
-    (tie.spec
-    put-counts-requires
-    put-network-requires
-    put-buffer-requires
-    slice-aggregate-put-word
-    put-word-requires
-    same-length
-    returns)
+    (tie.spec put-sum-requires slice-aggregate-put-word put-word-requires same-length returns)
