@@ -147,7 +147,7 @@ fn put_last(s: State, item: Next, out: &mut [u8], at: usize) -> usize
 }
 
 // The line of the row that a marker closes now, if the lead-in is over.
-fn put_closed(s: State, rules: Rules, out: &mut [u8], at: usize) -> usize
+pub fn put_closed(s: State, rules: Rules, out: &mut [u8], at: usize) -> usize
     requires { ⌜ CloseAsks rules s at (length (now out)) ⌝ }
     ensures { λ r. ⌜ Line (rowLines (closing rules s)) at (now (out .entry)) r (now (out .exit)) ⌝ }
 {
