@@ -2,7 +2,6 @@
 pub mod Bytes
 pub mod Asking
 pub mod Calls
-pub mod Filming
 pub mod Measuring
 pub mod Signed
 pub mod Answering

@@ -1,3 +1,2 @@
 pub mod Paper
 pub mod Step
-pub mod Capture

@@ -1,15 +1,9 @@
-// What a program in C calls: a whole record file or a whole capture measured into lent bytes, a record file written, the limits of a
-// stream, and the figures of a graph. include/vtiming.h documents each function; their names are fixed.
-// It knows the record file, the capture and the measurement, and puts them together. It must never print, and keeps nothing between calls.
-use capture::Checked as Seen;
-use capture::HEADER;
-use capture::Opened;
-use capture::Setting;
-use capture::Sought;
+// What a program in C calls: a whole record file measured into lent bytes, a record file written, the limits of a stream,
+// and the figures of a graph. include/vtiming.h documents each function; their names are fixed.
+// It knows the record file and the measurement, and puts them together. It must never print, and keeps nothing between calls.
 use endian::write64;
 use frame::Row;
 use limits::Parameters;
-use packet::Past;
 use record::Checked;
 use record::Written;
 use timing::Drawn;
@@ -18,33 +12,24 @@ use timing::Rules;
 use timing::SUMMARY;
 use timing::State;
 use timing::StreamNumbers;
-ghost use Rattle.laws.specs.Kit.{_≡_, true, _+_, _≤_, leb, length, drop, sets};
+ghost use Rattle.laws.specs.Kit.{_≡_, true, _+_, _≤_, leb, length, sets};
 ghost use Rattle.laws.specs.Lay.{Put};
 ghost use Rattle.frame.specs.Step.{numbersOf};
 ghost use Rattle.timing.specs.Answers.{summaryWidth, summaryOf};
-ghost use Rattle.timing.specs.Feed.{closing, LayAsks, RunAsks, RunGives};
+ghost use Rattle.timing.specs.Feed.{closing, LayAsks};
 ghost use Rattle.timing.specs.Range.{inRange};
-ghost use Rattle.timing.specs.Step.{ofParameters, rulesOf, freshOf};
-ghost use Rattle.capture.specs.Paper.{headerBytes};
-ghost use Rattle.capture.specs.Step.{handedIn};
+ghost use Rattle.timing.specs.Step.{ofParameters};
 ghost use Rattle.limits.specs.Paper.{given};
 ghost use Rattle.record.specs.Write.{writtenOf, writtenPlace};
 ghost use Rattle.report.specs.Paper.{inBytes, encoded, rowBytes, summaryBytes, answerOf, roomOf};
 ghost use Rattle.report.specs.Step.{neededBehind, askedOf, MeasureAsks, MeasureGives, CallGives, WriteGives, LimitsGives, DrawGives};
-ghost use Rattle.report.specs.Capture.{elevenBytes, captureChecked, weighedOf, FilmAsks, FilmGives, CaptureGives};
-ghost use Rattle.report.specs.Capture.{captureAnswer, captureRoom};
 
 // The bytes of a number that is reported, of a row, and of the nine numbers in front.
-const NUMBER: usize = 8;
+pub const NUMBER: usize = 8;
 
 const ROW_BYTES: usize = NUMBER * frame::ROW;
 
-const SUMMARY_BYTES: usize = NUMBER * SUMMARY;
-
-// A capture's records and those skipped stand behind these.
-const ELEVEN: usize = SUMMARY + 2;
-
-const ELEVEN_BYTES: usize = NUMBER * ELEVEN;
+pub const SUMMARY_BYTES: usize = NUMBER * SUMMARY;
 
 // What is lent for a file: fine with its stream numbers, or the number and the offset of the refusal.
 enum Asked {
@@ -52,14 +37,8 @@ enum Asked {
     Refused { number: u8, offset: u64 },
 }
 
-// What is lent for a capture: fine with its records and those of them that are skipped, or the number and the place of the refusal.
-enum Weighed {
-    Fine { records: u64, skipped: u64 },
-    Refused { number: u8, place: u64 },
-}
-
 // Whether so many lent bytes hold so many numbers in front and the rows of so many frames. Divided, since the product might not fit.
-fn fits(front: usize, closed: u64, room: usize) -> bool
+pub fn fits(front: usize, closed: u64, room: usize) -> bool
     ensures { λ r. ⌜ r ≡ leb (neededBehind front closed) room ⌝ }
 {
     let numbers = room / NUMBER;
@@ -120,7 +99,7 @@ fn put_nine(numbers: [u64; SUMMARY], out: &mut [u8])
 }
 
 // The counts, the peak and the verdict of a state, in front. A state that was measured is in range, so that there is a verdict.
-fn put_summary(s: State, out: &mut [u8])
+pub fn put_summary(s: State, out: &mut [u8])
     requires { ⌜ (summaryBytes ≤ length (now out)) × (inRange s ≡ true) ⌝ }
     ensures { λ _. ⌜ now (out .exit) ≡ sets (now (out .entry)) 0 (inBytes (summaryOf s)) ⌝ }
 {
@@ -135,7 +114,7 @@ fn put_summary(s: State, out: &mut [u8])
 }
 
 // The row of the frame that a marker closes now, from byte `at` on; where the next one goes.
-fn put_closed(s: State, rules: Rules, out: &mut [u8], at: usize) -> usize
+pub fn put_closed(s: State, rules: Rules, out: &mut [u8], at: usize) -> usize
     requires { ⌜ LayAsks rowBytes rules s at (length (now out)) ⌝ }
     ensures { λ r. ⌜ Put (rowBytes (closing rules s)) at (now (out .entry)) r (now (out .exit)) ⌝ }
 {
@@ -347,216 +326,5 @@ pub extern "C" fn vtiming_graph(fpt: i64, margin: i64, latency: i64, out: &mut [
             0
         }
         Drawn::Refused(number) => number as u32,
-    }
-}
-
-// Set-up, then one pass that checks the capture and counts its frames. It writes nothing.
-fn check_capture(numbers: StreamNumbers, port: u16, offset: u32, capture: &[u8]) -> Seen
-    ensures { λ r. ⌜ r ≡ captureChecked numbers port offset (now (capture .entry)) ⌝ }
-{
-    let number = numbers.refusal();
-    if number != 0 {
-        return Seen::Refused {
-            number: number,
-            place: 0,
-        };
-    }
-    capture::check(Past::none(), false, port, offset, capture)
-}
-
-// The same, then the room. The first packet of a capture has place 0.
-fn weigh(numbers: StreamNumbers, port: u16, offset: u32, capture: &[u8], room: usize) -> Weighed
-    ensures { λ r. ⌜ r ≡ weighedOf numbers port offset (now (capture .entry)) room ⌝ }
-{
-    let checked = check_capture(numbers, port, offset, capture);
-    match checked {
-        Seen::Fine(seen) => {
-            let tally = seen.tally;
-            if fits(ELEVEN, tally.closed as u64, room) {
-                return Weighed::Fine {
-                    records: seen.records,
-                    skipped: seen.skipped,
-                };
-            }
-            Weighed::Refused {
-                number: 15,
-                place: 0,
-            }
-        }
-        Seen::Refused { number, place } => Weighed::Refused {
-            number: number,
-            place: place,
-        },
-    }
-}
-
-// The packets of a capture that was weighed and is fine, one by one, as `measure` takes those of a file.
-fn film_packets(numbers: StreamNumbers, setting: Setting, capture: &[u8], out: &mut [u8]) -> State
-    requires { ⌜ RunAsks rowBytes (rulesOf numbers) (freshOf numbers) (handedIn setting (drop headerBytes (now capture))) elevenBytes
-        (length (now out)) ⌝ }
-    ensures { λ r. ⌜ RunGives rowBytes (rulesOf numbers) (freshOf numbers) (handedIn setting (drop headerBytes (now (capture .entry))))
-        elevenBytes (now (out .entry)) r (now (out .exit)) ⌝ }
-{
-    let made = numbers.rules();
-    let plan = made.plan;
-    let drains = made.drains;
-    let rules = Rules {
-        plan,
-        drains,
-        limit: made.limit,
-    };
-    let mut s = numbers.fresh();
-    let mut from = HEADER;
-    let mut at = ELEVEN_BYTES;
-    loop {
-        let sought = setting.seek(capture, from);
-        let Sought::Packet { packet, next } = sought else {
-            return s;
-        };
-        s = s.arrive(rules, packet.time, packet.stamp);
-        if packet.marker == 1 {
-            at = put_closed(s, rules, out, at);
-            s = s.mark(rules, packet.time);
-        }
-        from = next;
-    }
-}
-
-// The same from the header on.
-fn film(numbers: StreamNumbers, port: u16, offset: u32, capture: &[u8], out: &mut [u8]) -> State
-    requires { ⌜ FilmAsks numbers port offset (now capture) (length (now out)) ⌝ }
-    ensures { λ r. ⌜ FilmGives numbers port offset (now (capture .entry)) (now (out .entry)) r (now (out .exit)) ⌝ }
-{
-    let opened = capture::open(capture, true);
-    let Opened::Capture { format } = opened else {
-        return numbers.fresh();
-    };
-    film_packets(
-        numbers,
-        Setting {
-            format: format,
-            port: port,
-            offset: offset,
-        },
-        capture,
-        out,
-    )
-}
-
-// A whole capture: the refusal number and nothing written; or 0, and the eleven numbers and the rows stand in front.
-#[no_mangle]
-pub extern "C" fn vtiming_capture(
-    capture: &[u8],
-    port: u16,
-    offset: u32,
-    rate: u8,
-    schedule: u8,
-    class: u8,
-    height: u16,
-    n: u32,
-    maxudp: u16,
-    tro: u32,
-    out: &mut [u8],
-) -> u32
-    ensures { λ r. ⌜ CaptureGives (ofParameters (given rate schedule class height n maxudp tro)) port offset (now (capture .entry))
-        (now (out .entry)) r (now (out .exit)) ⌝ }
-{
-    let told = Parameters {
-        rate,
-        schedule,
-        class,
-        height,
-        n,
-        maxudp,
-        tro,
-    };
-    let numbers = StreamNumbers { parameters: told };
-    let weighed = weigh(numbers, port, offset, capture, out.len());
-    match weighed {
-        Weighed::Fine { records, skipped } => {
-            let s = film(numbers, port, offset, capture, out);
-            put_summary(s, out);
-            write64(out, SUMMARY_BYTES, records);
-            write64(out, SUMMARY_BYTES + NUMBER, skipped);
-            0
-        }
-        Weighed::Refused { number, place: _ } => number as u32,
-    }
-}
-
-// The twin: where that refusal is, for so many lent bytes.
-#[no_mangle]
-pub extern "C" fn vtiming_capture_place(
-    capture: &[u8],
-    port: u16,
-    offset: u32,
-    rate: u8,
-    schedule: u8,
-    class: u8,
-    height: u16,
-    n: u32,
-    maxudp: u16,
-    tro: u32,
-    room: usize,
-) -> u64
-    ensures { λ r. ⌜ r ≡ captureAnswer (ofParameters (given rate schedule class height n maxudp tro)) port offset (now (capture .entry)) room
-        .offset ⌝ }
-{
-    let told = Parameters {
-        rate,
-        schedule,
-        class,
-        height,
-        n,
-        maxudp,
-        tro,
-    };
-    let numbers = StreamNumbers { parameters: told };
-    let weighed = weigh(numbers, port, offset, capture, room);
-    match weighed {
-        Weighed::Fine {
-            records: _,
-            skipped: _,
-        } => 0,
-        Weighed::Refused { number: _, place } => place,
-    }
-}
-
-// How many lent bytes are enough for a capture's report; 0 for one that is refused.
-#[no_mangle]
-pub extern "C" fn vtiming_capture_room(
-    capture: &[u8],
-    port: u16,
-    offset: u32,
-    rate: u8,
-    schedule: u8,
-    class: u8,
-    height: u16,
-    n: u32,
-    maxudp: u16,
-    tro: u32,
-) -> u64
-    ensures { λ r. ⌜ r ≡ captureRoom (ofParameters (given rate schedule class height n maxudp tro)) port offset (now (capture .entry)) ⌝ }
-{
-    let told = Parameters {
-        rate,
-        schedule,
-        class,
-        height,
-        n,
-        maxudp,
-        tro,
-    };
-    let numbers = StreamNumbers { parameters: told };
-    let checked = check_capture(numbers, port, offset, capture);
-    match checked {
-        Seen::Fine(seen) => {
-            let tally = seen.tally;
-            NUMBER as u64 * (ELEVEN as u64 + tally.closed as u64 * frame::ROW as u64)
-        }
-        Seen::Refused {
-            number: _,
-            place: _,
-        } => 0,
     }
 }

@@ -6,11 +6,11 @@ use Rattle.capture.specs.Paper.{headerBytes}
 use Rattle.capture.specs.Step.{handedIn}
 use Rattle.capture.proofs.Seeking.{sought-cons, sought-none}
 use Rattle.timing.proofs.Running.{Loop, loop-begins, loop-next, loop-ends, loop-arrives, loop-lays, loop-closed, turn-marked, turn-plain}
-use Rattle.report.specs.Capture.{elevenBytes}
+use Rattle.film.specs.Step.{elevenBytes}
 use Rattle.report.proofs.Bytes.{as-bytes}
-use Rattle.report.proofs.Filming.{film-begins, film-ends}
-use Rattle.report.proofs.film_packets.Statement.{statement}
-use Rattle.report.proofs.film_packets.Tie as tie
+use Rattle.film.proofs.Filming.{film-begins, film-ends}
+use Rattle.film.proofs.film_packets.Statement.{statement}
+use Rattle.film.proofs.film_packets.Tie as tie
 
 abbrev Inv-loop : tie.InvT-loop
 Inv-loop setting capture out₀ rules s₀ from₀ at₀ out s from at =

@@ -1,10 +1,10 @@
 -- The header, then the packets behind it; where it is unknown there are none.
 use Rattle.capture.proofs.Checking.{header-known, header-unknown}
 use Rattle.intake.proofs.Reading.{packets-known, packets-unknown, asks-same, gives-same}
-use Rattle.report.proofs.Filming.{film-none}
+use Rattle.film.proofs.Filming.{film-none}
 use borrow.Author.Needs.{needs}
-use Rattle.report.proofs.film.Statement.{statement}
-use Rattle.report.proofs.film.Tie as tie
+use Rattle.film.proofs.film.Statement.{statement}
+use Rattle.film.proofs.film.Tie as tie
 
 open-requires : tie.Need-open-requires
 open-requires c κs = search needs

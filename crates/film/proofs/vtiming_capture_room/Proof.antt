@@ -1,9 +1,9 @@
 -- The check's count of frames is how long the report is; at most 1,000,000,000 of them, so that nothing overflows (Filming).
 use Rattle.laws.specs.Kit.{arith}
-use Rattle.report.proofs.Filming.{room-refused, room-fine, few-closed}
+use Rattle.film.proofs.Filming.{room-refused, room-fine, few-closed}
 use borrow.Author.Needs.{needs}
-use Rattle.report.proofs.vtiming_capture_room.Statement.{statement}
-use Rattle.report.proofs.vtiming_capture_room.Tie as tie
+use Rattle.film.proofs.vtiming_capture_room.Statement.{statement}
+use Rattle.film.proofs.vtiming_capture_room.Tie as tie
 
 check-capture-requires : tie.Need-check-capture-requires
 check-capture-requires c κs = search needs

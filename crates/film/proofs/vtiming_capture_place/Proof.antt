@@ -1,10 +1,10 @@
 -- The place of what is weighed.
 use Rattle.laws.specs.Kit.{sym, ap}
 use Rattle.report.specs.Paper.{Answer}
-use Rattle.report.proofs.Filming.{weighed-answer}
+use Rattle.film.proofs.Filming.{weighed-answer}
 use borrow.Author.Needs.{needs}
-use Rattle.report.proofs.vtiming_capture_place.Statement.{statement}
-use Rattle.report.proofs.vtiming_capture_place.Tie as tie
+use Rattle.film.proofs.vtiming_capture_place.Statement.{statement}
+use Rattle.film.proofs.vtiming_capture_place.Tie as tie
 
 weigh-requires : tie.Need-weigh-requires
 weigh-requires c κs = search needs

@@ -1,9 +1,9 @@
 -- Set-up first, then the capture.
 use Rattle.laws.specs.Kit.{sym, _∙_}
-use Rattle.report.proofs.Filming.{check-set-up, check-then}
+use Rattle.film.proofs.Filming.{check-set-up, check-then}
 use borrow.Author.Needs.{needs}
-use Rattle.report.proofs.check_capture.Statement.{statement}
-use Rattle.report.proofs.check_capture.Tie as tie
+use Rattle.film.proofs.check_capture.Statement.{statement}
+use Rattle.film.proofs.check_capture.Tie as tie
 
 refusal-requires : tie.Need-refusal-requires
 refusal-requires c κs = search needs

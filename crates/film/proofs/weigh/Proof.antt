@@ -1,9 +1,9 @@
 -- The check's answer, and then the room: each return is one law (Filming).
 use Rattle.laws.specs.Kit.{sym, _∙_}
-use Rattle.report.proofs.Filming.{weighed-refused, weighed-fine, weighed-15}
+use Rattle.film.proofs.Filming.{weighed-refused, weighed-fine, weighed-15}
 use borrow.Author.Needs.{needs}
-use Rattle.report.proofs.weigh.Statement.{statement}
-use Rattle.report.proofs.weigh.Tie as tie
+use Rattle.film.proofs.weigh.Statement.{statement}
+use Rattle.film.proofs.weigh.Tie as tie
 
 check-capture-requires : tie.Need-check-capture-requires
 check-capture-requires c κs = search needs

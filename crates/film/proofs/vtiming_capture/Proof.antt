@@ -1,10 +1,10 @@
 -- What is weighed decides: refused, nothing is stored; fine, the rows are stored, then the nine numbers and the two behind them (Filming).
 use Rattle.laws.specs.Kit.{sym, ap, arith, length, length-sets}
 use Rattle.report.specs.Paper.{Answer}
-use Rattle.report.proofs.Filming.{weighed-answer, weighed-enough, enough-asks, enough-long, filmed-in-range, refused-leaves, film-filled}
+use Rattle.film.proofs.Filming.{weighed-answer, weighed-enough, enough-asks, enough-long, filmed-in-range, refused-leaves, film-filled}
 use borrow.Author.Needs.{needs}
-use Rattle.report.proofs.vtiming_capture.Statement.{statement}
-use Rattle.report.proofs.vtiming_capture.Tie as tie
+use Rattle.film.proofs.vtiming_capture.Statement.{statement}
+use Rattle.film.proofs.vtiming_capture.Tie as tie
 
 weigh-requires : tie.Need-weigh-requires
 weigh-requires c κs = search needs

@@ -31,13 +31,14 @@ use Rattle.timing.specs.Range.{inRange, Sound}
 use Rattle.timing.proofs.InRange.{sound-fresh, of-sound}
 use Rattle.timing.proofs.Dealing.{sound-after}
 use Rattle.timing.proofs.Scanning.{scan-runs, numbers-length}
-use Rattle.report.specs.declared.Weighed.{Weighed}
-use Rattle.report.specs.declared.Weighed.the-variants as weighed
+use Rattle.film.specs.declared.Weighed.{Weighed}
+use Rattle.film.specs.declared.Weighed.the-variants as weighed
 use Rattle.report.specs.Paper.{stateOf, rowsOf, inBytes, encoded, rowBytes, numberBytes, summaryBytes, Answer, answer}
 use Rattle.report.specs.Step.{neededBehind}
-use Rattle.report.specs.Capture.{elevenOf, captureBytes, captureChecked, answeredBy, captureAnswer, filledFrom, captureFilled, roomBy}
-use Rattle.report.specs.Capture.{captureRoom, elevenWidth, elevenBytes, weighedBy, weighedOf, FilmAsks, FilmGives, CaptureGives}
+use Rattle.film.specs.Paper.{elevenOf, captureBytes, captureChecked, answeredBy, captureAnswer, filledFrom, captureFilled, roomBy}
+use Rattle.film.specs.Paper.{captureRoom}
+use Rattle.film.specs.Step.{elevenWidth, elevenBytes, weighedBy, weighedOf, FilmAsks, FilmGives, CaptureGives}
 use Rattle.report.proofs.Bytes.{nine, length-stored, stored-append, length-encoded, encoded-append, naturals, front-last}
 
 module _ (x : StreamNumbers) (port offset : ℕ) (b : List ℕ) where
   -- ---- the check
