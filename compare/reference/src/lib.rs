@@ -10,6 +10,7 @@
 
 pub mod bucket;
 pub mod call;
+pub mod capture;
 pub mod cases;
 pub mod feed;
 pub mod fraction;
@@ -28,6 +29,7 @@ pub mod record;
 pub mod stream;
 
 pub use call::{call, CallAnswer};
+pub use capture::{expected_capture_call, expected_capture_output, expected_packets, Asked};
 pub use graph::{graph, Graph};
 pub use measure::{measure, Buffer, Measurement, Network};
 pub use numbers::{set_up, Limits, Numbers};
