@@ -115,7 +115,9 @@ fn demand(holds: bool, why: Why) -> Result<(), Why> {
 pub fn handed_on(frame: &[u8], port: u16) -> Result<Carried, Why> {
     let mut rest = Rest(frame);
     let answer = read_frame(&mut rest, port);
-    let told = answer.ok().map(|carried| (carried.timestamp, carried.marker));
+    let told = answer
+        .ok()
+        .map(|carried| (carried.timestamp, carried.marker));
     assert_eq!(told, by_places(frame, port));
     answer
 }
@@ -381,6 +383,25 @@ pub fn read(asked: &Asked, bytes: &[u8]) -> Reading {
 pub fn packets_of(records: &[Record]) -> Vec<Packet> {
     let read = records.iter().flat_map(|record| record.read.ok());
     read.map(|(packet, _)| packet).collect()
+}
+
+/// The parts that a frame need not have, as bits: whether some frame that is
+/// handed on has a tag, options, contributors, an extension.
+pub fn parts_seen(asked: &Asked, bytes: &[u8]) -> u8 {
+    let records = records(bytes, asked.port, asked.offset).records;
+    let carried = records.iter().flat_map(|record| record.read.ok());
+    let bits = carried.map(|(_, carried)| {
+        [
+            carried.tagged,
+            carried.options,
+            carried.contributors,
+            carried.extension,
+        ]
+        .iter()
+        .rev()
+        .fold(0, |bits, has| 2 * bits + u8::from(*has))
+    });
+    bits.fold(0, |all, one| all | one)
 }
 
 /// What the program prints: the rows and the last line as `vtiming` prints

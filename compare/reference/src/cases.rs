@@ -14,6 +14,9 @@
 //!   3 limits:  seven numbers (15)
 //!   4 graph:   three figures (8 each)
 //!   5 set-up:  seven numbers (15)
+//!   7 capture: port (2), offset (4), seven numbers (15), length (4), capture,
+//!              and which parts the frames have that it hands on (1): 1 a tag,
+//!              2 options, 4 contributors, 8 an extension
 //!
 //! and the rooms: count (1), for each elements lent (8), number (1) and place
 //! (8); then length (4) and bytes of what an accepted call writes, and for
@@ -30,7 +33,9 @@
 //!              number is 0, the summary (9 of 8) and the row numbers written,
 //!              counted (4), 8 each
 
+use crate::capture::{expected_capture_call, parts_seen, Asked};
 use crate::feed::{cut_everywhere, dealt, ranges_after, Feed, Lists};
+use crate::fixed_captures::fixed_captures;
 use crate::generate::{damaged, file, front, random_bytes};
 use crate::graph::graph;
 use crate::numbers::{set_up, Numbers};
@@ -40,6 +45,7 @@ use crate::random::Random;
 use crate::ranges::STATE_WORDS;
 use crate::record::{parameters_body, write, writer};
 use crate::stream::{accepted_numbers, limit_numbers, refused_numbers, stream};
+use crate::traffic::capture;
 
 /// What is called, and with what.
 #[derive(Clone, Debug, PartialEq)]
@@ -62,10 +68,14 @@ pub enum Call {
         numbers: Numbers,
         calls: Vec<Feed>,
     },
+    Capture {
+        asked: Asked,
+        bytes: Vec<u8>,
+    },
 }
 
-/// The answer where so many elements are lent: bytes for `measure` and
-/// `write`, numbers for `limits`, doubles for `graph`, words for set-up.
+/// The answer where so many elements are lent: bytes for `measure`, `write` and
+/// `capture`, numbers for `limits`, doubles for `graph`, words for set-up.
 #[derive(Clone, Copy, Debug, PartialEq, Eq)]
 pub struct Room {
     pub lent: u64,
@@ -88,13 +98,17 @@ pub fn case(seed: u64, index: u64) -> Case {
     // The files of `generate` depend on seed and number too; the other cases
     // must not repeat their choices.
     let mut random = Random::new(seed ^ 0x6361_7365, index);
-    let call = match index % 20 {
+    let call = match index % 30 {
         0..=11 => Call::Measure(file(seed, index)),
         12..=15 => lists(&mut random),
-        16 if index % 40 < 20 => Call::Limits(any_numbers(&mut random)),
+        16 if index % 60 < 30 => Call::Limits(any_numbers(&mut random)),
         16 => Call::SetUp(any_numbers(&mut random)),
         17..=18 => fed(&mut random),
-        _ => figures(&mut random),
+        19 => figures(&mut random),
+        _ => {
+            let (asked, bytes) = capture(seed, index);
+            Call::Capture { asked, bytes }
+        }
     };
     answered(&mut random, call)
 }
@@ -166,6 +180,10 @@ fn outcome(call: &Call) -> (Option<u64>, Vec<u8>, Vec<u8>) {
             Err(_) => nothing,
         },
         Call::Feed { .. } => nothing,
+        Call::Capture { asked, bytes } => match expected_capture_call(asked, bytes, usize::MAX).2 {
+            Some(filled) => (Some(filled.len() as u64), filled, vec![]),
+            None => nothing,
+        },
     }
 }
 
@@ -215,6 +233,10 @@ fn room(call: &Call, lent: u64) -> Room {
             Err(number) => (number, 0),
             Ok(_) => (if lent < STATE_WORDS { 15 } else { 0 }, 0),
         },
+        Call::Capture { asked, bytes } => {
+            let (number, place, _) = expected_capture_call(asked, bytes, elements);
+            (number, place)
+        }
         Call::Feed { .. } => unreachable!("a row of calls has no rooms"),
     };
     Room {
@@ -354,24 +376,26 @@ fn example() -> Vec<Packet> {
 /// each outcome, so that none depends on the seed.
 pub fn fixed() -> Vec<Case> {
     let mut random = Random::new(0, 0);
-    let mut calls = fixed_limits();
+    let mut calls: Vec<Call> = fixed_numbers().into_iter().map(Call::Limits).collect();
     calls.extend(fixed_lists());
     calls.extend(fixed_files(&mut random));
     calls.extend(fixed_figures());
     calls.extend(fixed_feeds());
+    calls.extend(captured());
     calls
         .into_iter()
         .map(|call| answered(&mut random, call))
         .collect()
 }
 
-fn fixed_limits() -> Vec<Call> {
+/// Both sides of each limit of set-up.
+fn fixed_numbers() -> Vec<Numbers> {
     let with = |change: fn(&mut Numbers)| {
         let mut numbers = NARROW;
         change(&mut numbers);
-        Call::Limits(numbers)
+        numbers
     };
-    let mut calls = vec![
+    let mut all = vec![
         with(|_| {}),
         with(|n| n.schedule = 2),
         with(|n| n.schedule = 1),
@@ -396,8 +420,8 @@ fn fixed_limits() -> Vec<Call> {
         with(|n| n.packets_per_frame = 4320),
     ];
     // Every frame length, and a code on either side of them.
-    calls.extend((0..=9).map(|rate| Call::Limits(Numbers { rate, ..NARROW })));
-    calls
+    all.extend((0..=9).map(|rate| Numbers { rate, ..NARROW }));
+    all
 }
 
 /// Frames of one packet with each timestamp at `t` and at the nanoseconds before
@@ -553,27 +577,21 @@ fn fixed_lists() -> Vec<Call> {
             markers: vec![2; markers],
         });
     }
-    for call in fixed_limits() {
-        if let Call::Limits(numbers) = call {
-            calls.push(Call::Write {
-                numbers,
-                // 1 to 7 come before 10.
-                arrivals: vec![1],
-                timestamps: vec![],
-                markers: vec![],
-            });
-        }
+    for numbers in fixed_numbers() {
+        calls.push(Call::Write {
+            numbers,
+            // 1 to 7 come before 10.
+            arrivals: vec![1],
+            timestamps: vec![],
+            markers: vec![],
+        });
     }
     calls
 }
 
 fn fixed_files(random: &mut Random) -> Vec<Call> {
     let mut files: Vec<Vec<u8>> = streams().iter().map(|(n, p)| write(n, p)).collect();
-    for call in fixed_limits() {
-        if let Call::Limits(numbers) = call {
-            files.push(write(&numbers, &[]));
-        }
-    }
+    files.extend(fixed_numbers().iter().map(|numbers| write(numbers, &[])));
     // The example cut at every place and with every byte changed.
     let whole = write(&NARROW, &example());
     for place in 0..whole.len() {
@@ -625,12 +643,7 @@ fn fixed_figures() -> Vec<Call> {
 /// Every list of document 01 cut everywhere, and both sides of every range of
 /// a state, in the lead-in, at a frame's end and within a frame.
 fn fixed_feeds() -> Vec<Call> {
-    let mut calls = vec![];
-    for call in fixed_limits() {
-        if let Call::Limits(numbers) = call {
-            calls.push(Call::SetUp(numbers));
-        }
-    }
+    let mut calls: Vec<Call> = fixed_numbers().into_iter().map(Call::SetUp).collect();
     for (numbers, packets) in streams() {
         calls.push(Call::Feed {
             numbers,
@@ -657,6 +670,13 @@ fn fixed_feeds() -> Vec<Call> {
         });
     }
     calls
+}
+
+fn captured() -> Vec<Call> {
+    fixed_captures(&streams(), &fixed_numbers())
+        .into_iter()
+        .map(|(asked, bytes)| Call::Capture { asked, bytes })
+        .collect()
 }
 
 // --- as bytes ---
@@ -706,6 +726,14 @@ impl Case {
                     push_feed(&mut body, feed);
                 }
                 return with_size(body);
+            }
+            Call::Capture { asked, bytes } => {
+                body.push(7);
+                body.extend(asked.port.to_be_bytes());
+                body.extend(asked.offset.to_be_bytes());
+                body.extend(seven(&asked.numbers));
+                push_counted(&mut body, bytes);
+                body.push(parts_seen(asked, bytes));
             }
         }
         body.push(self.rooms.len() as u8);

@@ -407,6 +407,7 @@ fn name_of(call: &Call) -> &'static str {
         Call::Graph { .. } => "graph",
         Call::SetUp(_) => "set-up",
         Call::Feed { .. } => "feed",
+        Call::Capture { .. } => "capture",
     }
 }
 
@@ -427,7 +428,7 @@ fn answers_of(cases: &[Case]) -> BTreeMap<String, u64> {
 
 fn reach_every_answer(cases: &[Case]) {
     let answers = answers_of(cases);
-    let wanted: [(&str, &[u8]); 6] = [
+    let wanted: [(&str, &[u8]); 7] = [
         (
             "measure",
             &[0, 1, 2, 3, 4, 5, 6, 7, 11, 12, 13, 15, 20, 21, 22, 23],
@@ -437,6 +438,10 @@ fn reach_every_answer(cases: &[Case]) {
         ("graph", &[0, 15, 16]),
         ("set-up", &[0, 1, 2, 3, 4, 5, 6, 7, 15]),
         ("feed", &[0, 9, 10, 11, 12, 13, 14, 15]),
+        (
+            "capture",
+            &[0, 1, 2, 3, 4, 5, 6, 7, 12, 13, 15, 30, 31, 32, 33],
+        ),
     ];
     for (call, numbers) in wanted {
         for number in numbers {
@@ -458,7 +463,7 @@ fn reach_every_answer(cases: &[Case]) {
 #[test]
 fn the_cases_reach_every_answer_of_every_call() {
     reach_every_answer(&fixed());
-    let generated: Vec<Case> = (0..3000).map(|index| case(1, index)).collect();
+    let generated: Vec<Case> = (0..4500).map(|index| case(1, index)).collect();
     reach_every_answer(&generated);
 }
 
@@ -493,7 +498,7 @@ fn a_case_is_accepted_where_there_is_room() {
     for index in 0..2000 {
         let case = case(5, index);
         let size = match case.call {
-            Call::Measure(_) | Call::Write { .. } => 1,
+            Call::Measure(_) | Call::Write { .. } | Call::Capture { .. } => 1,
             _ => 8,
         };
         // What set-up writes is not known here, but how much it is.
@@ -521,7 +526,7 @@ fn a_case_is_accepted_where_there_is_room() {
 /// write the rows of the whole list, once, and end in its nine numbers.
 #[test]
 fn calls_in_a_row_give_what_one_call_gives() {
-    let generated = (0..400).map(|index| case(7, 20 * index + 17));
+    let generated = (0..400).map(|index| case(7, 30 * index + 17));
     for case in fixed().into_iter().chain(generated) {
         let calls = match case.call {
             Call::Feed { calls, .. } => calls,
