@@ -6,6 +6,9 @@
 //! captured bytes alone, and is worked out twice: header by header, and by
 //! places counted from the frame's first byte.
 
+use std::cmp::Reverse;
+use std::collections::BTreeMap;
+
 use crate::measure::{measure_accepted, Measurement};
 use crate::numbers::{set_up, Numbers};
 use crate::output::{c_bytes, last_line, nine_numbers, refusal_line, row_line};
@@ -68,7 +71,8 @@ pub struct Carried {
     pub extension: bool,
 }
 
-/// Why a frame is skipped: the first of its conditions that does not hold.
+/// Why a frame is skipped: a condition that does not hold. The port is asked
+/// last, so that it is named only where a frame goes elsewhere and is well.
 #[derive(Clone, Copy, Debug, PartialEq, Eq, PartialOrd, Ord)]
 pub enum Why {
     EthernetCut,
@@ -81,12 +85,12 @@ pub enum Why {
     Protocol,
     Fragment,
     UdpCut,
-    Port,
     RtpCut,
     RtpVersion,
     ContributorsCut,
     ExtensionCut,
     ExtensionWordsCut,
+    Port,
 }
 
 /// The bytes of a frame that no header has taken yet.
@@ -113,8 +117,10 @@ fn demand(holds: bool, why: Why) -> Result<(), Why> {
 
 /// Whether a frame is handed on, header by header.
 pub fn handed_on(frame: &[u8], port: u16) -> Result<Carried, Why> {
-    let mut rest = Rest(frame);
-    let answer = read_frame(&mut rest, port);
+    let answer = read_frame(frame).and_then(|(to, carried)| {
+        demand(to == port, Why::Port)?;
+        Ok(carried)
+    });
     let told = answer
         .ok()
         .map(|carried| (carried.timestamp, carried.marker));
@@ -122,10 +128,12 @@ pub fn handed_on(frame: &[u8], port: u16) -> Result<Carried, Why> {
     answer
 }
 
-fn read_frame(rest: &mut Rest, port: u16) -> Result<Carried, Why> {
-    let tagged = read_ethernet(rest)?;
-    let options = read_ip(rest)?;
-    read_udp(rest, port)?;
+/// What the frame carries, and the port that it is sent to.
+fn read_frame(frame: &[u8]) -> Result<(u16, Carried), Why> {
+    let mut rest = Rest(frame);
+    let tagged = read_ethernet(&mut rest)?;
+    let options = read_ip(&mut rest)?;
+    let udp = rest.take(8, Why::UdpCut)?;
     let fixed = rest.take(12, Why::RtpCut)?;
     demand(fixed[0] >> 6 == 2, Why::RtpVersion)?;
     let contributors = usize::from(fixed[0] % 16);
@@ -136,14 +144,15 @@ fn read_frame(rest: &mut Rest, port: u16) -> Result<Carried, Why> {
         let words = usize::from(head[2]) * 256 + usize::from(head[3]);
         rest.take(4 * words, Why::ExtensionWordsCut)?;
     }
-    Ok(Carried {
+    let carried = Carried {
         timestamp: big_endian(&fixed[4..8]) as u32,
         marker: fixed[1] >> 7,
         tagged,
         options,
         contributors: contributors > 0,
         extension,
-    })
+    };
+    Ok((big_endian(&udp[2..4]) as u16, carried))
 }
 
 /// "Ethernet with at most one VLAN tag": type 0800, or one tag of type 8100 and
@@ -173,12 +182,6 @@ fn read_ip(rest: &mut Rest) -> Result<bool, Why> {
     let more_and_offset = big_endian(&fixed[6..8]) % 0x4000;
     demand(more_and_offset == 0, Why::Fragment)?;
     Ok(words > 5)
-}
-
-/// "UDP to a given port".
-fn read_udp(rest: &mut Rest, port: u16) -> Result<(), Why> {
-    let header = rest.take(8, Why::UdpCut)?;
-    demand(header[2..4] == port.to_be_bytes(), Why::Port)
 }
 
 /// Timestamp and marker once more, by places counted from the frame's first
@@ -218,10 +221,12 @@ fn big_endian(bytes: &[u8]) -> u64 {
 
 // --- the file ---
 
-/// A capture record that was read: where it ends in the file, and the packet
-/// that it hands on, or why its frame is skipped.
+/// A capture record that was read: where in the file its captured bytes begin
+/// and where they end, and the packet that it hands on, or why its frame is
+/// skipped.
 #[derive(Clone, Copy, Debug, PartialEq, Eq)]
 pub struct Record {
+    pub begin: usize,
     pub end: usize,
     pub read: Result<(Packet, Carried), Why>,
 }
@@ -269,12 +274,17 @@ fn read_all(bytes: &[u8], port: u16, offset: u32, into: &mut Vec<Record>) -> Res
     while from < bytes.len() {
         let refused = |number| Refusal::new(number, into.len() as u64);
         let (arrival, frame) = record_of(&header, &bytes[from..], offset).map_err(refused)?;
-        from += RECORD_HEADER + frame.len();
+        let begin = from + RECORD_HEADER;
+        from = begin + frame.len();
         let read = handed_on(frame, port).map(|carried| {
             let packet = Packet::new(arrival, carried.timestamp, carried.marker);
             (packet, carried)
         });
-        into.push(Record { end: from, read });
+        into.push(Record {
+            begin,
+            end: from,
+            read,
+        });
     }
     Ok(())
 }
@@ -402,6 +412,19 @@ pub fn parts_seen(asked: &Asked, bytes: &[u8]) -> u8 {
         .fold(0, |bits, has| 2 * bits + u8::from(*has))
     });
     bits.fold(0, |all, one| all | one)
+}
+
+/// The ports to which frames would be handed on, the one with the most first.
+pub fn ports(bytes: &[u8]) -> Vec<u16> {
+    let mut counts = BTreeMap::new();
+    for record in records(bytes, 0, 0).records {
+        if let Ok((port, _)) = read_frame(&bytes[record.begin..record.end]) {
+            *counts.entry(port).or_insert(0) += 1;
+        }
+    }
+    let mut ports: Vec<u16> = counts.keys().copied().collect();
+    ports.sort_by_key(|port| Reverse(counts[port]));
+    ports
 }
 
 /// What the program prints: the rows and the last line as `vtiming` prints

@@ -381,7 +381,8 @@ pub fn fixed() -> Vec<Case> {
     calls.extend(fixed_files(&mut random));
     calls.extend(fixed_figures());
     calls.extend(fixed_feeds());
-    calls.extend(captured());
+    let captures = captures().into_iter();
+    calls.extend(captures.map(|(asked, bytes)| Call::Capture { asked, bytes }));
     calls
         .into_iter()
         .map(|call| answered(&mut random, call))
@@ -672,11 +673,9 @@ fn fixed_feeds() -> Vec<Call> {
     calls
 }
 
-fn captured() -> Vec<Call> {
+/// The fixed captures, with what is asked of each.
+pub fn captures() -> Vec<(Asked, Vec<u8>)> {
     fixed_captures(&streams(), &fixed_numbers())
-        .into_iter()
-        .map(|(asked, bytes)| Call::Capture { asked, bytes })
-        .collect()
 }
 
 // --- as bytes ---

@@ -6,7 +6,7 @@ use std::process::exit;
 
 use vtiming_reference::cases::{case, fixed};
 use vtiming_reference::generate::generate;
-use vtiming_reference::program::{inputs, run_all};
+use vtiming_reference::program::{capture_inputs, inputs, run_all, Told, OF_CAPTURES, OF_FILES};
 use vtiming_reference::{expected_c_call, expected_output, graph, set_up, Numbers};
 use vtiming_reference::{expected_capture_call, expected_capture_output, expected_packets, Asked};
 
@@ -27,7 +27,10 @@ const USAGE: &str = "usage:
   reference case SEED INDEX       one generated case, as the C host reads it
   reference program SEED COUNT DIR KEEP COMMAND..
                                   runs the program on COUNT generated files and on the .rec files of
-                                  DIR, whole and in pieces; a file that differs is copied to KEEP";
+                                  DIR, whole and in pieces; a file that differs is copied to KEEP
+  reference captures SEED COUNT DIR[:DIR..] KEEP COMMAND..
+                                  the same of vcapture, on COUNT generated captures, on fixed ones and on
+                                  the .pcap files of each DIR; the nine words follow those of COMMAND";
 
 fn main() {
     let arguments: Vec<String> = std::env::args().skip(1).collect();
@@ -48,6 +51,9 @@ fn main() {
         ["case", seed, index] => one_case(seed, index),
         ["program", seed, count, directory, keep, command @ ..] if !command.is_empty() => {
             program(seed, count, directory, keep, command)
+        }
+        ["captures", seed, count, directories, keep, command @ ..] if !command.is_empty() => {
+            captures(seed, count, directories, keep, command)
         }
         _ => usage(),
     };
@@ -209,7 +215,22 @@ fn program(
     command: &[&str],
 ) -> io::Result<()> {
     let inputs = inputs(number(seed)?, number(count)?, Path::new(directory))?;
-    let told = run_all(&inputs, command, Path::new(keep))?;
+    tell(run_all(&inputs, command, Path::new(keep), OF_FILES)?)
+}
+
+fn captures(
+    seed: &str,
+    count: &str,
+    directories: &str,
+    keep: &str,
+    command: &[&str],
+) -> io::Result<()> {
+    let directories: Vec<&Path> = directories.split(':').map(Path::new).collect();
+    let inputs = capture_inputs(number(seed)?, number(count)?, &directories)?;
+    tell(run_all(&inputs, command, Path::new(keep), OF_CAPTURES)?)
+}
+
+fn tell(told: Told) -> io::Result<()> {
     say(&told.text)?;
     exit(i32::from(!told.same));
 }
