@@ -434,7 +434,7 @@ fn at_times(magic: u32, times: &[u64]) -> Vec<u8> {
 }
 
 /// 12 and 13 and their other sides, in both units; the first second of a capture
-/// and the last, which is 32 bits wide and not wider with the offset.
+/// and the last, which has 32 bits, and more than that with an offset.
 fn times() -> Captures {
     let limit = LONGEST_HISTORY;
     let mut captures = vec![];
@@ -447,6 +447,7 @@ fn times() -> Captures {
             vec![NOW, NOW + limit + SECOND, NOW],
             vec![0, least, SECOND - least],
             vec![LAST_SECOND, LAST_SECOND + SECOND - least],
+            vec![LAST_SECOND - SECOND, LAST_SECOND],
             vec![NOW, 0],
         ] {
             captures.push(at_times(magic, &list));
