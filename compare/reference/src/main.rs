@@ -7,6 +7,7 @@ use std::process::exit;
 use vtiming_reference::cases::{case, fixed};
 use vtiming_reference::generate::generate;
 use vtiming_reference::program::{capture_inputs, inputs, run_all, Told, OF_CAPTURES, OF_FILES};
+use vtiming_reference::traffic;
 use vtiming_reference::{expected_c_call, expected_output, graph, set_up, Numbers};
 use vtiming_reference::{expected_capture_call, expected_capture_output, expected_packets, Asked};
 
@@ -22,6 +23,8 @@ const USAGE: &str = "usage:
   reference packets PORT OFFSET FILE|-
                                   each record of the capture: skipped, or the packet it hands on
   reference gen SEED COUNT DIR    writes COUNT test files to DIR
+  reference gencaptures SEED COUNT DIR
+                                  writes COUNT test captures to DIR, and the words asked of each
   reference expect DIR            writes FILE.out for each .rec file in DIR
   reference cases SEED COUNT      the fixed cases and COUNT generated ones, as the C host reads them
   reference case SEED INDEX       one generated case, as the C host reads it
@@ -46,6 +49,7 @@ fn main() {
         }
         ["packets", port, offset, file] => packets(port, offset, file),
         ["gen", seed, count, directory] => gen(seed, count, directory),
+        ["gencaptures", seed, count, directory] => gen_captures(seed, count, directory),
         ["expect", directory] => expect(Path::new(directory)),
         ["cases", seed, count] => cases(seed, count),
         ["case", seed, index] => one_case(seed, index),
@@ -170,6 +174,10 @@ fn figures(fpt: &str, margin: &str, vl: &str) -> io::Result<()> {
 
 fn gen(seed: &str, count: &str, directory: &str) -> io::Result<()> {
     generate(number(seed)?, number(count)?, Path::new(directory))
+}
+
+fn gen_captures(seed: &str, count: &str, directory: &str) -> io::Result<()> {
+    traffic::generate(number(seed)?, number(count)?, Path::new(directory))
 }
 
 fn expect(directory: &Path) -> io::Result<()> {

@@ -2,6 +2,9 @@
 //! between them, and all that can be wrong with a frame, a record, a header or
 //! with what is asked.
 
+use std::io;
+use std::path::Path;
+
 use crate::capture::{Asked, MICROSECONDS, NANOSECONDS};
 use crate::generate::{flip, random_bytes};
 use crate::numbers::{set_up, Numbers};
@@ -31,6 +34,19 @@ pub fn capture(seed: u64, index: u64) -> (Asked, Vec<u8>) {
             (asked, capture.bytes())
         }
     }
+}
+
+/// Writes `count` captures `NNNNNN.pcap`, and the nine words asked of each as
+/// `NNNNNN.words`.
+pub fn generate(seed: u64, count: u64, directory: &Path) -> io::Result<()> {
+    std::fs::create_dir_all(directory)?;
+    for index in 0..count {
+        let (asked, bytes) = capture(seed, index);
+        let file = directory.join(format!("{:06}.pcap", index));
+        std::fs::write(file.with_extension("words"), asked.words().join(" ") + "\n")?;
+        std::fs::write(file, bytes)?;
+    }
+    Ok(())
 }
 
 /// A header alone, or less.
