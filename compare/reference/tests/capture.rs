@@ -623,6 +623,19 @@ fn a_capture_without_packets() {
     assert_eq!(expected_capture_output(&asked(0), &three), skipped);
 }
 
+/// Frames are as long as they were captured, and the next record begins where
+/// one ends.
+#[test]
+fn long_frames_in_a_capture() {
+    let packet = Packet::new(0, 1800, 1);
+    let long = Frame::full(PORT, &packet, 65_535).bytes();
+    let list = [&plain(), &long, &long[..long.len() - 1], &long, &plain()];
+    let records = list.map(|frame| record(0, 0, frame));
+    let text = expected_packets(&capture(&records), PORT, 0);
+    let told: Vec<bool> = text.lines().map(|line| line.contains("packet")).collect();
+    assert_eq!(told, [true, true, false, true, true]);
+}
+
 /// The words of the program, and a default TRO among them.
 #[test]
 fn nine_words() {
