@@ -580,9 +580,9 @@ static void take_numbers(void) {
 }
 
 static void take_capture(void) {
+    take_numbers();
     now.port = take_number(2);
     now.offset = take_number(4);
-    take_numbers();
     now.file = take_bytes(take_number(4));
     now.parts = take_number(1);
 }

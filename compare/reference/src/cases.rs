@@ -14,7 +14,7 @@
 //!   3 limits:  seven numbers (15)
 //!   4 graph:   three figures (8 each)
 //!   5 set-up:  seven numbers (15)
-//!   7 capture: port (2), offset (4), seven numbers (15), length (4), capture,
+//!   7 capture: seven numbers (15), port (2), offset (4), length (4), capture,
 //!              and which parts the frames have that it hands on (1): 1 a tag,
 //!              2 options, 4 contributors, 8 an extension
 //!
@@ -131,13 +131,15 @@ fn answered(random: &mut Random, call: Call) -> Case {
 
 /// How many elements an accepted call writes, what they are, and what
 /// `measure` makes of them; none where no room is enough.
-fn outcome(call: &Call) -> (Option<u64>, Vec<u8>, Vec<u8>) {
+type Outcome = (Option<u64>, Vec<u8>, Vec<u8>);
+
+fn outcome(call: &Call) -> Outcome {
     let nothing = (None, vec![], vec![]);
     match call {
-        Call::Measure(file) => match expected_c_call(file, usize::MAX).2 {
-            Some(filled) => (Some(filled.len() as u64), filled, vec![]),
-            None => nothing,
-        },
+        Call::Measure(file) => of_bytes(expected_c_call(file, usize::MAX).2),
+        Call::Capture { asked, bytes } => {
+            of_bytes(expected_capture_call(asked, bytes, usize::MAX).2)
+        }
         Call::Write {
             numbers,
             arrivals,
@@ -151,40 +153,31 @@ fn outcome(call: &Call) -> (Option<u64>, Vec<u8>, Vec<u8>) {
             }
             Err(_) => nothing,
         },
-        Call::Limits(numbers) => match set_up(numbers) {
-            Ok(limits) => {
-                let four = [limits.frame, limits.tro, limits.c_max, limits.vrx_full];
-                let bytes = four
-                    .iter()
-                    .flat_map(|number| (*number as u64).to_be_bytes());
-                (Some(4), bytes.collect(), vec![])
-            }
-            Err(_) => nothing,
-        },
+        Call::Limits(numbers) => set_up(numbers).map_or(nothing, |limits| {
+            let four = [limits.frame, limits.tro, limits.c_max, limits.vrx_full];
+            of_eights(&four.map(|number| number as u64))
+        }),
         Call::Graph {
             first_packet_time,
             margin,
             latency,
-        } => match graph(*first_packet_time, *margin, *latency) {
-            Ok(graph) => {
-                let three = [graph.first_packet_time, graph.margin, graph.latency];
-                let bytes = three
-                    .iter()
-                    .flat_map(|double| double.to_bits().to_be_bytes());
-                (Some(3), bytes.collect(), vec![])
-            }
-            Err(_) => nothing,
-        },
-        Call::SetUp(numbers) => match set_up(numbers) {
-            Ok(_) => (Some(STATE_WORDS), vec![], vec![]),
-            Err(_) => nothing,
-        },
-        Call::Feed { .. } => nothing,
-        Call::Capture { asked, bytes } => match expected_capture_call(asked, bytes, usize::MAX).2 {
-            Some(filled) => (Some(filled.len() as u64), filled, vec![]),
-            None => nothing,
-        },
+        } => graph(*first_packet_time, *margin, *latency).map_or(nothing, |graph| {
+            let three = [graph.first_packet_time, graph.margin, graph.latency];
+            of_eights(&three.map(f64::to_bits))
+        }),
+        Call::SetUp(numbers) if set_up(numbers).is_ok() => (Some(STATE_WORDS), vec![], vec![]),
+        Call::SetUp(_) | Call::Feed { .. } => nothing,
     }
+}
+
+fn of_bytes(filled: Option<Vec<u8>>) -> Outcome {
+    let count = filled.as_ref().map(|bytes| bytes.len() as u64);
+    (count, filled.unwrap_or_default(), vec![])
+}
+
+fn of_eights(numbers: &[u64]) -> Outcome {
+    let bytes = numbers.iter().flat_map(|number| number.to_be_bytes());
+    (Some(numbers.len() as u64), bytes.collect(), vec![])
 }
 
 /// Exactly enough, one too few, none, more than enough. Where the call is
@@ -217,22 +210,16 @@ fn room(call: &Call, lent: u64) -> Room {
             Err(refusal) => (refusal.number, refusal.place),
         },
         // "refused by 1 to 7", then by 15 as every lent row.
-        Call::Limits(numbers) => match set_up(numbers) {
-            Err(number) => (number, 0),
-            Ok(_) => (if lent < 4 { 15 } else { 0 }, 0),
-        },
+        Call::Limits(numbers) => (refused_or_short(set_up(numbers), lent, 4), 0),
+        Call::SetUp(numbers) => (refused_or_short(set_up(numbers), lent, STATE_WORDS), 0),
         Call::Graph {
             first_packet_time,
             margin,
             latency,
-        } => match graph(*first_packet_time, *margin, *latency) {
-            Err(number) => (number, 0),
-            Ok(_) => (if lent < 3 { 15 } else { 0 }, 0),
-        },
-        Call::SetUp(numbers) => match set_up(numbers) {
-            Err(number) => (number, 0),
-            Ok(_) => (if lent < STATE_WORDS { 15 } else { 0 }, 0),
-        },
+        } => {
+            let graph = graph(*first_packet_time, *margin, *latency);
+            (refused_or_short(graph, lent, 3), 0)
+        }
         Call::Capture { asked, bytes } => {
             let (number, place, _) = expected_capture_call(asked, bytes, elements);
             (number, place)
@@ -243,6 +230,15 @@ fn room(call: &Call, lent: u64) -> Room {
         lent,
         number,
         place,
+    }
+}
+
+/// The refusal's number, else 15 where fewer are lent than are needed.
+fn refused_or_short<T>(answer: Result<T, u8>, lent: u64, needed: u64) -> u8 {
+    match answer {
+        Err(number) => number,
+        Ok(_) if lent < needed => 15,
+        Ok(_) => 0,
     }
 }
 
@@ -684,56 +680,9 @@ impl Case {
     /// The case as it is handed to the host.
     pub fn bytes(&self, index: u64) -> Vec<u8> {
         let mut body = index.to_be_bytes().to_vec();
-        match &self.call {
-            Call::Measure(file) => {
-                body.push(1);
-                push_counted(&mut body, file);
-            }
-            Call::Write {
-                numbers,
-                arrivals,
-                timestamps,
-                markers,
-            } => {
-                body.push(2);
-                body.extend(seven(numbers));
-                push_lists(&mut body, (arrivals, timestamps, markers));
-            }
-            Call::Limits(numbers) => {
-                body.push(3);
-                body.extend(seven(numbers));
-            }
-            Call::Graph {
-                first_packet_time,
-                margin,
-                latency,
-            } => {
-                body.push(4);
-                for figure in [first_packet_time, margin, latency] {
-                    body.extend(figure.to_be_bytes());
-                }
-            }
-            Call::SetUp(numbers) => {
-                body.push(5);
-                body.extend(seven(numbers));
-            }
-            Call::Feed { numbers, calls } => {
-                body.push(6);
-                body.extend(seven(numbers));
-                body.extend((calls.len() as u32).to_be_bytes());
-                for feed in calls {
-                    push_feed(&mut body, feed);
-                }
-                return with_size(body);
-            }
-            Call::Capture { asked, bytes } => {
-                body.push(7);
-                body.extend(asked.port.to_be_bytes());
-                body.extend(asked.offset.to_be_bytes());
-                body.extend(seven(&asked.numbers));
-                push_counted(&mut body, bytes);
-                body.push(parts_seen(asked, bytes));
-            }
+        push_call(&mut body, &self.call);
+        if let Call::Feed { .. } = self.call {
+            return with_size(body);
         }
         body.push(self.rooms.len() as u8);
         for room in &self.rooms {
@@ -747,6 +696,54 @@ impl Case {
         }
         with_size(body)
     }
+}
+
+fn push_call(body: &mut Vec<u8>, call: &Call) {
+    match call {
+        Call::Measure(file) => {
+            body.push(1);
+            push_counted(body, file);
+        }
+        Call::Write {
+            numbers,
+            arrivals,
+            timestamps,
+            markers,
+        } => {
+            push_seven(body, 2, numbers);
+            push_lists(body, (arrivals, timestamps, markers));
+        }
+        Call::Limits(numbers) => push_seven(body, 3, numbers),
+        Call::Graph {
+            first_packet_time,
+            margin,
+            latency,
+        } => {
+            let figures = [first_packet_time, margin, latency];
+            body.push(4);
+            body.extend(figures.iter().flat_map(|figure| figure.to_be_bytes()));
+        }
+        Call::SetUp(numbers) => push_seven(body, 5, numbers),
+        Call::Feed { numbers, calls } => {
+            push_seven(body, 6, numbers);
+            body.extend((calls.len() as u32).to_be_bytes());
+            calls.iter().for_each(|feed| push_feed(body, feed));
+        }
+        Call::Capture { asked, bytes } => push_capture(body, asked, bytes),
+    }
+}
+
+fn push_seven(body: &mut Vec<u8>, call: u8, numbers: &Numbers) {
+    body.push(call);
+    body.extend(seven(numbers));
+}
+
+fn push_capture(body: &mut Vec<u8>, asked: &Asked, bytes: &[u8]) {
+    push_seven(body, 7, &asked.numbers);
+    body.extend(asked.port.to_be_bytes());
+    body.extend(asked.offset.to_be_bytes());
+    push_counted(body, bytes);
+    body.push(parts_seen(asked, bytes));
 }
 
 fn with_size(body: Vec<u8>) -> Vec<u8> {

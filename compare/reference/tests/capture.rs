@@ -437,49 +437,18 @@ fn thirty_three_for_an_offset_above_99() {
 
 #[test]
 fn set_up_refuses_before_all_else() {
-    for (number, change) in [
-        (1, Numbers { rate: 0, ..NARROW }),
-        (
-            2,
-            Numbers {
-                schedule: 2,
-                ..NARROW
-            },
-        ),
-        (3, Numbers { class: 2, ..NARROW }),
-        (
-            4,
-            Numbers {
-                height: 0,
-                ..NARROW
-            },
-        ),
-        (
-            5,
-            Numbers {
-                packets_per_frame: 0,
-                ..NARROW
-            },
-        ),
-        (
-            6,
-            Numbers {
-                maxudp: 1500,
-                ..NARROW
-            },
-        ),
-        (
-            7,
-            Numbers {
-                tro: Some(20_000),
-                ..NARROW
-            },
-        ),
-    ] {
-        let refused = Asked {
-            numbers: change,
-            ..asked(100)
-        };
+    let changes: [fn(&mut Numbers); 7] = [
+        |numbers| numbers.rate = 0,
+        |numbers| numbers.schedule = 2,
+        |numbers| numbers.class = 2,
+        |numbers| numbers.height = 0,
+        |numbers| numbers.packets_per_frame = 0,
+        |numbers| numbers.maxudp = 1500,
+        |numbers| numbers.tro = Some(20_000),
+    ];
+    for (number, change) in (1..).zip(changes) {
+        let mut refused = asked(100);
+        change(&mut refused.numbers);
         assert_eq!(answer(&refused, &[]), (number, 0));
         let text = expected_capture_output(&refused, &example());
         assert_eq!(text, format!("refused {} 0\n", number));
