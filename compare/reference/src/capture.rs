@@ -298,7 +298,7 @@ fn header_of(bytes: &[u8]) -> Option<Header> {
             let told = Header { big, unit };
             if told.number(&header[..4]) == u64::from(magic) {
                 let link = told.number(&header[20..24]);
-                return (link == u64::from(ETHERNET)).then(|| told);
+                return (link == u64::from(ETHERNET)).then_some(told);
             }
         }
     }

@@ -373,7 +373,7 @@ fn rtp_beginnings() -> Vec<Frame> {
         rtp_version: byte >> 5,
         contributors: byte & 15,
         contributor_bytes: 4 * usize::from(byte & 15),
-        extension: (byte & 16 != 0).then(|| (1, 4)),
+        extension: (byte & 16 != 0).then_some((1, 4)),
         ..numbered(usize::from(byte))
     });
     all.collect()
