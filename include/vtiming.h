@@ -20,9 +20,9 @@
  *
  * What comes back. Each function returns 0 where it has done its work, or the number by which it refuses. A refused call
  * writes nothing at all. An accepted call writes at the front of what was lent, and what lies after it stays as it was.
- * The two functions that can refuse at a place have a twin that takes the same input, writes nothing and returns that
+ * The three functions that can refuse at a place have a twin that takes the same input, writes nothing and returns that
  * place; it returns 0 for an accepted call, and also where the place is 0, so ask the number first. vtiming_measure_room
- * writes nothing either, and returns a number of bytes.
+ * and vtiming_capture_room write nothing either, and return a number of bytes.
  *
  * The numbers, which vtiming_refusal below names:
  *
@@ -46,6 +46,10 @@
  *   22  a record is of an unknown kind, or its length is wrong        the file was damaged there, or is another format
  *   23  the parameters do not come first, or come again               one parameter record, then packets only
  *   24  too few bytes were lent to the writer                         lend 19 + 16 for each packet
+ *   30  no classic pcap of Ethernet, or shorter than its header       save the capture as classic pcap
+ *   31  a capture record is cut short                                 the capture was cut off, or was damaged there
+ *   32  a sub-second field is one second or more                      the capture was damaged there
+ *   33  the offset is above 99 s                                      37 is TAI less UTC; 0 where the clock is TAI already
  *
  * 9, a state out of its range, cannot come out of these functions: no state crosses this border.
  *
@@ -79,6 +83,10 @@ extern "C" {
 #define VTIMING_ROW_BYTES 88
 #define VTIMING_ENOUGH_BYTES(file_len) ((size_t)6 * (file_len))
 
+/* The same of vtiming_capture, whose summary has two numbers more; its rows have the same size. */
+#define VTIMING_CAPTURE_SUMMARY_BYTES 88
+#define VTIMING_CAPTURE_SUMMARY_NUMBERS 11
+
 /* How many numbers stand in front of the rows, and how many a row has: number j of row r, both from 0, is number
  * VTIMING_SUMMARY_NUMBERS + VTIMING_ROW_NUMBERS * r + j of the answer. */
 #define VTIMING_SUMMARY_NUMBERS 9
@@ -110,7 +118,11 @@ enum vtiming_refusal {
     VTIMING_REFUSED_CUT = 21,
     VTIMING_REFUSED_KIND = 22,
     VTIMING_REFUSED_PARAMETERS = 23,
-    VTIMING_REFUSED_WRITE_ROOM = 24
+    VTIMING_REFUSED_WRITE_ROOM = 24,
+    VTIMING_REFUSED_CAPTURE = 30,
+    VTIMING_REFUSED_CAPTURE_CUT = 31,
+    VTIMING_REFUSED_SUBSECOND = 32,
+    VTIMING_REFUSED_OFFSET = 33
 };
 
 /* The kind of a frame: number 1 of its row. */
@@ -175,6 +187,41 @@ uint64_t vtiming_measure_offset(const uint8_t *file, size_t file_len, size_t out
  * and 88 for each frame that closes; one byte fewer would be refused by 15. It is 0 for a file that vtiming_measure refuses
  * whatever is lent, by 20 to 23, 1 to 7 or 11 to 14. */
 uint64_t vtiming_measure_room(const uint8_t *file, size_t file_len);
+
+/* Measures a whole capture: classic pcap of Ethernet, in microseconds or nanoseconds, in either byte order.
+ *
+ *   capture, capture_len  the capture's bytes, all of them
+ *   port             the UDP port that the stream is sent to
+ *   offset           whole seconds from the capture's clock to the SMPTE epoch, 0 to 99, added to each arrival
+ *   rate to tro      the seven numbers of the stream, as vtiming_write takes them
+ *   out, out_len     room for the answer: 88 bytes and 88 for each frame that closes; vtiming_capture_room says how many
+ *
+ * A frame is handed on where all of its headers were captured: Ethernet, with at most one tag of type 8100; IPv4, no fragment;
+ * UDP to that port; RTP of version 2 with its contributors and its extension. Every other frame is skipped and counted.
+ *
+ * The answer is that of vtiming_measure for the packets handed on, with two numbers more before the rows:
+ *
+ *   9  records       how many the capture has
+ *   10 skipped       how many of them were skipped; records less skipped are the packets
+ *
+ * so number j of row r is 11 + 11·r + j of all, and the place in a row counts the packets handed on.
+ *
+ * Refuses by 1 to 7, 33, 30, then record by record 31, 32 and 12 to 14 of the packet handed on, and by 15 after all else. */
+uint32_t vtiming_capture(const uint8_t *capture, size_t capture_len, uint16_t port, uint32_t offset, uint8_t rate,
+                         uint8_t schedule, uint8_t stream_class, uint16_t height, uint32_t packets_per_frame, uint16_t maxudp,
+                         uint32_t tro, uint8_t *out, size_t out_len);
+
+/* The twin of vtiming_capture, given how much room there would be: for 31 and 32 the capture record, from 0; for 12 to 14 the
+ * packet's place among those handed on, from 0; else 0. */
+uint64_t vtiming_capture_place(const uint8_t *capture, size_t capture_len, uint16_t port, uint32_t offset, uint8_t rate,
+                               uint8_t schedule, uint8_t stream_class, uint16_t height, uint32_t packets_per_frame,
+                               uint16_t maxudp, uint32_t tro, size_t out_len);
+
+/* How many bytes vtiming_capture fills for this capture: 88 and 88 for each frame that closes. It is 0 where vtiming_capture
+ * refuses whatever is lent. */
+uint64_t vtiming_capture_room(const uint8_t *capture, size_t capture_len, uint16_t port, uint32_t offset, uint8_t rate,
+                              uint8_t schedule, uint8_t stream_class, uint16_t height, uint32_t packets_per_frame,
+                              uint16_t maxudp, uint32_t tro);
 
 /* Number k, from 0, of what vtiming_measure has filled; k is below 9 + 11·frames. It is C of this header, and is tried but
  * not proved. */
