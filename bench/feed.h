@@ -47,9 +47,9 @@ extern measure_function kit_twin_measure; /* twin.c, by the compiler that made l
 typedef uint32_t capture_function(const uint8_t *capture, size_t size, uint16_t port, uint32_t offset, uint8_t rate, uint8_t schedule,
                                   uint8_t class, uint16_t height, uint32_t n, uint16_t maxudp, uint32_t tro, uint8_t *out, size_t room);
 
-extern capture_function vtiming_capture;    /* the proved code, from libreport.a */
+extern capture_function vtiming_capture;    /* the proved code, from libfilm.a */
 extern capture_function walker_capture;     /* walker.c, by the system's compiler */
-extern capture_function kit_walker_capture; /* walker.c, by the compiler that made libreport.a */
+extern capture_function kit_walker_capture; /* walker.c, by the compiler that made libfilm.a */
 
 /* libpcap.c: the same answer for a file on disk, by libpcap's walk over it and the twin. It takes sound captures only, and is
    NO_LIBPCAP where the bench was compiled without. */

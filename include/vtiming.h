@@ -1,8 +1,9 @@
 /* vtiming: packet timing of one progressive ST 2110-20 video stream, for a host written in C or C++.
  *
- * Link with libvtiming.a of the package (`pkg-config --cflags --libs vtiming`), or with the same archive as `rt staticlib
- * report` makes it, target/staticlib/libreport.a (x86-64 Linux). It needs no other library and calls no function of the
- * host. The manual, MANUAL.md, says what the measured numbers mean for a station.
+ * Link with libvtiming.a of the package (`pkg-config --cflags --libs vtiming`), or with the archives as `rt staticlib report`
+ * and `rt staticlib film` make them, target/staticlib/libreport.a and libfilm.a, which has the functions of captures (x86-64
+ * Linux). They need no other library and call no function of the host. The manual, MANUAL.md, says what the measured numbers
+ * mean for a station.
  *
  * What is lent. Every pointer is lent for the length of the call and no longer: nothing is kept, nothing is allocated,
  * nothing is freed. Each pointer comes with its length, counted in elements of its type; where the length is 0 the pointer
@@ -20,9 +21,9 @@
  *
  * What comes back. Each function returns 0 where it has done its work, or the number by which it refuses. A refused call
  * writes nothing at all. An accepted call writes at the front of what was lent, and what lies after it stays as it was.
- * The two functions that can refuse at a place have a twin that takes the same input, writes nothing and returns that
+ * The three functions that can refuse at a place have a twin that takes the same input, writes nothing and returns that
  * place; it returns 0 for an accepted call, and also where the place is 0, so ask the number first. vtiming_measure_room
- * writes nothing either, and returns a number of bytes.
+ * and vtiming_capture_room write nothing either, and return a number of bytes.
  *
  * The numbers, which vtiming_refusal below names:
  *
@@ -46,6 +47,10 @@
  *   22  a record is of an unknown kind, or its length is wrong        the file was damaged there, or is another format
  *   23  the parameters do not come first, or come again               one parameter record, then packets only
  *   24  too few bytes were lent to the writer                         lend 19 + 16 for each packet
+ *   30  this is no classic pcap of Ethernet, or is below 24 bytes     save the capture as classic pcap (editcap -F nsecpcap)
+ *   31  a capture record is cut short                                 the capture was cut off, or was damaged there
+ *   32  a record's part of a second is a second or more               the capture was damaged there
+ *   33  the offset is above 99                                        37 for a capture clock of UTC, 0 for one of TAI
  *
  * 9, a state out of its range, cannot come out of these functions: no state crosses this border.
  *
@@ -63,9 +68,9 @@ extern "C" {
 #endif
 
 /* The version of this header and of the archive that it belongs to. */
-#define VTIMING_VERSION "2.1.0"
+#define VTIMING_VERSION "2.2.0"
 #define VTIMING_VERSION_MAJOR 2
-#define VTIMING_VERSION_MINOR 1
+#define VTIMING_VERSION_MINOR 2
 #define VTIMING_VERSION_PATCH 0
 
 /* A TRO of all ones stands for the default: 43F/1125 from height 1080 on, 28F/750 below. */
@@ -83,6 +88,10 @@ extern "C" {
  * VTIMING_SUMMARY_NUMBERS + VTIMING_ROW_NUMBERS * r + j of the answer. */
 #define VTIMING_SUMMARY_NUMBERS 9
 #define VTIMING_ROW_NUMBERS 11
+
+/* The same for vtiming_capture, which has two numbers more in front of the rows; vtiming_capture_room adds up the bytes. */
+#define VTIMING_CAPTURE_SUMMARY_BYTES 88
+#define VTIMING_CAPTURE_SUMMARY_NUMBERS 11
 
 /* Room for vtiming_write: version and parameters, and a record for each packet. */
 #define VTIMING_HEAD_BYTES 19
@@ -110,7 +119,11 @@ enum vtiming_refusal {
     VTIMING_REFUSED_CUT = 21,
     VTIMING_REFUSED_KIND = 22,
     VTIMING_REFUSED_PARAMETERS = 23,
-    VTIMING_REFUSED_WRITE_ROOM = 24
+    VTIMING_REFUSED_WRITE_ROOM = 24,
+    VTIMING_REFUSED_CAPTURE = 30,
+    VTIMING_REFUSED_CAPTURE_CUT = 31,
+    VTIMING_REFUSED_SUBSECOND = 32,
+    VTIMING_REFUSED_OFFSET = 33
 };
 
 /* The kind of a frame: number 1 of its row. */
@@ -121,7 +134,7 @@ enum vtiming_frame_kind {
     VTIMING_FRAME_STAMP = 3
 };
 
-/* The network answer: number 3 of what vtiming_measure fills. */
+/* The network answer: number 3 of what vtiming_measure and vtiming_capture fill. */
 enum vtiming_network_answer {
     VTIMING_NETWORK_PASS = 0,
     VTIMING_NETWORK_BURST = 1
@@ -176,8 +189,52 @@ uint64_t vtiming_measure_offset(const uint8_t *file, size_t file_len, size_t out
  * whatever is lent, by 20 to 23, 1 to 7 or 11 to 14. */
 uint64_t vtiming_measure_room(const uint8_t *file, size_t file_len);
 
-/* Number k, from 0, of what vtiming_measure has filled; k is below 9 + 11·frames. It is C of this header, and is tried but
- * not proved. */
+/* Measures one stream of a whole network capture: classic pcap, in microseconds or nanoseconds, in either byte order, of
+ * Ethernet.
+ *
+ *   capture, capture_len  the capture's bytes, all of them
+ *   port             the UDP port that the stream is sent to
+ *   offset           whole seconds, 0 to 99, that are added to each time of the capture so that it counts from the SMPTE
+ *                    epoch: 37 for a clock that shows UTC (since 2017), 0 for one that shows TAI
+ *   rate to tro      the seven numbers of the stream, as vtiming_write has them
+ *   out, out_len     room for the answer: 88 bytes and 88 for each frame that closes; vtiming_capture_room says how many
+ *
+ * A frame of the capture is a packet of the stream where its captured bytes hold all of these: Ethernet's header with type
+ * 0800, or with one tag of type 8100 and then 0800; IPv4, options too, that is no fragment and carries UDP; UDP's header with
+ * that destination port; RTP's header with version 2, its contributors and its extension. The captured bytes alone decide:
+ * lengths of IP and UDP, checksums, addresses, payload type, sequence number, SSRC and padding are not read. So RTCP of
+ * version 2 on the port is taken for a packet, and so is a keep-alive of nothing but padding. Every other frame is skipped.
+ *
+ * The answer is as vtiming_measure has it of the stream's packets, with two numbers more in front of the rows:
+ *
+ *   0 to 8           as of vtiming_measure
+ *   9  records       how many records the capture has
+ *   10 skipped       how many of them are no packets of the stream; records less skipped is number 0
+ *
+ * So number j of row r is 11 + 11·r + j of all. Packets are counted among those of the stream, from 0, and not among the
+ * records: a row's last number too.
+ *
+ * Refuses by 1 to 7; then by 33, also where the capture is empty; by 30; record by record by 31, 32 (of skipped records too)
+ * and 12 to 14; and by 15 after all else. 11 cannot come: the marker is one bit. A capture of no record, or of skipped ones
+ * only, is accepted. */
+uint32_t vtiming_capture(const uint8_t *capture, size_t capture_len, uint16_t port, uint32_t offset, uint8_t rate,
+                         uint8_t schedule, uint8_t stream_class, uint16_t height, uint32_t packets_per_frame,
+                         uint16_t maxudp, uint32_t tro, uint8_t *out, size_t out_len);
+
+/* The twin of vtiming_capture, given how much room there would be: for 31 and 32 the record of the capture, from 0; for 12 to
+ * 14 the packet of the stream, from 0; else 0, for 15 too. */
+uint64_t vtiming_capture_place(const uint8_t *capture, size_t capture_len, uint16_t port, uint32_t offset, uint8_t rate,
+                               uint8_t schedule, uint8_t stream_class, uint16_t height, uint32_t packets_per_frame,
+                               uint16_t maxudp, uint32_t tro, size_t out_len);
+
+/* How many bytes vtiming_capture fills for this capture and these numbers: 88 and 88 for each frame that closes; one byte
+ * fewer would be refused by 15. It is 0 for a capture that vtiming_capture refuses whatever is lent. */
+uint64_t vtiming_capture_room(const uint8_t *capture, size_t capture_len, uint16_t port, uint32_t offset, uint8_t rate,
+                              uint8_t schedule, uint8_t stream_class, uint16_t height, uint32_t packets_per_frame,
+                              uint16_t maxudp, uint32_t tro);
+
+/* Number k, from 0, of what vtiming_measure or vtiming_capture has filled; k is below 9 + 11·frames, or 11 + 11·frames. It is
+ * C of this header, and is tried but not proved. */
 static inline int64_t vtiming_number(const uint8_t *answer, size_t k)
 {
     const uint8_t *bytes = answer + 8 * k;

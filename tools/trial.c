@@ -17,7 +17,7 @@ enum { LONGEST = 65536 };
         }                                                           \
     } while (0)
 
-/* The number that document 01 gives to each refusal, by its name in the header. */
+/* The number that documents 01 and 02 give to each refusal, by its name in the header. */
 static const char *refusal(uint32_t number)
 {
     switch (number) {
@@ -36,10 +36,10 @@ static const char *refusal(uint32_t number)
     case VTIMING_REFUSED_CUT: return "21";
     case VTIMING_REFUSED_KIND: return "22";
     case VTIMING_REFUSED_PARAMETERS: return "23";
-    case 30: return "30";
-    case 31: return "31";
-    case 32: return "32";
-    case 33: return "33";
+    case VTIMING_REFUSED_CAPTURE: return "30";
+    case VTIMING_REFUSED_CAPTURE_CUT: return "31";
+    case VTIMING_REFUSED_SUBSECOND: return "32";
+    case VTIMING_REFUSED_OFFSET: return "33";
     default: return "by a number that no file brings about";
     }
 }
@@ -104,21 +104,24 @@ static int put_file(const uint8_t *file, size_t size)
 /* The stream of the example captures: 1080p50, gapped, narrow, eight packets a frame, captured by a clock that shows UTC. */
 static int put_capture(const uint8_t *capture, size_t size)
 {
-    enum { PORT = 20000, OFFSET = 37, NUMBERS = 11, ROOM = 8 * NUMBERS + 8 * VTIMING_ROW_BYTES };
+    enum { PORT = 20000, OFFSET = 37, ROOM = VTIMING_CAPTURE_SUMMARY_BYTES + 8 * VTIMING_ROW_BYTES };
     static uint8_t answer[ROOM];
     uint32_t refused = vtiming_capture(capture, size, PORT, OFFSET, 6, 0, 1, 1080, 8, 1460, VTIMING_DEFAULT_TRO, answer, ROOM);
+    size_t room = (size_t)vtiming_capture_room(capture, size, PORT, OFFSET, 6, 0, 1, 1080, 8, 1460, VTIMING_DEFAULT_TRO);
     if (refused != VTIMING_ACCEPTED) {
+        TRY(room == 0);
         printf("refused %s %" PRIu64 "\n", refusal(refused),
                vtiming_capture_place(capture, size, PORT, OFFSET, 6, 0, 1, 1080, 8, 1460, VTIMING_DEFAULT_TRO, ROOM));
         return 0;
     }
     /* One byte less than the answer is too little, and so is an offset above 99, whatever the capture. */
-    size_t least = 8 * NUMBERS + VTIMING_ROW_BYTES * (size_t)vtiming_number(answer, 1);
-    TRY(vtiming_capture(capture, size, PORT, OFFSET, 6, 0, 1, 1080, 8, 1460, VTIMING_DEFAULT_TRO, answer, least - 1) ==
+    TRY(room == VTIMING_CAPTURE_SUMMARY_BYTES + VTIMING_ROW_BYTES * (size_t)vtiming_number(answer, 1));
+    TRY(vtiming_capture(capture, size, PORT, OFFSET, 6, 0, 1, 1080, 8, 1460, VTIMING_DEFAULT_TRO, answer, room - 1) ==
         VTIMING_REFUSED_ROOM);
-    TRY(vtiming_capture(capture, size, PORT, 100, 6, 0, 1, 1080, 8, 1460, VTIMING_DEFAULT_TRO, answer, ROOM) == 33);
+    TRY(vtiming_capture(capture, size, PORT, 100, 6, 0, 1, 1080, 8, 1460, VTIMING_DEFAULT_TRO, answer, ROOM) ==
+        VTIMING_REFUSED_OFFSET);
     TRY(vtiming_number(answer, 0) + vtiming_number(answer, 10) == vtiming_number(answer, 9));
-    put_answer(answer, NUMBERS);
+    put_answer(answer, VTIMING_CAPTURE_SUMMARY_NUMBERS);
     printf(" records %" PRId64 " skipped %" PRId64 "\n", vtiming_number(answer, 9), vtiming_number(answer, 10));
     return 0;
 }

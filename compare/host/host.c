@@ -20,14 +20,17 @@
 #include <sys/mman.h>
 #include <unistd.h>
 
-enum { MEASURE = 1, WRITE, LIMITS, GRAPH, SET_UP, FEED, CALLS };
+enum { MEASURE = 1, WRITE, LIMITS, GRAPH, SET_UP, FEED, CAPTURE, CALLS };
 enum { ARRIVALS, STAMPS, MARKERS, FILE_BYTES, OUT, STATE, ROWS, AREAS };
 enum { LARGEST_PAGE = 1 << 16, GUARD = 256, MOST_LENT = 1 << 22, SECONDS = 100 };
-enum { SUMMARY_BYTES = 9 * 8, ROW_BYTES = 11 * 8 };
-_Static_assert(SUMMARY_BYTES == VTIMING_SUMMARY_BYTES && ROW_BYTES == VTIMING_ROW_BYTES, "the header has other sizes");
+enum { SUMMARY_BYTES = 9 * 8, CAPTURE_SUMMARY_BYTES = 11 * 8, ROW_BYTES = 11 * 8 };
+_Static_assert(SUMMARY_BYTES == VTIMING_SUMMARY_BYTES && ROW_BYTES == VTIMING_ROW_BYTES &&
+                   CAPTURE_SUMMARY_BYTES == VTIMING_CAPTURE_SUMMARY_BYTES,
+               "the header has other sizes");
+enum { NUMBERS = 34 }; /* refusals are 1 to 33 */
 
 static const char *const call_names[CALLS] = {"",              "vtiming_measure", "vtiming_write", "vtiming_limits",
-                                              "vtiming_graph", "vtiming_set_up",  "vtiming_feed"};
+                                              "vtiming_graph", "vtiming_set_up",  "vtiming_feed",  "vtiming_capture"};
 
 /* --- what a case says --- */
 
@@ -47,6 +50,9 @@ struct numbers {
     uint32_t packets_per_frame, tro;
 };
 
+/* As the functions take them. */
+#define SEVEN(n) (n)->rate, (n)->schedule, (n)->stream_class, (n)->height, (n)->packets_per_frame, (n)->maxudp, (n)->tro
+
 /* One call of a row of them. */
 struct feed {
     int anew;
@@ -62,7 +68,10 @@ static struct {
     size_t raw_size, room_size;
     uint64_t index;
     int call;
-    struct bytes file;
+    struct bytes file; /* a record file, or a capture */
+    uint16_t port;
+    uint32_t offset;
+    unsigned parts; /* bits: what some frame that is handed on has */
     struct numbers numbers;
     uint64_t *arrivals;
     uint32_t *stamps;
@@ -97,6 +106,16 @@ static void show_numbers(void) {
            n->stream_class, n->height, n->packets_per_frame, n->maxudp, n->tro);
 }
 
+/* The capture, and the nine words that the reference program is asked with. */
+static void keep_capture(void) {
+    const struct numbers *n = &now.numbers;
+    char words[128];
+    int count = snprintf(words, sizeof words, "%u %" PRIu32 " %u %u %u %u %" PRIu32 " %u %" PRIu32 "\n", now.port, now.offset,
+                         n->rate, n->schedule, n->stream_class, n->height, n->packets_per_frame, n->maxudp, n->tro);
+    keep("first.pcap", now.file.at, now.file.count);
+    keep("first.words", (const uint8_t *)words, (size_t)count);
+}
+
 static uint64_t big_endian(const uint8_t *bytes, int count) {
     uint64_t number = 0;
     for (int i = 0; i < count; i++) number = number << 8 | bytes[i];
@@ -125,6 +144,7 @@ static _Noreturn void differs(const char *format, ...) {
     printf("\n");
     va_end(rest);
     if (now.call == WRITE || now.call == LIMITS || now.call >= SET_UP) show_numbers();
+    if (now.call == CAPTURE) printf("  port %u, offset %" PRIu32 "\n", now.port, now.offset);
     if (now.call == WRITE || now.call == FEED)
         printf("  %zu arrivals, %zu stamps, %zu markers\n", now.arrival_count, now.stamp_count, now.markers.count);
     if (now.call == FEED) show_feed();
@@ -132,6 +152,7 @@ static _Noreturn void differs(const char *format, ...) {
         printf("  FPT %" PRId64 ", margin %" PRId64 ", VL %" PRId64 "\n", now.figures[0], now.figures[1], now.figures[2]);
     keep("first.case", now.raw, now.raw_size);
     if (now.call == MEASURE) keep("first.rec", now.file.at, now.file.count);
+    if (now.call == CAPTURE) keep_capture();
     fflush(stdout);
     _exit(1);
 }
@@ -202,19 +223,31 @@ static void *pointer(const struct lent *lent) { return lent->size == 0 && (turn 
 
 /* --- what was seen --- */
 
-static uint64_t cases[CALLS], calls_made, seen[CALLS][25], kinds[4], networks[2], buffers[4], accepted_room[2], refused_room[3];
-static uint64_t placed_broken, round_trips, cuttings, large_rooms;
+static uint64_t cases[CALLS], calls_made, seen[CALLS][NUMBERS], accepted_room[2], refused_room[3];
+static uint64_t round_trips, cuttings, large_rooms, with_skipped, with_part[4];
 
-static void count_answer(struct bytes answer) {
+/* What the answers said, of files and of captures. */
+static struct said {
+    uint64_t kinds[4], networks[2], buffers[4], placed_broken;
+} of_files, of_captures;
+
+/* The summary's size is where the rows begin. */
+static void count_answer(struct said *said, struct bytes answer, size_t summary) {
     uint64_t frames = big_endian(answer.at + 8, 8);
-    networks[big_endian(answer.at + 24, 8) & 1]++;
-    buffers[big_endian(answer.at + 48, 8) & 3]++;
+    said->networks[big_endian(answer.at + 24, 8) & 1]++;
+    said->buffers[big_endian(answer.at + 48, 8) & 3]++;
     for (uint64_t i = 0; i < frames; i++) {
-        const uint8_t *row = answer.at + SUMMARY_BYTES + ROW_BYTES * i;
+        const uint8_t *row = answer.at + summary + ROW_BYTES * i;
         uint64_t kind = big_endian(row + 8, 8) & 3, place = big_endian(row + 80, 8);
-        kinds[kind]++;
-        placed_broken += kind > 0 && place > 0;
+        said->kinds[kind]++;
+        said->placed_broken += kind > 0 && place > 0;
     }
+}
+
+static void count_capture(struct bytes answer) {
+    count_answer(&of_captures, answer, CAPTURE_SUMMARY_BYTES);
+    with_skipped += big_endian(answer.at + 80, 8) > 0;
+    for (int i = 0; i < 4; i++) with_part[i] += now.parts >> i & 1;
 }
 
 static void count_room(const struct room *room, uint64_t needed) {
@@ -257,15 +290,13 @@ static void write_file(const struct room *room, int fill) {
     struct lent markers = lend(MARKERS, now.markers.count, now.markers.at, fill);
     struct lent out = lend(OUT, room->lent, NULL, fill);
     at_step = "vtiming_write";
-    answers(vtiming_write(n->rate, n->schedule, n->stream_class, n->height, n->packets_per_frame, n->maxudp, n->tro,
-                          pointer(&arrivals), now.arrival_count, pointer(&stamps), now.stamp_count, pointer(&markers),
+    answers(vtiming_write(SEVEN(n), pointer(&arrivals), now.arrival_count, pointer(&stamps), now.stamp_count, pointer(&markers),
                           now.markers.count, pointer(&out), out.size),
             room->number, "number");
     room_holds(&out, room->number ? (struct bytes){NULL, 0} : now.filled);
     at_step = "vtiming_write_place";
-    answers(vtiming_write_place(n->rate, n->schedule, n->stream_class, n->height, n->packets_per_frame, n->maxudp, n->tro,
-                                pointer(&arrivals), now.arrival_count, pointer(&stamps), now.stamp_count, pointer(&markers),
-                                now.markers.count, out.size),
+    answers(vtiming_write_place(SEVEN(n), pointer(&arrivals), now.arrival_count, pointer(&stamps), now.stamp_count,
+                                pointer(&markers), now.markers.count, out.size),
             room->place, "place");
     unchanged(&arrivals, now.arrivals, "the arrivals");
     unchanged(&stamps, now.stamps, "the timestamps");
@@ -279,14 +310,24 @@ static void write_file(const struct room *room, int fill) {
     }
 }
 
+static void capture(const struct room *room, int fill) {
+    const struct numbers *n = &now.numbers;
+    struct lent in = lend(FILE_BYTES, now.file.count, now.file.at, fill), out = lend(OUT, room->lent, NULL, fill);
+    at_step = "vtiming_capture";
+    answers(vtiming_capture(pointer(&in), in.size, now.port, now.offset, SEVEN(n), pointer(&out), out.size), room->number,
+            "number");
+    room_holds(&out, room->number ? (struct bytes){NULL, 0} : now.filled);
+    at_step = "vtiming_capture_place";
+    answers(vtiming_capture_place(pointer(&in), in.size, now.port, now.offset, SEVEN(n), out.size), room->place, "place");
+    unchanged(&in, now.file.at, "the capture");
+}
+
 static void limits(const struct room *room, int fill) {
     const struct numbers *n = &now.numbers;
     uint8_t wanted[64];
     struct lent out = lend(OUT, 8 * room->lent, NULL, fill);
     at_step = "vtiming_limits";
-    answers(vtiming_limits(n->rate, n->schedule, n->stream_class, n->height, n->packets_per_frame, n->maxudp, n->tro,
-                           pointer(&out), room->lent),
-            room->number, "number");
+    answers(vtiming_limits(SEVEN(n), pointer(&out), room->lent), room->number, "number");
     room_holds(&out, room->number ? (struct bytes){NULL, 0} : turned_round(now.filled, wanted));
 }
 
@@ -319,8 +360,7 @@ static const int summary_words[9] = {PACKETS, 17, 12, 13, 14, 15, 29, 30, 31};
 static uint32_t call_set_up(const struct lent *state) {
     const struct numbers *n = &now.numbers;
     at_step = "vtiming_set_up";
-    return vtiming_set_up(n->rate, n->schedule, n->stream_class, n->height, n->packets_per_frame, n->maxudp, n->tro,
-                          pointer(state), state->size / 8);
+    return vtiming_set_up(SEVEN(n), pointer(state), state->size / 8);
 }
 
 /* What stands in the words is the library's own, but for the seven numbers; it may not depend on what stood there. */
@@ -433,10 +473,19 @@ static void ample_rooms(int fill) {
         struct lent markers = lend(MARKERS, now.markers.count, now.markers.at, fill);
         at_step = "vtiming_write_place";
         for (size_t i = 0; i < LARGE_ROOMS; i++, large_rooms++)
-            answers(vtiming_write_place(n->rate, n->schedule, n->stream_class, n->height, n->packets_per_frame, n->maxudp, n->tro,
-                                        pointer(&arrivals), now.arrival_count, pointer(&stamps), now.stamp_count,
+            answers(vtiming_write_place(SEVEN(n), pointer(&arrivals), now.arrival_count, pointer(&stamps), now.stamp_count,
                                         pointer(&markers), now.markers.count, large[i]),
                     wanted, "place with ample room");
+    } else if (now.call == CAPTURE) {
+        struct lent in = lend(FILE_BYTES, now.file.count, now.file.at, fill);
+        at_step = "vtiming_capture_place";
+        for (size_t i = 0; i < LARGE_ROOMS; i++, large_rooms++)
+            answers(vtiming_capture_place(pointer(&in), in.size, now.port, now.offset, SEVEN(n), large[i]), wanted,
+                    "place with ample room");
+        at_step = "vtiming_capture_room";
+        answers(vtiming_capture_room(pointer(&in), in.size, now.port, now.offset, SEVEN(n)), now.filled.count,
+                "room for the answer");
+        unchanged(&in, now.file.at, "the capture");
     }
 }
 
@@ -447,6 +496,7 @@ static void try_room(const struct room *room, int fill) {
     case LIMITS: limits(room, fill); break;
     case GRAPH: graph(room, fill); break;
     case SET_UP: set_up(room, fill); break;
+    case CAPTURE: capture(room, fill); break;
     }
 }
 
@@ -474,7 +524,7 @@ static void try_feeds(const int *fills, int times) {
             memcpy(once, after, sizeof once);
         }
         turn += turn >> 2 & 1;
-        seen[FEED][f->answer.number < 25 ? f->answer.number : 0]++;
+        seen[FEED][f->answer.number < NUMBERS ? f->answer.number : 0]++;
         if (!f->answer.number && !f->change_count) go_on(after);
     }
 }
@@ -491,12 +541,13 @@ static void try_case(void) {
         const struct room *room = &now.rooms[at_room];
         for (int i = 0; i < times; i++, turn++) try_room(room, fills[turn & 1]);
         turn += turn >> 2 & 1; /* so that neither rooms nor cases keep to one edge, or to one pointer */
-        seen[now.call][room->number < 25 ? room->number : 0]++;
+        seen[now.call][room->number < NUMBERS ? room->number : 0]++;
         count_room(room, room_needed());
     }
     ample_rooms(fills[turn & 1]);
     if (now.call == FEED) try_feeds(fills, times);
-    if (now.call == MEASURE && now.filled.count) count_answer(now.filled);
+    if (now.call == MEASURE && now.filled.count) count_answer(&of_files, now.filled, SUMMARY_BYTES);
+    if (now.call == CAPTURE && now.filled.count) count_capture(now.filled);
     at_step = "reading";
 }
 
@@ -526,6 +577,14 @@ static void take_numbers(void) {
     n->packets_per_frame = take_number(4);
     n->maxudp = take_number(2);
     n->tro = take_number(4);
+}
+
+static void take_capture(void) {
+    take_numbers();
+    now.port = take_number(2);
+    now.offset = take_number(4);
+    now.file = take_bytes(take_number(4));
+    now.parts = take_number(1);
 }
 
 static void take_lists(void) {
@@ -592,6 +651,7 @@ static int next_case(void) {
     case GRAPH:
         for (int i = 0; i < 3; i++) now.figures[i] = (int64_t)take_number(8);
         break;
+    case CAPTURE: take_capture(); break;
     case FEED: take_numbers(), now.feed_count = take_number(4); return 1; /* each call is taken in its turn */
     default: fprintf(stderr, "host: a case of no known call\n"), exit(2);
     }
@@ -619,6 +679,16 @@ static void tell_numbers(int call, const char *needed) {
     printf("\n");
 }
 
+static void tell_answers(const char *what, const struct said *said) {
+    printf("  rows of %s:", what);
+    told("whole", said->kinds[0]), told("short", said->kinds[1]), told("long", said->kinds[2]), told("stamp", said->kinds[3]);
+    told("broken with its first packet's place", said->placed_broken);
+    printf("\n    network:"), told("pass", said->networks[0]), told("burst", said->networks[1]);
+    printf("; buffer:"), told("none", said->buffers[0]), told("pass", said->buffers[1]);
+    told("under", said->buffers[2]), told("over", said->buffers[3]);
+    printf("\n");
+}
+
 static int tell(void) {
     uint64_t inputs = 0;
     for (int i = MEASURE; i < CALLS; i++) inputs += cases[i];
@@ -629,10 +699,12 @@ static int tell(void) {
     tell_numbers(GRAPH, "0 15 16");
     tell_numbers(SET_UP, "0 1 2 3 4 5 6 7 15");
     tell_numbers(FEED, "0 9 10 11 12 13 14 15");
-    printf("  rows:"), told("whole", kinds[0]), told("short", kinds[1]), told("long", kinds[2]), told("stamp", kinds[3]);
-    told("broken with its first packet's place", placed_broken);
-    printf("\n  network:"), told("pass", networks[0]), told("burst", networks[1]);
-    printf("; buffer:"), told("none", buffers[0]), told("pass", buffers[1]), told("under", buffers[2]), told("over", buffers[3]);
+    tell_numbers(CAPTURE, "0 1 2 3 4 5 6 7 12 13 15 30 31 32 33");
+    tell_answers("files", &of_files);
+    tell_answers("captures", &of_captures);
+    printf("  captures that"), told("skip a frame", with_skipped);
+    printf("; that hand on a frame with"), told("a tag", with_part[0]), told("options", with_part[1]);
+    told("contributors", with_part[2]), told("an extension", with_part[3]);
     printf("\n  rooms:"), told("exact", accepted_room[0]), told("larger", accepted_room[1]), told("one short", refused_room[1]);
     told("shorter", refused_room[2]), told("none", refused_room[0]);
     told("near the greatest size", large_rooms);

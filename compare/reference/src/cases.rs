@@ -14,6 +14,9 @@
 //!   3 limits:  seven numbers (15)
 //!   4 graph:   three figures (8 each)
 //!   5 set-up:  seven numbers (15)
+//!   7 capture: seven numbers (15), port (2), offset (4), length (4), capture,
+//!              and which parts the frames have that it hands on (1): 1 a tag,
+//!              2 options, 4 contributors, 8 an extension
 //!
 //! and the rooms: count (1), for each elements lent (8), number (1) and place
 //! (8); then length (4) and bytes of what an accepted call writes, and for
@@ -30,7 +33,9 @@
 //!              number is 0, the summary (9 of 8) and the row numbers written,
 //!              counted (4), 8 each
 
+use crate::capture::{expected_capture_call, parts_seen, Asked};
 use crate::feed::{cut_everywhere, dealt, ranges_after, Feed, Lists};
+use crate::fixed_captures::fixed_captures;
 use crate::generate::{damaged, file, front, random_bytes};
 use crate::graph::graph;
 use crate::numbers::{set_up, Numbers};
@@ -40,6 +45,7 @@ use crate::random::Random;
 use crate::ranges::STATE_WORDS;
 use crate::record::{parameters_body, write, writer};
 use crate::stream::{accepted_numbers, limit_numbers, refused_numbers, stream};
+use crate::traffic::capture;
 
 /// What is called, and with what.
 #[derive(Clone, Debug, PartialEq)]
@@ -62,10 +68,14 @@ pub enum Call {
         numbers: Numbers,
         calls: Vec<Feed>,
     },
+    Capture {
+        asked: Asked,
+        bytes: Vec<u8>,
+    },
 }
 
-/// The answer where so many elements are lent: bytes for `measure` and
-/// `write`, numbers for `limits`, doubles for `graph`, words for set-up.
+/// The answer where so many elements are lent: bytes for `measure`, `write` and
+/// `capture`, numbers for `limits`, doubles for `graph`, words for set-up.
 #[derive(Clone, Copy, Debug, PartialEq, Eq)]
 pub struct Room {
     pub lent: u64,
@@ -88,13 +98,17 @@ pub fn case(seed: u64, index: u64) -> Case {
     // The files of `generate` depend on seed and number too; the other cases
     // must not repeat their choices.
     let mut random = Random::new(seed ^ 0x6361_7365, index);
-    let call = match index % 20 {
+    let call = match index % 30 {
         0..=11 => Call::Measure(file(seed, index)),
         12..=15 => lists(&mut random),
-        16 if index % 40 < 20 => Call::Limits(any_numbers(&mut random)),
+        16 if index % 60 < 30 => Call::Limits(any_numbers(&mut random)),
         16 => Call::SetUp(any_numbers(&mut random)),
         17..=18 => fed(&mut random),
-        _ => figures(&mut random),
+        19 => figures(&mut random),
+        _ => {
+            let (asked, bytes) = capture(seed, index);
+            Call::Capture { asked, bytes }
+        }
     };
     answered(&mut random, call)
 }
@@ -117,13 +131,15 @@ fn answered(random: &mut Random, call: Call) -> Case {
 
 /// How many elements an accepted call writes, what they are, and what
 /// `measure` makes of them; none where no room is enough.
-fn outcome(call: &Call) -> (Option<u64>, Vec<u8>, Vec<u8>) {
+type Outcome = (Option<u64>, Vec<u8>, Vec<u8>);
+
+fn outcome(call: &Call) -> Outcome {
     let nothing = (None, vec![], vec![]);
     match call {
-        Call::Measure(file) => match expected_c_call(file, usize::MAX).2 {
-            Some(filled) => (Some(filled.len() as u64), filled, vec![]),
-            None => nothing,
-        },
+        Call::Measure(file) => of_bytes(expected_c_call(file, usize::MAX).2),
+        Call::Capture { asked, bytes } => {
+            of_bytes(expected_capture_call(asked, bytes, usize::MAX).2)
+        }
         Call::Write {
             numbers,
             arrivals,
@@ -137,36 +153,31 @@ fn outcome(call: &Call) -> (Option<u64>, Vec<u8>, Vec<u8>) {
             }
             Err(_) => nothing,
         },
-        Call::Limits(numbers) => match set_up(numbers) {
-            Ok(limits) => {
-                let four = [limits.frame, limits.tro, limits.c_max, limits.vrx_full];
-                let bytes = four
-                    .iter()
-                    .flat_map(|number| (*number as u64).to_be_bytes());
-                (Some(4), bytes.collect(), vec![])
-            }
-            Err(_) => nothing,
-        },
+        Call::Limits(numbers) => set_up(numbers).map_or(nothing, |limits| {
+            let four = [limits.frame, limits.tro, limits.c_max, limits.vrx_full];
+            of_eights(&four.map(|number| number as u64))
+        }),
         Call::Graph {
             first_packet_time,
             margin,
             latency,
-        } => match graph(*first_packet_time, *margin, *latency) {
-            Ok(graph) => {
-                let three = [graph.first_packet_time, graph.margin, graph.latency];
-                let bytes = three
-                    .iter()
-                    .flat_map(|double| double.to_bits().to_be_bytes());
-                (Some(3), bytes.collect(), vec![])
-            }
-            Err(_) => nothing,
-        },
-        Call::SetUp(numbers) => match set_up(numbers) {
-            Ok(_) => (Some(STATE_WORDS), vec![], vec![]),
-            Err(_) => nothing,
-        },
-        Call::Feed { .. } => nothing,
+        } => graph(*first_packet_time, *margin, *latency).map_or(nothing, |graph| {
+            let three = [graph.first_packet_time, graph.margin, graph.latency];
+            of_eights(&three.map(f64::to_bits))
+        }),
+        Call::SetUp(numbers) if set_up(numbers).is_ok() => (Some(STATE_WORDS), vec![], vec![]),
+        Call::SetUp(_) | Call::Feed { .. } => nothing,
     }
+}
+
+fn of_bytes(filled: Option<Vec<u8>>) -> Outcome {
+    let count = filled.as_ref().map(|bytes| bytes.len() as u64);
+    (count, filled.unwrap_or_default(), vec![])
+}
+
+fn of_eights(numbers: &[u64]) -> Outcome {
+    let bytes = numbers.iter().flat_map(|number| number.to_be_bytes());
+    (Some(numbers.len() as u64), bytes.collect(), vec![])
 }
 
 /// Exactly enough, one too few, none, more than enough. Where the call is
@@ -199,28 +210,35 @@ fn room(call: &Call, lent: u64) -> Room {
             Err(refusal) => (refusal.number, refusal.place),
         },
         // "refused by 1 to 7", then by 15 as every lent row.
-        Call::Limits(numbers) => match set_up(numbers) {
-            Err(number) => (number, 0),
-            Ok(_) => (if lent < 4 { 15 } else { 0 }, 0),
-        },
+        Call::Limits(numbers) => (refused_or_short(set_up(numbers), lent, 4), 0),
+        Call::SetUp(numbers) => (refused_or_short(set_up(numbers), lent, STATE_WORDS), 0),
         Call::Graph {
             first_packet_time,
             margin,
             latency,
-        } => match graph(*first_packet_time, *margin, *latency) {
-            Err(number) => (number, 0),
-            Ok(_) => (if lent < 3 { 15 } else { 0 }, 0),
-        },
-        Call::SetUp(numbers) => match set_up(numbers) {
-            Err(number) => (number, 0),
-            Ok(_) => (if lent < STATE_WORDS { 15 } else { 0 }, 0),
-        },
+        } => {
+            let graph = graph(*first_packet_time, *margin, *latency);
+            (refused_or_short(graph, lent, 3), 0)
+        }
+        Call::Capture { asked, bytes } => {
+            let (number, place, _) = expected_capture_call(asked, bytes, elements);
+            (number, place)
+        }
         Call::Feed { .. } => unreachable!("a row of calls has no rooms"),
     };
     Room {
         lent,
         number,
         place,
+    }
+}
+
+/// The refusal's number, else 15 where fewer are lent than are needed.
+fn refused_or_short<T>(answer: Result<T, u8>, lent: u64, needed: u64) -> u8 {
+    match answer {
+        Err(number) => number,
+        Ok(_) if lent < needed => 15,
+        Ok(_) => 0,
     }
 }
 
@@ -354,24 +372,27 @@ fn example() -> Vec<Packet> {
 /// each outcome, so that none depends on the seed.
 pub fn fixed() -> Vec<Case> {
     let mut random = Random::new(0, 0);
-    let mut calls = fixed_limits();
+    let mut calls: Vec<Call> = fixed_numbers().into_iter().map(Call::Limits).collect();
     calls.extend(fixed_lists());
     calls.extend(fixed_files(&mut random));
     calls.extend(fixed_figures());
     calls.extend(fixed_feeds());
+    let captures = captures().into_iter();
+    calls.extend(captures.map(|(asked, bytes)| Call::Capture { asked, bytes }));
     calls
         .into_iter()
         .map(|call| answered(&mut random, call))
         .collect()
 }
 
-fn fixed_limits() -> Vec<Call> {
+/// Both sides of each limit of set-up.
+fn fixed_numbers() -> Vec<Numbers> {
     let with = |change: fn(&mut Numbers)| {
         let mut numbers = NARROW;
         change(&mut numbers);
-        Call::Limits(numbers)
+        numbers
     };
-    let mut calls = vec![
+    let mut all = vec![
         with(|_| {}),
         with(|n| n.schedule = 2),
         with(|n| n.schedule = 1),
@@ -396,8 +417,8 @@ fn fixed_limits() -> Vec<Call> {
         with(|n| n.packets_per_frame = 4320),
     ];
     // Every frame length, and a code on either side of them.
-    calls.extend((0..=9).map(|rate| Call::Limits(Numbers { rate, ..NARROW })));
-    calls
+    all.extend((0..=9).map(|rate| Numbers { rate, ..NARROW }));
+    all
 }
 
 /// Frames of one packet with each timestamp at `t` and at the nanoseconds before
@@ -553,27 +574,21 @@ fn fixed_lists() -> Vec<Call> {
             markers: vec![2; markers],
         });
     }
-    for call in fixed_limits() {
-        if let Call::Limits(numbers) = call {
-            calls.push(Call::Write {
-                numbers,
-                // 1 to 7 come before 10.
-                arrivals: vec![1],
-                timestamps: vec![],
-                markers: vec![],
-            });
-        }
+    for numbers in fixed_numbers() {
+        calls.push(Call::Write {
+            numbers,
+            // 1 to 7 come before 10.
+            arrivals: vec![1],
+            timestamps: vec![],
+            markers: vec![],
+        });
     }
     calls
 }
 
 fn fixed_files(random: &mut Random) -> Vec<Call> {
     let mut files: Vec<Vec<u8>> = streams().iter().map(|(n, p)| write(n, p)).collect();
-    for call in fixed_limits() {
-        if let Call::Limits(numbers) = call {
-            files.push(write(&numbers, &[]));
-        }
-    }
+    files.extend(fixed_numbers().iter().map(|numbers| write(numbers, &[])));
     // The example cut at every place and with every byte changed.
     let whole = write(&NARROW, &example());
     for place in 0..whole.len() {
@@ -625,12 +640,7 @@ fn fixed_figures() -> Vec<Call> {
 /// Every list of document 01 cut everywhere, and both sides of every range of
 /// a state, in the lead-in, at a frame's end and within a frame.
 fn fixed_feeds() -> Vec<Call> {
-    let mut calls = vec![];
-    for call in fixed_limits() {
-        if let Call::Limits(numbers) = call {
-            calls.push(Call::SetUp(numbers));
-        }
-    }
+    let mut calls: Vec<Call> = fixed_numbers().into_iter().map(Call::SetUp).collect();
     for (numbers, packets) in streams() {
         calls.push(Call::Feed {
             numbers,
@@ -659,54 +669,20 @@ fn fixed_feeds() -> Vec<Call> {
     calls
 }
 
+/// The fixed captures, with what is asked of each.
+pub fn captures() -> Vec<(Asked, Vec<u8>)> {
+    fixed_captures(&streams(), &fixed_numbers())
+}
+
 // --- as bytes ---
 
 impl Case {
     /// The case as it is handed to the host.
     pub fn bytes(&self, index: u64) -> Vec<u8> {
         let mut body = index.to_be_bytes().to_vec();
-        match &self.call {
-            Call::Measure(file) => {
-                body.push(1);
-                push_counted(&mut body, file);
-            }
-            Call::Write {
-                numbers,
-                arrivals,
-                timestamps,
-                markers,
-            } => {
-                body.push(2);
-                body.extend(seven(numbers));
-                push_lists(&mut body, (arrivals, timestamps, markers));
-            }
-            Call::Limits(numbers) => {
-                body.push(3);
-                body.extend(seven(numbers));
-            }
-            Call::Graph {
-                first_packet_time,
-                margin,
-                latency,
-            } => {
-                body.push(4);
-                for figure in [first_packet_time, margin, latency] {
-                    body.extend(figure.to_be_bytes());
-                }
-            }
-            Call::SetUp(numbers) => {
-                body.push(5);
-                body.extend(seven(numbers));
-            }
-            Call::Feed { numbers, calls } => {
-                body.push(6);
-                body.extend(seven(numbers));
-                body.extend((calls.len() as u32).to_be_bytes());
-                for feed in calls {
-                    push_feed(&mut body, feed);
-                }
-                return with_size(body);
-            }
+        push_call(&mut body, &self.call);
+        if let Call::Feed { .. } = self.call {
+            return with_size(body);
         }
         body.push(self.rooms.len() as u8);
         for room in &self.rooms {
@@ -720,6 +696,54 @@ impl Case {
         }
         with_size(body)
     }
+}
+
+fn push_call(body: &mut Vec<u8>, call: &Call) {
+    match call {
+        Call::Measure(file) => {
+            body.push(1);
+            push_counted(body, file);
+        }
+        Call::Write {
+            numbers,
+            arrivals,
+            timestamps,
+            markers,
+        } => {
+            push_seven(body, 2, numbers);
+            push_lists(body, (arrivals, timestamps, markers));
+        }
+        Call::Limits(numbers) => push_seven(body, 3, numbers),
+        Call::Graph {
+            first_packet_time,
+            margin,
+            latency,
+        } => {
+            let figures = [first_packet_time, margin, latency];
+            body.push(4);
+            body.extend(figures.iter().flat_map(|figure| figure.to_be_bytes()));
+        }
+        Call::SetUp(numbers) => push_seven(body, 5, numbers),
+        Call::Feed { numbers, calls } => {
+            push_seven(body, 6, numbers);
+            body.extend((calls.len() as u32).to_be_bytes());
+            calls.iter().for_each(|feed| push_feed(body, feed));
+        }
+        Call::Capture { asked, bytes } => push_capture(body, asked, bytes),
+    }
+}
+
+fn push_seven(body: &mut Vec<u8>, call: u8, numbers: &Numbers) {
+    body.push(call);
+    body.extend(seven(numbers));
+}
+
+fn push_capture(body: &mut Vec<u8>, asked: &Asked, bytes: &[u8]) {
+    push_seven(body, 7, &asked.numbers);
+    body.extend(asked.port.to_be_bytes());
+    body.extend(asked.offset.to_be_bytes());
+    push_counted(body, bytes);
+    body.push(parts_seen(asked, bytes));
 }
 
 fn with_size(body: Vec<u8>) -> Vec<u8> {

@@ -204,7 +204,7 @@ fn damaged_bytes(random: &mut Random, mut bytes: Vec<u8>) -> Vec<u8> {
     bytes
 }
 
-fn flip(random: &mut Random, bytes: &mut [u8]) {
+pub(crate) fn flip(random: &mut Random, bytes: &mut [u8]) {
     for _ in 0..=random.below(4) {
         let reach = random.pick(&[bytes.len(), bytes.len().min(60)]);
         let place = random.place(reach);

@@ -10,8 +10,10 @@
 
 pub mod bucket;
 pub mod call;
+pub mod capture;
 pub mod cases;
 pub mod feed;
+pub mod fixed_captures;
 pub mod fraction;
 pub mod frame;
 pub mod generate;
@@ -20,14 +22,17 @@ pub mod measure;
 pub mod numbers;
 pub mod output;
 pub mod packet;
+pub mod pcap;
 pub mod program;
 pub mod random;
 pub mod ranges;
 pub mod reads;
 pub mod record;
 pub mod stream;
+pub mod traffic;
 
 pub use call::{call, CallAnswer};
+pub use capture::{expected_capture_call, expected_capture_output, expected_packets, Asked};
 pub use graph::{graph, Graph};
 pub use measure::{measure, Buffer, Measurement, Network};
 pub use numbers::{set_up, Limits, Numbers};

@@ -6,21 +6,34 @@ use std::process::exit;
 
 use vtiming_reference::cases::{case, fixed};
 use vtiming_reference::generate::generate;
-use vtiming_reference::program::{inputs, run_all};
+use vtiming_reference::program::{capture_inputs, inputs, run_all, Told, OF_CAPTURES, OF_FILES};
+use vtiming_reference::traffic;
 use vtiming_reference::{expected_c_call, expected_output, graph, set_up, Numbers};
+use vtiming_reference::{expected_capture_call, expected_capture_output, expected_packets, Asked};
 
 const USAGE: &str = "usage:
   reference print FILE|-          what vtiming prints for the file
   reference ccall ROOM FILE|-     number, offset and bytes of the C call
   reference limits RATE SCHEDULE CLASS HEIGHT N MAXUDP TRO|default
   reference graph FPT MARGIN VL   the graph's doubles for figures in grains
+  reference capture PORT OFFSET RATE SCHEDULE CLASS HEIGHT N MAXUDP TRO|default FILE|-
+                                  what vcapture prints for the capture
+  reference capturecall ROOM PORT OFFSET RATE SCHEDULE CLASS HEIGHT N MAXUDP TRO|default FILE|-
+                                  number, place and bytes of the C call on a capture
+  reference packets PORT OFFSET FILE|-
+                                  each record of the capture: skipped, or the packet it hands on
   reference gen SEED COUNT DIR    writes COUNT test files to DIR
+  reference gencaptures SEED COUNT DIR
+                                  writes COUNT test captures to DIR, and the words asked of each
   reference expect DIR            writes FILE.out for each .rec file in DIR
   reference cases SEED COUNT      the fixed cases and COUNT generated ones, as the C host reads them
   reference case SEED INDEX       one generated case, as the C host reads it
   reference program SEED COUNT DIR KEEP COMMAND..
                                   runs the program on COUNT generated files and on the .rec files of
-                                  DIR, whole and in pieces; a file that differs is copied to KEEP";
+                                  DIR, whole and in pieces; a file that differs is copied to KEEP
+  reference captures SEED COUNT DIR[:DIR..] KEEP COMMAND..
+                                  the same of vcapture, on COUNT generated captures, on fixed ones and on
+                                  the .pcap files of each DIR; the nine words follow those of COMMAND";
 
 fn main() {
     let arguments: Vec<String> = std::env::args().skip(1).collect();
@@ -30,12 +43,21 @@ fn main() {
         ["ccall", room, file] => c_call(room, file),
         ["limits", numbers @ ..] if numbers.len() == 7 => limits(numbers),
         ["graph", fpt, margin, vl] => figures(fpt, margin, vl),
+        ["capture", asked @ .., file] if asked.len() == 9 => capture(asked, file),
+        ["capturecall", room, asked @ .., file] if asked.len() == 9 => {
+            capture_call(room, asked, file)
+        }
+        ["packets", port, offset, file] => packets(port, offset, file),
         ["gen", seed, count, directory] => gen(seed, count, directory),
+        ["gencaptures", seed, count, directory] => gen_captures(seed, count, directory),
         ["expect", directory] => expect(Path::new(directory)),
         ["cases", seed, count] => cases(seed, count),
         ["case", seed, index] => one_case(seed, index),
         ["program", seed, count, directory, keep, command @ ..] if !command.is_empty() => {
             program(seed, count, directory, keep, command)
+        }
+        ["captures", seed, count, directories, keep, command @ ..] if !command.is_empty() => {
+            captures(seed, count, directories, keep, command)
         }
         _ => usage(),
     };
@@ -75,15 +97,41 @@ fn print(file: &str) -> io::Result<()> {
 }
 
 fn c_call(room: &str, file: &str) -> io::Result<()> {
-    let (number, offset, filled) = expected_c_call(&contents(file)?, number(room)?);
+    say_answer(expected_c_call(&contents(file)?, number(room)?))
+}
+
+fn say_answer((number, place, filled): (u8, u64, Option<Vec<u8>>)) -> io::Result<()> {
     let bytes = filled.unwrap_or_default();
     let hex: String = bytes.iter().map(|byte| format!("{:02x}", byte)).collect();
-    say(format!("{} {} {}", number, offset, hex).trim_end())?;
+    say(format!("{} {} {}", number, place, hex).trim_end())?;
     say("\n")
 }
 
-fn limits(words: &[&str]) -> io::Result<()> {
-    let numbers = Numbers {
+fn capture(words: &[&str], file: &str) -> io::Result<()> {
+    say(&expected_capture_output(&asked(words)?, &contents(file)?))
+}
+
+fn capture_call(room: &str, words: &[&str], file: &str) -> io::Result<()> {
+    let (asked, room) = (asked(words)?, number(room)?);
+    say_answer(expected_capture_call(&asked, &contents(file)?, room))
+}
+
+fn packets(port: &str, offset: &str, file: &str) -> io::Result<()> {
+    let (port, offset) = (number(port)?, number(offset)?);
+    say(&expected_packets(&contents(file)?, port, offset))
+}
+
+/// Port and offset, and then the seven numbers.
+fn asked(words: &[&str]) -> io::Result<Asked> {
+    Ok(Asked {
+        port: number(words[0])?,
+        offset: number(words[1])?,
+        numbers: seven(&words[2..])?,
+    })
+}
+
+fn seven(words: &[&str]) -> io::Result<Numbers> {
+    Ok(Numbers {
         rate: number(words[0])?,
         schedule: number(words[1])?,
         class: number(words[2])?,
@@ -91,8 +139,11 @@ fn limits(words: &[&str]) -> io::Result<()> {
         packets_per_frame: number(words[4])?,
         maxudp: number(words[5])?,
         tro: tro(words[6])?,
-    };
-    say(&match set_up(&numbers) {
+    })
+}
+
+fn limits(words: &[&str]) -> io::Result<()> {
+    say(&match set_up(&seven(words)?) {
         Err(number) => format!("refused {}\n", number),
         Ok(limits) => format!(
             "F {} TRO {} C_MAX {} VRX_FULL {}\n",
@@ -123,6 +174,10 @@ fn figures(fpt: &str, margin: &str, vl: &str) -> io::Result<()> {
 
 fn gen(seed: &str, count: &str, directory: &str) -> io::Result<()> {
     generate(number(seed)?, number(count)?, Path::new(directory))
+}
+
+fn gen_captures(seed: &str, count: &str, directory: &str) -> io::Result<()> {
+    traffic::generate(number(seed)?, number(count)?, Path::new(directory))
 }
 
 fn expect(directory: &Path) -> io::Result<()> {
@@ -168,7 +223,22 @@ fn program(
     command: &[&str],
 ) -> io::Result<()> {
     let inputs = inputs(number(seed)?, number(count)?, Path::new(directory))?;
-    let told = run_all(&inputs, command, Path::new(keep))?;
+    tell(run_all(&inputs, command, Path::new(keep), OF_FILES)?)
+}
+
+fn captures(
+    seed: &str,
+    count: &str,
+    directories: &str,
+    keep: &str,
+    command: &[&str],
+) -> io::Result<()> {
+    let directories: Vec<&Path> = directories.split(':').map(Path::new).collect();
+    let inputs = capture_inputs(number(seed)?, number(count)?, &directories)?;
+    tell(run_all(&inputs, command, Path::new(keep), OF_CAPTURES)?)
+}
+
+fn tell(told: Told) -> io::Result<()> {
     say(&told.text)?;
     exit(i32::from(!told.same));
 }

@@ -31,16 +31,16 @@ fn measured(reading: &FileReading) -> Option<Measurement> {
     Some(measure_accepted(&limits, &reading.packets))
 }
 
-fn row_line(row: &Row) -> String {
+pub(crate) fn row_line(row: &Row) -> String {
     let numbers: Vec<String> = row.iter().map(|number| number.to_string()).collect();
     format!("frame {}\n", numbers.join(" "))
 }
 
-fn refusal_line(refusal: &Refusal) -> String {
+pub(crate) fn refusal_line(refusal: &Refusal) -> String {
     format!("refused {} {}\n", refusal.number, refusal.place)
 }
 
-fn last_line(measurement: &Measurement) -> String {
+pub(crate) fn last_line(measurement: &Measurement) -> String {
     format!(
         "packets {} frames {} peak {} network {} buffer {}\n",
         measurement.packets,
@@ -78,7 +78,7 @@ pub fn expected_c_call(bytes: &[u8], room: usize) -> (u8, u64, Option<Vec<u8>>) 
         return (refusal.number, refusal.place, None);
     }
     let measurement = measured(&reading).expect("a file without parameters is refused by 23");
-    let filled = c_bytes(&measurement);
+    let filled = c_bytes(&nine_numbers(&measurement), &measurement.rows);
     if room < filled.len() {
         return (15, bytes.len() as u64, None);
     }
@@ -86,12 +86,10 @@ pub fn expected_c_call(bytes: &[u8], room: usize) -> (u8, u64, Option<Vec<u8>>) 
 }
 
 /// "nine numbers [...], then the rows"; "Each number is 8 bytes, signed,
-/// big-endian."
-fn c_bytes(measurement: &Measurement) -> Vec<u8> {
-    let head = nine_numbers(measurement);
-    let rows = measurement.rows.iter().flatten();
+/// big-endian." Of a capture more than nine stand in front.
+pub(crate) fn c_bytes(head: &[i64], rows: &[Row]) -> Vec<u8> {
     head.iter()
-        .chain(rows)
+        .chain(rows.iter().flatten())
         .flat_map(|number| number.to_be_bytes())
         .collect()
 }

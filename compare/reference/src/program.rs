@@ -1,5 +1,5 @@
-//! Runs `vtiming` on files, whole and in pieces, and holds what it prints
-//! against what documents 01 and 02 ask for.
+//! Runs `vtiming` on files and `vcapture` on captures, whole and in pieces, and
+//! holds what they print against what documents 01 and 02 ask for.
 
 use std::collections::BTreeMap;
 use std::fs::File;
@@ -11,9 +11,13 @@ use std::sync::atomic::{AtomicUsize, Ordering};
 use std::sync::{Arc, Mutex};
 use std::time::{Duration, Instant};
 
+use crate::capture::{self, expected_capture_output, Asked};
+use crate::cases::captures;
 use crate::generate::file;
+use crate::numbers::Numbers;
 use crate::output::expected_output;
 use crate::record::{packet_body, parameters_body, read, record};
+use crate::traffic;
 
 /// No file takes the program near as long; one that does has stopped it.
 const LONGEST: Duration = Duration::from_secs(120);
@@ -21,9 +25,85 @@ const LONGEST: Duration = Duration::from_secs(120);
 const LONGEST_FOR_A_ROW: Duration = Duration::from_secs(if cfg!(test) { 1 } else { 10 });
 const AT_ONCE: usize = 2;
 
+/// What a program is run on.
 pub struct Input {
     pub name: String,
     pub bytes: Vec<u8>,
+    pub what: What,
+}
+
+/// A record file, or a capture with what is asked of it.
+#[derive(Clone, Copy, Debug, PartialEq, Eq)]
+pub enum What {
+    RecordFile,
+    Capture(Asked),
+}
+
+impl Input {
+    /// The words that the program is called with.
+    fn words(&self) -> Vec<String> {
+        match self.what {
+            What::RecordFile => vec![],
+            What::Capture(asked) => asked.words(),
+        }
+    }
+
+    fn wanted(&self) -> String {
+        match &self.what {
+            What::RecordFile => expected_output(&self.bytes),
+            What::Capture(asked) => expected_capture_output(asked, &self.bytes),
+        }
+    }
+
+    /// Where each packet that is accepted ends, and its marker.
+    fn packet_ends(&self) -> Vec<(usize, u8)> {
+        match &self.what {
+            What::RecordFile => record_ends(&self.bytes),
+            What::Capture(asked) => {
+                let records = capture::read(asked, &self.bytes).records;
+                let handed_on = records
+                    .iter()
+                    .flat_map(|record| record.read.map(|(packet, _)| (record.end, packet.marker)));
+                handed_on.collect()
+            }
+        }
+    }
+
+    /// The longest that goes in row by row: each row costs a turn of both
+    /// processes. A packet is longer in a capture.
+    fn short(&self) -> bool {
+        let longest = match self.what {
+            What::RecordFile => 1500,
+            What::Capture(_) => 4000,
+        };
+        self.bytes.len() <= longest
+    }
+
+    fn keep(&self, directory: &Path) -> io::Result<PathBuf> {
+        let suffix = match self.what {
+            What::RecordFile => "rec",
+            What::Capture(_) => "pcap",
+        };
+        let kept = directory.join("first").with_extension(suffix);
+        std::fs::write(&kept, &self.bytes)?;
+        if let What::Capture(_) = self.what {
+            std::fs::write(kept.with_extension("words"), self.words().join(" ") + "\n")?;
+        }
+        Ok(kept)
+    }
+}
+
+fn record_ends(bytes: &[u8]) -> Vec<(usize, u8)> {
+    let reading = read(bytes);
+    let mut end = match reading.numbers {
+        Some(numbers) => 1 + record(&parameters_body(&numbers)).len(),
+        None => return vec![],
+    };
+    let ends = reading.packets.iter().map(|packet| {
+        end += record(&packet_body(packet)).len();
+        (end, packet.marker)
+    });
+    ends.collect()
 }
 
 /// What is told at the end, and whether all was the same.
@@ -38,20 +118,109 @@ pub fn inputs(seed: u64, count: u64, directory: &Path) -> io::Result<Vec<Input>>
         .map(|index| Input {
             name: format!("file {} of seed {}", index, seed),
             bytes: file(seed, index),
+            what: What::RecordFile,
         })
         .collect();
-    let mut paths: Vec<PathBuf> = std::fs::read_dir(directory)?
-        .map(|entry| entry.map(|entry| entry.path()))
-        .collect::<io::Result<_>>()?;
-    paths.retain(|path| path.extension().map_or(false, |end| end == "rec"));
-    paths.sort();
-    for path in paths {
+    for path in files_of(directory, "rec")? {
         inputs.push(Input {
             name: path.display().to_string(),
             bytes: std::fs::read(&path)?,
+            what: What::RecordFile,
         });
     }
     Ok(inputs)
+}
+
+/// Generated captures of the seed, some fixed ones, and every `.pcap` file of
+/// the directories.
+pub fn capture_inputs(seed: u64, count: u64, directories: &[&Path]) -> io::Result<Vec<Input>> {
+    let mut inputs: Vec<Input> = (0..count)
+        .map(|index| {
+            let (asked, bytes) = traffic::capture(seed, index);
+            Input {
+                name: format!("capture {} of seed {}", index, seed),
+                bytes,
+                what: What::Capture(asked),
+            }
+        })
+        .collect();
+    inputs.extend(worth_running());
+    for directory in directories {
+        for path in files_of(directory, "pcap")? {
+            let bytes = std::fs::read(&path)?;
+            inputs.extend(asked_of(&bytes).into_iter().map(|asked| Input {
+                name: format!("{} {}", path.display(), asked.words().join(" ")),
+                bytes: bytes.clone(),
+                what: What::Capture(asked),
+            }));
+        }
+    }
+    Ok(inputs)
+}
+
+/// Of the fixed captures those that reach an outcome which none before them
+/// reached, so that no outcome depends on the seed; and those with a frame that
+/// no pipe holds at once.
+fn worth_running() -> Vec<Input> {
+    let mut reached = BTreeMap::new();
+    let mut kept = vec![];
+    for (place, (asked, bytes)) in captures().into_iter().enumerate() {
+        let input = Input {
+            name: format!("fixed capture {}", place),
+            bytes,
+            what: What::Capture(asked),
+        };
+        let outcomes = outcomes(&input.wanted());
+        let new = outcomes
+            .iter()
+            .any(|outcome| !reached.contains_key(outcome));
+        if new || input.bytes.len() > 1 << 17 {
+            reached.extend(outcomes.into_iter().map(|outcome| (outcome, place)));
+            kept.push(input);
+        }
+    }
+    kept
+}
+
+fn files_of(directory: &Path, suffix: &str) -> io::Result<Vec<PathBuf>> {
+    let mut paths: Vec<PathBuf> = std::fs::read_dir(directory)?
+        .map(|entry| entry.map(|entry| entry.path()))
+        .collect::<io::Result<_>>()?;
+    paths.retain(|path| path.extension().map_or(false, |end| end == suffix));
+    paths.sort();
+    Ok(paths)
+}
+
+/// A file does not say what is to be asked of it: the ports to which it has the
+/// most packets, and one to which it has none, each with so many packets a frame
+/// as the last frame has that closes there.
+fn asked_of(bytes: &[u8]) -> Vec<Asked> {
+    let ports = capture::ports(bytes);
+    let silent = (1..=u16::MAX).find(|port| !ports.contains(port));
+    let mut all = vec![];
+    for port in ports.into_iter().take(3).chain(silent) {
+        let packets = capture::packets_of(&capture::records(bytes, port, 0).records);
+        let frames = packets.split_inclusive(|packet| packet.marker == 1);
+        let counts: Vec<usize> = frames.map(|frame| frame.len()).collect();
+        let last = counts.iter().rev().nth(1).copied().unwrap_or(4);
+        for (offset, rate, schedule, class) in [(37, 6, 0, 1), (0, 3, 1, 3)] {
+            let numbers = Numbers {
+                rate,
+                schedule,
+                class,
+                height: 1080,
+                packets_per_frame: last as u64,
+                maxudp: 1460,
+                tro: None,
+            };
+            all.push(Asked {
+                port,
+                offset,
+                numbers,
+            });
+        }
+    }
+    all
 }
 
 /// How a file reaches the program.
@@ -65,7 +234,7 @@ pub enum Way {
     /// Through a pipe, up to the end of each marker packet; the rest is held
     /// back until the rows closed so far have come out: the program "prints
     /// `frame` and the ten numbers of each row as it closes", by request (ii)
-    /// eleven.
+    /// eleven. A packet of a capture ends with its captured bytes.
     Live,
 }
 
@@ -83,38 +252,39 @@ pub fn pieces_for(length: usize) -> Way {
     })
 }
 
-/// Every way for a file. Row by row for short ones that close a frame: each
-/// row costs the reference a measurement.
-fn ways(bytes: &[u8], text: &str) -> Vec<Way> {
-    let mut ways = vec![Way::Whole, pieces_for(bytes.len())];
-    if bytes.len() <= 1500 && text.starts_with("frame ") {
+/// Every way for a file. Row by row for short ones that close a frame.
+fn ways(input: &Input, text: &str) -> Vec<Way> {
+    let mut ways = vec![Way::Whole, pieces_for(input.bytes.len())];
+    if input.short() && text.starts_with("frame ") {
         ways.push(Way::Live);
     }
     ways
 }
 
 /// Where each marker packet that is accepted ends, and how much text the rows
-/// closed by then make.
-fn row_ends(bytes: &[u8]) -> Vec<(usize, usize)> {
-    let reading = read(bytes);
-    let mut end = match reading.numbers {
-        Some(numbers) => 1 + record(&parameters_body(&numbers)).len(),
-        None => return vec![],
-    };
-    let mut ends = vec![];
-    for packet in &reading.packets {
-        end += record(&packet_body(packet)).len();
-        if packet.marker == 1 {
-            let text = expected_output(&bytes[..end]);
-            let rows = text.lines().filter(|line| line.starts_with("frame "));
-            ends.push((end, rows.map(|line| line.len() + 1).sum()));
-        }
-    }
-    ends
+/// closed by then make: the first marker ends the lead-in, each one after it
+/// closes a row.
+fn row_ends(input: &Input) -> Vec<(usize, usize)> {
+    let text = input.wanted();
+    let rows = text.lines().filter(|line| line.starts_with("frame "));
+    let mut so_far = 0;
+    let lengths = rows.map(|line| {
+        so_far += line.len() + 1;
+        so_far
+    });
+    let ends = input.packet_ends().into_iter();
+    let marked = ends.filter(|(_, marker)| *marker == 1).map(|(end, _)| end);
+    marked.zip(std::iter::once(0).chain(lengths)).collect()
 }
 
-/// Every file in each of its ways, two programs at a time.
-pub fn run_all(inputs: &[Input], command: &[&str], keep: &Path) -> io::Result<Told> {
+/// Every file in each of its ways, two programs at a time. All of the outcomes
+/// must be seen.
+pub fn run_all(
+    inputs: &[Input],
+    command: &[&str],
+    keep: &Path,
+    outcomes: &[&str],
+) -> io::Result<Told> {
     let next = AtomicUsize::new(0);
     let tally = Mutex::new(Tally::default());
     std::thread::scope(|scope| {
@@ -122,13 +292,13 @@ pub fn run_all(inputs: &[Input], command: &[&str], keep: &Path) -> io::Result<To
             .map(|worker| {
                 let (next, tally) = (&next, &tally);
                 scope.spawn(move || -> io::Result<()> {
-                    let scratch = keep.join(format!("worker-{}.rec", worker));
+                    let scratch = keep.join(format!("worker-{}.input", worker));
                     loop {
                         let at = next.fetch_add(1, Ordering::Relaxed);
                         let stopped = tally.lock().unwrap().first.is_some();
                         match inputs.get(at) {
                             Some(input) if !stopped => {
-                                try_file(input, command, &scratch, tally)?;
+                                try_file(at, input, command, &scratch, tally)?;
                             }
                             _ => break,
                         }
@@ -142,47 +312,43 @@ pub fn run_all(inputs: &[Input], command: &[&str], keep: &Path) -> io::Result<To
             .try_for_each(|worker| worker.join().expect("a worker does not panic"))
     })?;
     let tally = tally.into_inner().unwrap();
-    tally.told(keep)
+    match tally.first {
+        Some((input, difference)) => difference.told(&inputs[input], keep),
+        None => Ok(tally.told(outcomes)),
+    }
 }
 
 #[derive(Default)]
 struct Tally {
     runs: BTreeMap<&'static str, u64>,
     last_lines: BTreeMap<String, u64>,
-    first: Option<Difference>,
+    /// Which input it was, and what differs.
+    first: Option<(usize, Difference)>,
 }
 
 struct Difference {
-    name: String,
-    bytes: Vec<u8>,
     way: Way,
     wanted: String,
     got: String,
 }
 
 fn try_file(
+    at: usize,
     input: &Input,
     command: &[&str],
     scratch: &Path,
     tally: &Mutex<Tally>,
 ) -> io::Result<()> {
-    let wanted = expected_output(&input.bytes);
-    for way in ways(&input.bytes, &wanted) {
-        let got = run(&input.bytes, way, command, scratch)?;
+    let wanted = input.wanted();
+    for way in ways(input, &wanted) {
+        let got = run(input, way, command, scratch)?;
         let mut tally = tally.lock().unwrap();
         *tally.runs.entry(way.name()).or_default() += 1;
         if got == wanted {
             continue;
         }
-        if tally.first.is_none() {
-            tally.first = Some(Difference {
-                name: input.name.clone(),
-                bytes: input.bytes.clone(),
-                way,
-                wanted: wanted.clone(),
-                got,
-            });
-        }
+        let difference = Difference { way, wanted, got };
+        tally.first.get_or_insert((at, difference));
         return Ok(());
     }
     for outcome in outcomes(&wanted) {
@@ -219,7 +385,8 @@ impl Way {
 
 /// What the program prints; any way in which it does not end well is part of
 /// the text, and so a difference.
-pub fn run(bytes: &[u8], way: Way, command: &[&str], scratch: &Path) -> io::Result<String> {
+pub fn run(input: &Input, way: Way, command: &[&str], scratch: &Path) -> io::Result<String> {
+    let bytes = &input.bytes[..];
     let stdin = match way {
         Way::Whole => {
             std::fs::write(scratch, bytes)?;
@@ -229,6 +396,7 @@ pub fn run(bytes: &[u8], way: Way, command: &[&str], scratch: &Path) -> io::Resu
     };
     let mut child = Command::new(command[0])
         .args(&command[1..])
+        .args(input.words())
         .stdin(stdin)
         .stdout(Stdio::piped())
         .stderr(Stdio::piped())
@@ -238,7 +406,7 @@ pub fn run(bytes: &[u8], way: Way, command: &[&str], scratch: &Path) -> io::Resu
     let said = Collected::of(child.stderr.take().expect("piped"));
     let fault = match (way, child.stdin.take()) {
         (Way::Pieces(sizes), Some(pipe)) => feed(&mut child, pipe, bytes, sizes, began)?,
-        (Way::Live, Some(pipe)) => feed_rows(&mut child, pipe, bytes, &printed)?,
+        (Way::Live, Some(pipe)) => feed_rows(&mut child, pipe, input, &printed)?,
         _ => None,
     };
     let fault = match fault {
@@ -341,11 +509,12 @@ fn feed(
 fn feed_rows(
     child: &mut Child,
     mut pipe: ChildStdin,
-    bytes: &[u8],
+    input: &Input,
     printed: &Collected,
 ) -> io::Result<Option<&'static str>> {
+    let bytes = &input.bytes;
     let mut from = 0;
-    for (end, wanted) in row_ends(bytes) {
+    for (end, wanted) in row_ends(input) {
         if !taken(&mut pipe, &bytes[from..end])? {
             return Ok(None);
         }
@@ -387,44 +556,35 @@ fn unread(pipe: &ChildStdin) -> io::Result<i32> {
 }
 
 impl Tally {
-    fn told(&self, keep: &Path) -> io::Result<Told> {
-        if let Some(difference) = &self.first {
-            return difference.told(keep);
-        }
-        let mut lines = vec![];
-        for outcome in SEEN {
-            lines.push(match self.last_lines.get(*outcome) {
-                Some(count) => format!("{} ({})", outcome, count),
-                None => format!("{} (NEVER SEEN)", outcome),
-            });
-        }
-        let all_seen = SEEN.iter().all(|o| self.last_lines.contains_key(*o));
-        let ways: Vec<String> = self
+    fn told(&self, outcomes: &[&str]) -> Told {
+        let seen = |outcome: &&str| match self.last_lines.get(*outcome) {
+            Some(count) => format!("{} ({})", outcome, count),
+            None => format!("{} (NEVER SEEN)", outcome),
+        };
+        let lines: Vec<String> = outcomes.iter().map(seen).collect();
+        let same = outcomes.iter().all(|o| self.last_lines.contains_key(*o));
+        let ways = self
             .runs
             .iter()
-            .map(|(way, count)| format!("{} {}", count, way))
-            .collect();
+            .map(|(way, count)| format!("{} {}", count, way));
         let text = format!(
             "program: last lines seen: {}\nprogram: {} runs ({}), 0 different{}\n",
             lines.join(", "),
             self.runs.values().sum::<u64>(),
-            ways.join(", "),
-            if all_seen {
+            ways.collect::<Vec<String>>().join(", "),
+            if same {
                 ""
             } else {
                 "; but an outcome was NEVER SEEN"
             },
         );
-        Ok(Told {
-            text,
-            same: all_seen,
-        })
+        Told { text, same }
     }
 }
 
-/// Every last line that a file can bring about, but a refusal by 14, which
-/// takes a billion packets.
-const SEEN: &[&str] = &[
+/// Every last line that a record file can bring about, but a refusal by 14,
+/// which takes a billion packets.
+pub const OF_FILES: &[&str] = &[
     "network pass",
     "network burst",
     "buffer none",
@@ -447,29 +607,50 @@ const SEEN: &[&str] = &[
     "refused 23",
 ];
 
+/// The same of a capture; a marker is one bit there, so that 11 is not among
+/// them.
+pub const OF_CAPTURES: &[&str] = &[
+    "network pass",
+    "network burst",
+    "buffer none",
+    "buffer pass",
+    "buffer under",
+    "buffer over",
+    "refused 01",
+    "refused 02",
+    "refused 03",
+    "refused 04",
+    "refused 05",
+    "refused 06",
+    "refused 07",
+    "refused 12",
+    "refused 13",
+    "refused 30",
+    "refused 31",
+    "refused 32",
+    "refused 33",
+];
+
 impl Difference {
     /// The file is kept, so that it can be run again.
-    fn told(&self, keep: &Path) -> io::Result<Told> {
-        let kept = keep.join("first.rec");
-        std::fs::write(&kept, &self.bytes)?;
+    fn told(&self, input: &Input, keep: &Path) -> io::Result<Told> {
+        let kept = input.keep(keep)?;
         let way = match self.way {
             Way::Pieces(sizes) => format!("in pieces of {:?} bytes", sizes),
             other => other.name().to_string(),
         };
-        let mut lines = vec![format!("program: DIFFERENT: {}, {}", self.name, way)];
+        let mut lines = vec![format!("program: DIFFERENT: {}, {}", input.name, way)];
         let (wanted, got): (Vec<&str>, Vec<&str>) =
             (self.wanted.lines().collect(), self.got.lines().collect());
         let same = wanted.iter().zip(&got).take_while(|(w, g)| w == g).count();
-        lines.push(format!(
-            "  line {}, wanted: {}",
-            same + 1,
-            or_none(&wanted, same)
-        ));
-        lines.push(format!(
-            "  line {}, got:    {}",
-            same + 1,
-            or_none(&got, same)
-        ));
+        for (what, text) in [("wanted:", &wanted), ("got:   ", &got)] {
+            lines.push(format!(
+                "  line {}, {} {}",
+                same + 1,
+                what,
+                or_none(text, same)
+            ));
+        }
         lines.push(format!("  the file is {}", kept.display()));
         Ok(Told {
             text: lines.join("\n") + "\n",
@@ -485,14 +666,24 @@ fn or_none<'a>(lines: &[&'a str], at: usize) -> &'a str {
 #[cfg(test)]
 mod tests {
     use super::*;
+    use crate::pcap::{Capture, Frame};
+
+    fn input(bytes: Vec<u8>, what: What) -> Input {
+        Input {
+            name: String::new(),
+            bytes,
+            what,
+        }
+    }
 
     fn through(command: &[&str], length: usize, way: Way) -> String {
         let scratch =
             std::env::temp_dir().join(format!("vtiming-{}-{}", std::process::id(), length));
         let bytes: Vec<u8> = (0..length).map(|i| b'a' + (i % 26) as u8).collect();
-        let text = run(&bytes, way, command, &scratch).unwrap();
+        let input = input(bytes, What::RecordFile);
+        let text = run(&input, way, command, &scratch).unwrap();
         let _ = std::fs::remove_file(&scratch);
-        let wanted = String::from_utf8(bytes).unwrap();
+        let wanted = String::from_utf8(input.bytes).unwrap();
         if text == wanted {
             "same".to_string()
         } else {
@@ -512,25 +703,42 @@ mod tests {
     /// program that prints only at the end is caught.
     #[test]
     fn a_row_that_is_held_back_is_seen() {
-        let numbers = crate::Numbers {
-            rate: 6,
-            schedule: 0,
-            class: 1,
-            height: 1080,
-            packets_per_frame: 1,
-            maxudp: 1460,
-            tro: None,
-        };
         let packet = crate::Packet::new(0, 0, 1);
-        let bytes = crate::write(&numbers, &[packet; 2]);
-        let ends = row_ends(&bytes);
-        assert_eq!((ends[0], ends.len()), ((35, 0), 2));
-        assert_eq!(ends[1], (51, "frame 0 0 0 0 0 0 20640000 0 1 0 1\n".len()));
+        let file = input(crate::write(&ONE, &[packet; 2]), What::RecordFile);
+        let row = "frame 0 0 0 0 0 0 20640000 0 1 0 1\n";
+        assert_eq!(row_ends(&file), [(35, 0), (51, row.len())]);
+        seen_to_be_held_back(&file);
+        let mut capture = Capture::new(capture::NANOSECONDS, true);
+        for port in [1, 2, 1] {
+            capture.push(0, Frame::of(port, &packet).bytes());
+        }
+        let asked = Asked {
+            port: 1,
+            offset: 0,
+            numbers: ONE,
+        };
+        let captured = input(capture.bytes(), What::Capture(asked));
+        assert_eq!(row_ends(&captured), [(94, 0), (234, row.len())]);
+        seen_to_be_held_back(&captured);
+    }
+
+    const ONE: Numbers = Numbers {
+        rate: 6,
+        schedule: 0,
+        class: 1,
+        height: 1080,
+        packets_per_frame: 1,
+        maxudp: 1460,
+        tro: None,
+    };
+
+    fn seen_to_be_held_back(input: &Input) {
         let scratch = Path::new("");
-        let through_cat = run(&bytes, Way::Live, &["cat"], scratch).unwrap();
+        let at_once = ["sh", "-c", "cat"];
+        let through_cat = run(input, Way::Live, &at_once, scratch).unwrap();
         assert!(!through_cat.contains(HELD_BACK));
         let at_the_end = ["sh", "-c", "cat >/dev/null; echo late"];
-        let late = run(&bytes, Way::Live, &at_the_end, scratch).unwrap();
+        let late = run(input, Way::Live, &at_the_end, scratch).unwrap();
         assert!(late.contains(HELD_BACK));
     }
 

@@ -187,9 +187,14 @@ pub fn parameters_body(numbers: &Numbers) -> Vec<u8> {
         field(numbers.height, 2),
         field(numbers.packets_per_frame, 4),
         field(numbers.maxudp, 2),
-        field(numbers.tro.unwrap_or(DEFAULT_TRO), 4),
+        field(tro_field(numbers.tro), 4),
     ]
     .concat()
+}
+
+/// "TRO (4; all ones is default)".
+pub fn tro_field(tro: Option<u64>) -> u64 {
+    tro.unwrap_or(DEFAULT_TRO)
 }
 
 pub fn packet_body(packet: &Packet) -> Vec<u8> {

@@ -20,7 +20,7 @@ const LAST_WRAP: i128 = END_OF_TIME / WRAP;
 /// an encoded time.
 const NINE_TICKS: i128 = 9 * GRAINS_PER_TICK / GRAINS_PER_NANOSECOND;
 /// About now, in nanoseconds.
-const MODERN: i128 = 1_760_000_000_000_000_000;
+pub(crate) const MODERN: i128 = 1_760_000_000_000_000_000;
 
 /// How the packets of one frame arrive.
 #[derive(Clone, Copy)]
@@ -678,7 +678,7 @@ impl Sender<'_> {
 
 // --- what can be wrong with a list ---
 
-fn spoil_list(random: &mut Random, packets: &mut Vec<Packet>) {
+pub(crate) fn spoil_list(random: &mut Random, packets: &mut Vec<Packet>) {
     if packets.is_empty() {
         return;
     }

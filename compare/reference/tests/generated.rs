@@ -1,11 +1,12 @@
 //! The generated files reach what they are meant to reach: every refusal of a
 //! file, every kind and verdict, arrivals exactly on reads and drains, and
-//! timestamps from both sides of a wrap and of a tie.
+//! timestamps from both sides of a wrap and of a tie. So do the captures.
 
 use std::collections::BTreeMap;
 
 use vtiming_reference::bucket::{drain_instant, drains_by};
-use vtiming_reference::cases::{case, fixed, Call, Case};
+use vtiming_reference::capture::{Carried, Why};
+use vtiming_reference::cases::{captures, case, fixed, Call, Case};
 use vtiming_reference::fraction::Fraction;
 use vtiming_reference::frame::{closed_frames, t_cf, Kind};
 use vtiming_reference::generate::file;
@@ -397,6 +398,133 @@ fn cutting_the_list_changes_nothing() {
     }
 }
 
+// --- captures ---
+
+/// What a capture shows: its magic and order, why frames are skipped, which
+/// parts those have that are handed on, refusals, kinds and verdicts.
+fn look_at_capture(seen: &mut Seen, asked: &Asked, bytes: &[u8]) {
+    look_at_lines(seen, &expected_capture_output(asked, bytes));
+    let reading = capture::read(asked, bytes);
+    for record in &reading.records {
+        match record.read {
+            Err(why) => seen.add(&format!("skipped: {:?}", why)),
+            Ok((_, carried)) => look_at_parts(seen, &carried, record.end - record.begin),
+        }
+    }
+    if !reading.records.is_empty() {
+        seen.add(&format!("magic {:02x?}", &bytes[..4]));
+    }
+    match bytes.len() {
+        0 => seen.add("nothing at all"),
+        1..=23 => seen.add("less than a header"),
+        24 => seen.add("a header alone"),
+        _ => {}
+    }
+}
+
+fn look_at_parts(seen: &mut Seen, carried: &Carried, length: usize) {
+    for (has, what) in [
+        (carried.tagged, "a tag"),
+        (carried.options, "options"),
+        (carried.contributors, "contributors"),
+        (carried.extension, "an extension"),
+        (length >= 262_140, "65,535 words"),
+    ] {
+        if has {
+            seen.add(&format!("handed on with {}", what));
+        }
+    }
+}
+
+/// All of it, as a debug print has the reasons and the magics.
+fn everything_of_captures() -> Vec<String> {
+    let mut all: Vec<String> = [
+        "nothing at all",
+        "less than a header",
+        "a header alone",
+        "handed on with a tag",
+        "handed on with options",
+        "handed on with contributors",
+        "handed on with an extension",
+        "handed on with 65,535 words",
+        "network pass",
+        "network burst",
+        "network burst 0",
+        "buffer none",
+        "buffer pass",
+        "buffer under",
+        "buffer over",
+    ]
+    .map(str::to_string)
+    .to_vec();
+    for magic in [
+        "a1, b2, c3, d4",
+        "d4, c3, b2, a1",
+        "a1, b2, 3c, 4d",
+        "4d, 3c, b2, a1",
+    ] {
+        all.push(format!("magic [{}]", magic));
+    }
+    all.extend((0..4).map(|kind| format!("kind {}", kind)));
+    let refusals = [1, 2, 3, 4, 5, 6, 7, 12, 13, 30, 31, 32, 33];
+    all.extend(refusals.iter().map(|number| format!("refused {}", number)));
+    all.extend(REASONS.iter().map(|why| format!("skipped: {:?}", why)));
+    all.sort();
+    all
+}
+
+const REASONS: [Why; 16] = [
+    Why::EthernetCut,
+    Why::TagCut,
+    Why::OtherType,
+    Why::IpCut,
+    Why::IpVersion,
+    Why::IpWords,
+    Why::OptionsCut,
+    Why::Protocol,
+    Why::Fragment,
+    Why::UdpCut,
+    Why::RtpCut,
+    Why::RtpVersion,
+    Why::ContributorsCut,
+    Why::ExtensionCut,
+    Why::ExtensionWordsCut,
+    Why::Port,
+];
+
+/// The fixed captures reach all of it, so that nothing depends on the seed; and
+/// generated ones reach it too.
+#[test]
+fn captures_reach_everything() {
+    let mut seen = Seen::default();
+    for (asked, bytes) in captures() {
+        look_at_capture(&mut seen, &asked, &bytes);
+    }
+    let fixed: Vec<String> = seen.0.into_keys().collect();
+    assert_eq!(fixed, everything_of_captures());
+    let mut seen = Seen::default();
+    for index in 0..10_000 {
+        let (asked, bytes) = traffic::capture(2110, index);
+        look_at_capture(&mut seen, &asked, &bytes);
+    }
+    println!("{:#?}", seen.0);
+    let generated: Vec<String> = seen.0.into_keys().collect();
+    assert_eq!(generated, everything_of_captures());
+}
+
+/// Of the captures that a run of the comparison makes as many are accepted as
+/// are not, nearly; else it would try one side alone.
+#[test]
+fn generated_captures_are_accepted_and_refused() {
+    let mut accepted = 0;
+    for index in 0..1000 {
+        let (asked, bytes) = traffic::capture(4, index);
+        assert_eq!((asked, bytes.clone()), traffic::capture(4, index));
+        accepted += i32::from(capture::read(&asked, &bytes).refusal.is_none());
+    }
+    assert!((400..800).contains(&accepted), "{} accepted", accepted);
+}
+
 // --- the cases for the C host ---
 
 fn name_of(call: &Call) -> &'static str {
@@ -407,6 +535,7 @@ fn name_of(call: &Call) -> &'static str {
         Call::Graph { .. } => "graph",
         Call::SetUp(_) => "set-up",
         Call::Feed { .. } => "feed",
+        Call::Capture { .. } => "capture",
     }
 }
 
@@ -427,7 +556,7 @@ fn answers_of(cases: &[Case]) -> BTreeMap<String, u64> {
 
 fn reach_every_answer(cases: &[Case]) {
     let answers = answers_of(cases);
-    let wanted: [(&str, &[u8]); 6] = [
+    let wanted: [(&str, &[u8]); 7] = [
         (
             "measure",
             &[0, 1, 2, 3, 4, 5, 6, 7, 11, 12, 13, 15, 20, 21, 22, 23],
@@ -437,6 +566,10 @@ fn reach_every_answer(cases: &[Case]) {
         ("graph", &[0, 15, 16]),
         ("set-up", &[0, 1, 2, 3, 4, 5, 6, 7, 15]),
         ("feed", &[0, 9, 10, 11, 12, 13, 14, 15]),
+        (
+            "capture",
+            &[0, 1, 2, 3, 4, 5, 6, 7, 12, 13, 15, 30, 31, 32, 33],
+        ),
     ];
     for (call, numbers) in wanted {
         for number in numbers {
@@ -458,7 +591,7 @@ fn reach_every_answer(cases: &[Case]) {
 #[test]
 fn the_cases_reach_every_answer_of_every_call() {
     reach_every_answer(&fixed());
-    let generated: Vec<Case> = (0..3000).map(|index| case(1, index)).collect();
+    let generated: Vec<Case> = (0..4500).map(|index| case(1, index)).collect();
     reach_every_answer(&generated);
 }
 
@@ -493,7 +626,7 @@ fn a_case_is_accepted_where_there_is_room() {
     for index in 0..2000 {
         let case = case(5, index);
         let size = match case.call {
-            Call::Measure(_) | Call::Write { .. } => 1,
+            Call::Measure(_) | Call::Write { .. } | Call::Capture { .. } => 1,
             _ => 8,
         };
         // What set-up writes is not known here, but how much it is.
@@ -521,7 +654,7 @@ fn a_case_is_accepted_where_there_is_room() {
 /// write the rows of the whole list, once, and end in its nine numbers.
 #[test]
 fn calls_in_a_row_give_what_one_call_gives() {
-    let generated = (0..400).map(|index| case(7, 20 * index + 17));
+    let generated = (0..400).map(|index| case(7, 30 * index + 17));
     for case in fixed().into_iter().chain(generated) {
         let calls = match case.call {
             Call::Feed { calls, .. } => calls,
