@@ -1,4 +1,4 @@
--- R7: every record is handed on or skipped; and the check of a capture is the scan of the packets handed on, or else names the record at
+-- Every record is handed on or skipped; and the check of a capture is the scan of the packets handed on, or else names the record at
 -- which the file stops. By the records.
 use Rattle.laws.specs.Kit.{_≡_, refl, sym, ap, _∙_, List, [], _∷_, ℕ, suc, _+_, arith, add-zero, length, eq-eqb, ne-eqb, ℕ-discrete}
 use Rattle.laws.specs.Fold.{fold}
@@ -11,7 +11,7 @@ use Rattle.capture.specs.declared.Seen.{Seen}
 use Rattle.capture.specs.Paper.{Found, packet, skipped, Ending, done, stopped, handedOn, skippedIn, withPacket, withSkipped, checkAll}
 use Rattle.capture.specs.Step.{seenAll, checkedBy}
 
--- together they are all
+-- R7: "Skipped plus handed on is the number of records read."
 pub all-counted : (xs : List Found) → length (handedOn xs) + skippedIn xs ≡ length xs
 unfolding handedOn skippedIn
 all-counted [] = refl

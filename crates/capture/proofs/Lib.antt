@@ -6,3 +6,6 @@ pub mod InPieces
 pub mod Counting
 pub mod Seeking
 pub mod Looking
+pub mod Offsets
+pub mod Swapping
+pub mod SwappedFile

@@ -1,2 +1,3 @@
 pub mod Paper
 pub mod Step
+pub mod Swap

@@ -57,7 +57,7 @@ headerOf s = pick (ltb (length s) headerBytes) unknown (magicBy Big s (magicBy L
 
 -- ---- a record
 
--- R1: "seconds, sub-second, captured length, original length"; the last is not read
+-- R1, R3: "seconds, sub-second, captured length, original length"; "Version, zone, sigfigs, snap length and original length are not read."
 abbrev pub secondsAt : Format → List ℕ → ℕ
 secondsAt f l = numberBy (f .order) 4 l 0
 
@@ -145,6 +145,22 @@ unfoldable pub skippedIn : List Found → ℕ
 skippedIn [] = 0
 skippedIn (packet p ∷ xs) = skippedIn xs
 skippedIn (skipped ∷ xs) = suc (skippedIn xs)
+
+-- R13: a record that comes so many seconds later, and all of them
+abbrev pub later : ℕ → Found → Found
+later k (packet p) = packet (record { time = p .time + k * 1000000000; stamp = p .stamp; marker = p .marker })
+later k skipped = skipped
+
+unfoldable pub allLater : ℕ → List Found → List Found
+allLater k [] = []
+allLater k (x ∷ xs) = later k x ∷ allLater k xs
+
+abbrev pub laterAll : ℕ → Records → Records
+laterAll k r = record { found = allLater k (r .found); ending = r .ending }
+
+-- what is asked of a capture of a format
+abbrev pub asked : Format → ℕ → ℕ → Setting
+asked f port offset = record { format = f; port = port; offset = offset }
 
 -- ---- what is refused of them
 

@@ -26,7 +26,7 @@ module _ (x : StreamNumbers) (port offset : ℕ) (b : List ℕ) where
   captureChecked =
       pick (eqb (setUpOf x) 0) (checkedOf port offset (seenFrom nothing false) b) (Refused (setUpOf x) 0)
 
-  -- R9, R15: "15 last", at the place of the first packet, which is 0
+  -- R9, R15, R16: "15 last", at the place of the first packet, which is 0
   abbrev pub answeredBy : ℕ → Checked → Answer
   answeredBy room (Fine y) = pick (leb (length captureBytes) room) (answer 0 0) (answer 15 0)
   answeredBy room (Refused number place) = answer number place

@@ -12,6 +12,9 @@ use Rattle.frame.specs.Step.{rowWidth}
 use Rattle.timing.specs.declared.State.{State}
 use Rattle.timing.specs.Step.{rulesOf, stateAfter, rowsAfter, numbers}
 use Rattle.timing.specs.Range.{inRange}
+use Rattle.timing.specs.declared.Fed.{Fed}
+use Rattle.timing.specs.declared.Fed.the-variants as fed
+use Rattle.timing.specs.Feed as F
 use Rattle.intake.specs.declared.Taken.{Taken}
 use Rattle.intake.specs.declared.Taken.the-variants.{Accepted, Refused}
 
@@ -61,6 +64,14 @@ module _ (s : State) (rows : List ℤ) where
       pick (inRange s)
       (byCheck (checkedOf port offset (seenFrom (s .past) (s .frames .begun)) b) (packetsOf port offset b) (skippedOf port offset b))
       (refusedBy 9 0)
+
+-- the outcome of a call with the packets handed on, as a capture call's: it tells their number, and how many records were skipped
+abbrev pub fedAnswer : Fed → ℕ → ℕ → Taken
+fedAnswer (fed.Accepted t) handed skips = Accepted t handed skips
+fedAnswer (fed.Refused number place t) handed skips = Refused number place t
+
+abbrev pub fedAs : F.Outcome → List Packet → ℕ → Outcome
+fedAs o l skips = record { answer = fedAnswer (o .answer) (length l) skips; rows = o .rows }
 
 -- an answer and a list of rows are an outcome's
 pub record TakeGives (o : Outcome) (answer : Taken) (rows : List ℤ) : Type 0 where
