@@ -1,4 +1,4 @@
--- R13: arrivals with offset k are those with offset 0, k seconds later, and all else is the same. By the records.
+-- Arrivals with offset k are those with offset 0, k seconds later, and all else is the same. By the records.
 use Rattle.laws.specs.Kit.{_≡_, refl, sym, ap, _∙_, Bool, true, false, List, [], _∷_, ℕ, zero, suc, _+_, _*_, arith, eqb, length, drop}
 use Rattle.laws.specs.Choose.{pick}
 use Rattle.headers.specs.declared.Handed.{Handed}
@@ -39,5 +39,6 @@ module _ (f : Format) (port k : ℕ) where
       go false false true ih = refl
       go false false false ih = rw (found-later l, ih)
 
+  -- R13: "The offset: arrivals with offset k are those with 0 plus k seconds."
   pub offset-adds : (l : List ℕ) → recordsIn (asked f port k) l ≡ laterAll k (recordsIn (asked f port 0) l)
   offset-adds l = records-later (length l) l

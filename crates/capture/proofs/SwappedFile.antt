@@ -1,4 +1,4 @@
--- R12: a capture written in the other byte order is opened in that order, and has the same answer. What the header says is a predicate on its
+-- A capture written in the other byte order is opened in that order, and has the same answer. What the header says is a predicate on its
 -- answer; the two magics are no other magic turned.
 use Rattle.laws.specs.Kit.{_≡_, refl, sym, ap, subst, _∙_, Bool, true, false, List, [], _∷_, _++_, reverse, ℕ, _+_, _-_, _≤_, _<_, arith}
 use Rattle.laws.specs.Kit.{ltb, eqb, leb, length, take, drop, length-drop, length-append, take-at, drop-at, drop-drop, length-take-le, le-ltb}

@@ -1,2 +1,3 @@
--- The theorems of this crate; the file says in its first line what it shows.
+-- The theorems of this crate, file by file, lowest first; each file says in its first line what it shows.
 pub mod Filming
+pub mod OneAnswer

@@ -2,3 +2,4 @@
 pub mod Reading
 pub mod Taking
 pub mod Feeding
+pub mod OneAnswer

@@ -4,3 +4,4 @@ pub mod Turning
 pub mod Beginning
 pub mod Carrying
 pub mod Output
+pub mod OneAnswer
