@@ -1,6 +1,6 @@
 -- The program's output. `outputOf file` is what document 01 says is printed of a file (printer's Paper). First the lines themselves, then a
 -- file in pieces through calls of `Walk::take` (`Prints`, printer's Drive), then any run of the program, whatever its reads bring (`RunEnds`,
--- pump's Run): what it hands over to be written is that output, or a front of it where a read or a write failed.
+-- window's Run): what it hands over to be written is that output, or a front of it where a read or a write failed.
 use Rattle.laws.specs.Kit.{_≡_, _⊎_, Bool, true, false, List, [], _++_, ℕ, _≤_, _<_, length}
 use Rattle.laws.specs.Choose.{AllBelow}
 use Rattle.frame.specs.declared.Row.{Row}
@@ -17,10 +17,12 @@ use Rattle.printer.specs.Paper.{sumLine, outputOf}
 use Rattle.printer.specs.Step.{openedNumber, openedOffset, beginOf, takeOf}
 use Rattle.printer.specs.Drive.{Prints}
 use Rattle.printer.proofs.Output as proved
-use Rattle.pump.specs.declared.End.{End}
-use Rattle.pump.specs.declared.End.the-variants.{Whole, Unread}
-use Rattle.pump.specs.Run.{Front, Whole-output, RunEnds}
-use Rattle.pump.proofs.Running as running
+use Rattle.window.specs.declared.End.{End}
+use Rattle.window.specs.declared.End.the-variants.{Whole, Unread}
+use Rattle.window.specs.Run.{Front, Whole-output, RunEnds}
+use Rattle.window.proofs.Running as running
+use Rattle.pump.specs.Step.{machine}
+use Rattle.pump.proofs.Stages.{size, keeps}
 
 -- ---- a frame's line
 
@@ -70,13 +72,16 @@ stuck-why = proved.stuck-why
 -- ---- any run of the program
 
 -- X10: whatever the reads brought, what was handed over is a front of the output of the file
-pub ran-front : {room : ℕ} {last : Bool} {file text : List ℕ} {end : End} → RunEnds room last file text end → Front last file text
-ran-front = running.ran-front
+pub ran-front : {room : ℕ} {last : Bool} {file text : List ℕ} {end : End} → RunEnds machine room last file text end
+    → Front machine last file text
+ran-front = running.ran-front machine lineRoom size keeps
 
 -- X10: and all of it where the last line is out
-pub ran-whole : {room : ℕ} {last : Bool} {file text : List ℕ} → RunEnds room last file text Whole → Whole-output last file text
-ran-whole = running.ran-whole
+pub ran-whole : {room : ℕ} {last : Bool} {file text : List ℕ} → RunEnds machine room last file text Whole
+    → Whole-output machine last file text
+ran-whole = running.ran-whole machine lineRoom size keeps
 
 -- X10: and where the file had ended no read has failed: the last line is out, or a write failed, or the turns were over
-pub ran-ended : {room : ℕ} {last : Bool} {file text : List ℕ} {end : End} → RunEnds room last file text end → last ≡ true → end ≡ Unread → ⊥
+pub ran-ended : {room : ℕ} {last : Bool} {file text : List ℕ} {end : End} → RunEnds machine room last file text end → last ≡ true
+    → end ≡ Unread → ⊥
 ran-ended = running.ran-ended

@@ -1,3 +1,1 @@
 pub mod Step
-pub mod Said
-pub mod Run

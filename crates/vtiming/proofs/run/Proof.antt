@@ -1,30 +1,34 @@
--- The loop of the program: where it is reached by reads and steps alone, and how it ends, by the laws of pump's Program.
+-- The loop of the program: where it is reached by reads and steps alone, and how it ends, by the laws of window's Program.
 use Rattle.laws.specs.Kit.{_-_, _≡_, refl, _∙_, ⊎-elim, not-true, not-false, arith, length}
 use denote.Ref.{now}
-use Rattle.pump.specs.Run.{InLoop}
-use Rattle.pump.proofs.Program.{reached-begins, reached-fits, reached-turns-over, spoken, reached-steps, reached-ends, reached-unwritten}
-use Rattle.pump.proofs.Program.{reached-wants, reached-roomy, reached-reads, reached-unread, joined}
+use Rattle.text.specs.Lines.{lineRoom}
+use Rattle.window.specs.Run.{InLoop}
+use Rattle.window.proofs.Program.{reached-begins, reached-fits, reached-turns-over, spoken, reached-steps, reached-ends, reached-unwritten}
+use Rattle.window.proofs.Program.{reached-wants, reached-roomy, reached-reads, reached-unread, joined}
+use Rattle.pump.specs.declared.Stage.the-variants.{Head}
+use Rattle.pump.specs.Step.{machine}
+use Rattle.pump.proofs.Stages.{size, keeps}
 use borrow.Author.Needs.{needs}
 use Rattle.vtiming.proofs.run.Statement.{statement}
 use Rattle.vtiming.proofs.run.Tie as tie
 
 abbrev Inv-loop : tie.InvT-loop
-Inv-loop window₀ out₀ pump₀ turns₀ window out pump turns =
-    (length window ≡ length window₀) × (length out ≡ length out₀) × InLoop (length out₀) pump window
+Inv-loop window₀ out₀ stage₀ span₀ turns₀ window out stage span turns =
+    (length window ≡ length window₀) × (length out ≡ length out₀) × InLoop machine (length out₀) stage span window
 
 abbrev μ-loop : tie.MeasureT-loop
-μ-loop window₀ out₀ pump₀ turns₀ window out pump turns = turns
+μ-loop window₀ out₀ stage₀ span₀ turns₀ window out stage span turns = turns
 
 begin-requires : tie.Need-begin-requires Inv-loop μ-loop
 begin-requires c κs = search needs
 
 loop-holds : tie.Need-loop-holds Inv-loop μ-loop
 loop-holds c = let a = c .before .before .before .args in
-    (refl, refl, reached-begins (length (now (a .out))) (c .begin .result) (now (a .window)) (c .begin .ensures))
+    (refl, refl, reached-begins machine lineRoom size keeps (length (now (a .out))) Head (c .begin .result) (now (a .window)) refl (c .begin .ensures))
 
 step-requires : tie.Need-step-requires Inv-loop μ-loop
 step-requires c κs = let l = c .before .before .before .loop in
-    (reached-fits (l .inv .2), omega (arith, l .inv .1, c .before .before .before .before .before .before .before .pre .1))
+    (reached-fits machine lineRoom size keeps (l .inv .2), omega (arith, l .inv .1, c .before .before .before .before .before .before .before .pre .1))
 
 sub-tell : tie.Need-sub-tell Inv-loop μ-loop
 sub-tell c = search needs
@@ -46,12 +50,12 @@ same-length-2 c = search needs
 
 returns : tie.Need-returns Inv-loop μ-loop
 returns c = let told = c .before in
-    let t = told .before .before .before .before .before in
+    let t = told .before .before .before .before .before .before in
     let l = t .before .before .before .before .loop in
     let start = t .before .before .before .before .before .before .before .before in
-    let k = spoken (length (now (start .args .out))) (length (l .out)) (l .pump) (l .window) (t .step .result) (t .step .last .1 .1 .0)
-    (told .tell .result) (l .inv .1) (l .inv .2) (t .step .ensures) (told .tell .ensures) in
-    reached-unwritten k (not-true (told .tell .result) (c .if1 .taken))
+    let k = spoken machine lineRoom size keeps (length (now (start .args .out))) (length (l .out)) (l .stage) (l .span) (l .window)
+    (t .step .result .stage) (t .step .result .told) (t .step .last .1 .1 .1 .0) (told .tell .result) (l .inv .1) (l .inv .2) (t .step .ensures) (told .tell .ensures) in
+    reached-unwritten machine lineRoom size keeps k (not-true (told .tell .result) (c .if1 .taken))
 
 same-length-3 : tie.Need-same-length-3 Inv-loop μ-loop
 same-length-3 c = search needs
@@ -61,25 +65,25 @@ same-length-4 c = search needs
 
 returns-2 : tie.Need-returns-2 Inv-loop μ-loop
 returns-2 c = let told = c .before .before in
-    let t = told .before .before .before .before .before in
+    let t = told .before .before .before .before .before .before in
     let l = t .before .before .before .before .loop in
     let start = t .before .before .before .before .before .before .before .before in
-    let k = spoken (length (now (start .args .out))) (length (l .out)) (l .pump) (l .window) (t .step .result) (t .step .last .1 .1 .0)
-    (told .tell .result) (l .inv .1) (l .inv .2) (t .step .ensures) (told .tell .ensures) in
-    reached-ends k (not-false (told .tell .result) (c .before .if1 .left)) (c .if2 .taken)
+    let k = spoken machine lineRoom size keeps (length (now (start .args .out))) (length (l .out)) (l .stage) (l .span) (l .window)
+    (t .step .result .stage) (t .step .result .told) (t .step .last .1 .1 .1 .0) (told .tell .result) (l .inv .1) (l .inv .2) (t .step .ensures) (told .tell .ensures) in
+    reached-ends machine lineRoom size keeps k (not-false (told .tell .result) (c .before .if1 .left)) (c .if2 .taken)
 
 fetch-requires : tie.Need-fetch-requires Inv-loop μ-loop
 fetch-requires c κs = let told = c .before .before .before .before .before in
-    let t = told .before .before .before .before .before in
+    let t = told .before .before .before .before .before .before in
     let l = t .before .before .before .before .loop in
     let start = t .before .before .before .before .before .before .before .before in
-    let k = spoken (length (now (start .args .out))) (length (l .out)) (l .pump) (l .window) (t .step .result) (t .step .last .1 .1 .0)
-    (told .tell .result) (l .inv .1) (l .inv .2) (t .step .ensures) (told .tell .ensures) in (
-      reached-fits
-          (reached-steps k (not-false (told .tell .result) (c .before .before .before .before .if1 .left))
+    let k = spoken machine lineRoom size keeps (length (now (start .args .out))) (length (l .out)) (l .stage) (l .span) (l .window)
+    (t .step .result .stage) (t .step .result .told) (t .step .last .1 .1 .1 .0) (told .tell .result) (l .inv .1) (l .inv .2) (t .step .ensures) (told .tell .ensures) in (
+      reached-fits machine lineRoom size keeps
+          (reached-steps machine lineRoom size keeps k (not-false (told .tell .result) (c .before .before .before .before .if1 .left))
           (c .before .before .before .if2 .left)),
-      reached-roomy k
-          (start .pre .1) (omega (arith, l .inv .0, start .pre .0)) (c .before .before .before .if2 .left) (c .before .if3 .taken),
+      reached-roomy machine lineRoom size keeps k
+          (start .pre .1) (c .before .before .before .if2 .left) (c .before .if3 .taken) (omega (arith, l .inv .0, start .pre .0)),
     )
 
 enum-known-came : tie.Need-enum-known-came Inv-loop μ-loop
@@ -96,17 +100,17 @@ same-length-6 c = search needs
 
 returns-3 : tie.Need-returns-3 Inv-loop μ-loop
 returns-3 c = let told = c .before .before .before .before .before .before .before .before .before .before in
-    let t = told .before .before .before .before .before in
+    let t = told .before .before .before .before .before .before in
     let l = t .before .before .before .before .loop in
     let start = t .before .before .before .before .before .before .before .before in
-    let k = spoken (length (now (start .args .out))) (length (l .out)) (l .pump) (l .window) (t .step .result) (t .step .last .1 .1 .0)
-    (told .tell .result) (l .inv .1) (l .inv .2) (t .step .ensures) (told .tell .ensures) in
+    let k = spoken machine lineRoom size keeps (length (now (start .args .out))) (length (l .out)) (l .stage) (l .span) (l .window)
+    (t .step .result .stage) (t .step .result .told) (t .step .last .1 .1 .1 .0) (told .tell .result) (l .inv .1) (l .inv .2) (t .step .ensures) (told .tell .ensures) in
     let fetched = c .before .before .before .before in
     let wanted = fetched .before .before in
-    let went = reached-steps k (not-false (told .tell .result) (wanted .before .before .before .if1 .left))
+    let went = reached-steps machine lineRoom size keeps k (not-false (told .tell .result) (wanted .before .before .before .if1 .left))
     (wanted .before .before .if2 .left) in
-    let more = reached-wants k (start .pre .1) (wanted .before .before .if2 .left) (wanted .if3 .taken) in
-    reached-unread went more (c .enum-told .given .1) (fetched .fetch .ensures)
+    let more = reached-wants machine lineRoom size keeps k (start .pre .1) (wanted .before .before .if2 .left) (wanted .if3 .taken) in
+    reached-unread machine lineRoom size keeps went more (c .enum-told .given .1) (fetched .fetch .ensures)
 
 sub-turns : tie.Need-sub-turns Inv-loop μ-loop
 sub-turns c = search needs
@@ -116,19 +120,19 @@ loop-less c = search needs
 
 loop-again : tie.Need-loop-again Inv-loop μ-loop
 loop-again c = let told = c .before .before .before .before in
-    let t = told .before .before .before .before .before in
+    let t = told .before .before .before .before .before .before in
     let l = t .before .before .before .before .loop in
     let start = t .before .before .before .before .before .before .before .before in
-    let k = spoken (length (now (start .args .out))) (length (l .out)) (l .pump) (l .window) (t .step .result) (t .step .last .1 .1 .0)
-    (told .tell .result) (l .inv .1) (l .inv .2) (t .step .ensures) (told .tell .ensures) in
-    let went = reached-steps k (not-false (told .tell .result) (c .before .before .before .if1 .left)) (c .before .before .if2 .left) in
+    let k = spoken machine lineRoom size keeps (length (now (start .args .out))) (length (l .out)) (l .stage) (l .span) (l .window)
+    (t .step .result .stage) (t .step .result .told) (t .step .last .1 .1 .1 .0) (told .tell .result) (l .inv .1) (l .inv .2) (t .step .ensures) (told .tell .ensures) in
+    let went = reached-steps machine lineRoom size keeps k (not-false (told .tell .result) (c .before .before .before .if1 .left)) (c .before .before .if2 .left) in
     let both : (length (c .if3 .window) ≡ length (now (start .args .window)))
-    × InLoop (length (now (start .args .out))) (c .if3 .pump) (c .if3 .window) =
+    × InLoop machine (length (now (start .args .out))) (t .step .result .stage) (c .if3 .span) (c .if3 .window) =
     ⊎-elim
-    (λ x. joined (x .8) (x .9) (x .3 .given ∙ l .inv .0)
-    (reached-reads went (reached-wants k (start .pre .1) (c .before .before .if2 .left) (x .0 .taken))
+    (λ x. joined machine lineRoom size keeps (x .8) (x .9) (x .3 .given ∙ l .inv .0)
+    (reached-reads (reached-fits machine lineRoom size keeps went) went (reached-wants machine lineRoom size keeps k (start .pre .1) (c .before .before .if2 .left) (x .0 .taken))
     (x .2 .last .1 .0) (x .2 .result) _ (x .6 .given .1) (x .2 .ensures)))
-    (λ x. joined (x .1) (x .2) (l .inv .0) went) (c .if3 .came) in
+    (λ x. joined machine lineRoom size keeps (x .1) (x .2) (l .inv .0) went) (c .if3 .came) in
     (both .0, search needs, both .1)
 
 same-length-7 : tie.Need-same-length-7 Inv-loop μ-loop
@@ -138,7 +142,7 @@ same-length-8 : tie.Need-same-length-8 Inv-loop μ-loop
 same-length-8 c = search needs
 
 returns-4 : tie.Need-returns-4 Inv-loop μ-loop
-returns-4 c = reached-turns-over (c .before .loop .inv .2)
+returns-4 c = reached-turns-over machine lineRoom size keeps (c .before .loop .inv .2)
 
 pub run-spec : {M : Type 1} → statement M
 run-spec =
