@@ -1,0 +1,156 @@
+-- Nine numbers put in their places are refused, and measured, as they are given, whatever their size: set-up, the offset's test and so the
+-- whole output are the same. By one law: what cannot tell a number too large from what stands instead of it cannot tell it from the number.
+use Rattle.laws.specs.Kit.{_≡_, refl, sym, ap, _∙_, _⊎_, inl, inr, Bool, true, false, and-false, List, [], _∷_, ℕ, _*_, _≤_, _<_, arith}
+use Rattle.laws.specs.Kit.{leb, eqb, leb-false, leb-true, lt-leb, le-ltb, ne-eqb, eqb-true}
+use Rattle.laws.specs.Choose.{pick}
+use Rattle.laws.proofs.Choose.{false-true}
+use Rattle.limits.specs.declared.Class.{Class}
+use Rattle.limits.specs.declared.Class.the-variants.{Narrow, NarrowLinear, Wide, Unknown}
+use Rattle.limits.specs.Paper.{microsecond, frameLength, classOf, allOnes, within, classFits, maxudpKnown, troFits, firstNo, setUpRefusal}
+use Rattle.limits.proofs.Laws.{past-rates, past-classes}
+use Rattle.limits.proofs.Rates.{frame-most}
+use Rattle.limits.proofs.Accepting.{accepted}
+use Rattle.timing.specs.Step.{setUpOf}
+use Rattle.capture.specs.Paper.{headerOf}
+use Rattle.text.specs.Lines.{refusalLine}
+use Rattle.reel.specs.declared.Asked.{Asked}
+use Rattle.reel.specs.Paper.{outputBy, outputOf}
+use Rattle.words.specs.declared.Nine.{Nine}
+use Rattle.words.specs.Paper.{placed, insteadHeight, insteadTro, asGiven, askedOf}
+use Rattle.words.proofs.Placing.{fits}
+
+alike : {A : Type 0} (f : ℕ → A) (most instead : ℕ) → ((x : ℕ) → most < x → f instead ≡ f x) → (x : ℕ) → f (placed most instead x) ≡ f x
+alike f most instead same x = go (leb x most) refl
+  where
+    go : (t : Bool) → leb x most ≡ t → f (pick t x instead) ≡ f x
+    go true e = refl
+    go false e = same x (leb-false x most e)
+
+-- ---- the seven questions, each of its number
+
+above : (low high x : ℕ) → high < x → false ≡ within low high x
+above low high x h = rw (lt-leb x high h, and-false (leb low x))
+
+rate-alike : (x : ℕ) → within 1 8 (placed 255 255 x) ≡ within 1 8 x
+rate-alike = alike (within 1 8) 255 255 (λ x h. above 1 8 x (omega arith))
+
+schedule-alike : (x : ℕ) → within 0 1 (placed 255 255 x) ≡ within 0 1 x
+schedule-alike = alike (within 0 1) 255 255 (λ x h. above 0 1 x (omega arith))
+
+class-alike : (x : ℕ) → classOf (placed 255 255 x) ≡ classOf x
+class-alike = alike classOf 255 255 (λ x h. sym (past-classes 255 (omega arith)) ∙ past-classes x (omega arith))
+
+against-alike : (k : Class) (x : ℕ) → classFits k (placed 255 255 x) ≡ classFits k x
+against-alike k = alike (classFits k) 255 255 (go k)
+  where
+    go : (k : Class) (x : ℕ) → 255 < x → classFits k 255 ≡ classFits k x
+    go Narrow x h = sym (ne-eqb x 0 (omega arith))
+    go NarrowLinear x h = sym (ne-eqb x 1 (omega arith))
+    go Wide x h = refl
+    go Unknown x h = refl
+
+class-fits-alike : (x y : ℕ) → classFits (classOf (placed 255 255 x)) (placed 255 255 y) ≡ classFits (classOf x) y
+class-fits-alike x y = ap (λ (k : Class). classFits k (placed 255 255 y)) (class-alike x) ∙ against-alike (classOf x) y
+
+height-alike : (x : ℕ) → within 1 65535 (placed 65535 insteadHeight x) ≡ within 1 65535 x
+height-alike = alike (within 1 65535) 65535 insteadHeight (λ x h. above 1 65535 x h)
+
+n-alike : (x : ℕ) → within 1 20000 (placed 4294967295 4294967295 x) ≡ within 1 20000 x
+n-alike = alike (within 1 20000) 4294967295 4294967295 (λ x h. above 1 20000 x (omega arith))
+
+maxudp-alike : (x : ℕ) → maxudpKnown (placed 65535 65535 x) ≡ maxudpKnown x
+maxudp-alike = alike maxudpKnown 65535 65535 (λ x h. rw (ne-eqb x 1460 (omega arith), ne-eqb x 8960 (omega arith)))
+
+frame-alike : (x : ℕ) → frameLength (placed 255 255 x) ≡ frameLength x
+frame-alike = alike frameLength 255 255 (λ x h. sym (past-rates 255 (omega arith)) ∙ past-rates x (omega arith))
+
+-- no frame is as long as 4,294,967,294 microseconds, and only one more is the default
+tro-too-long : (code x : ℕ) → 4294967294 ≤ x → ¬ (x ≡ allOnes) → false ≡ troFits (frameLength code) x
+unfolding troFits
+tro-too-long code x h other = rw (ne-eqb x allOnes other, le-ltb (microsecond * x) (frameLength code) (omega (arith, frame-most code)))
+
+tro-alike : (code x : ℕ) → troFits (frameLength code) (placed 4294967295 insteadTro x) ≡ troFits (frameLength code) x
+tro-alike code =
+    alike (troFits (frameLength code)) 4294967295 insteadTro
+    (λ x h. sym (tro-too-long code insteadTro (omega arith) (omega arith)) ∙ tro-too-long code x (omega arith) (omega arith))
+
+tro-fits-alike : (x y : ℕ) → troFits (frameLength (placed 255 255 x)) (placed 4294967295 insteadTro y) ≡ troFits (frameLength x) y
+tro-fits-alike x y = ap (λ (F : ℕ). troFits F (placed 4294967295 insteadTro y)) (frame-alike x) ∙ tro-alike x y
+
+offset-alike : (x : ℕ) → leb (placed 4294967295 4294967295 x) 99 ≡ leb x 99
+offset-alike = alike (λ (x : ℕ). leb x 99) 4294967295 4294967295 (λ x h. sym (lt-leb x 99 (omega arith)))
+
+-- ---- set-up, and the output
+
+module _ (x : Nine) where
+  -- R18: "One that is too large for its place, as a height of 65,536, is refused as set-up refuses such a number (1 to 7)"
+  pub set-up-as-given : setUpOf (askedOf x .numbers) ≡ setUpOf (asGiven x .numbers)
+  unfolding askedOf setUpRefusal
+  set-up-as-given =
+      ap (firstNo 1)
+      (λ j.
+      rate-alike (x .rate) j
+      ∷ schedule-alike (x .schedule) j
+      ∷ class-fits-alike (x .class) (x .schedule) j
+      ∷ height-alike (x .height) j
+      ∷ n-alike (x .n) j
+      ∷ maxudp-alike (x .maxudp) j
+      ∷ tro-fits-alike (x .rate) (x .tro) j
+      ∷ [])
+
+  -- R18: ".. or by 33"
+  pub offset-as-given : leb (askedOf x .offset) 99 ≡ leb (asGiven x .offset) 99
+  unfolding askedOf
+  offset-as-given = offset-alike (x .offset)
+
+  -- where nothing is refused, each number fits in its place
+  class-small : classFits (classOf (x .class)) (x .schedule) ≡ true → x .class ≤ 255
+  class-small e = go (leb (x .class) 255) refl
+    where
+      go : (t : Bool) → leb (x .class) 255 ≡ t → x .class ≤ 255
+      go true f = leb-true (x .class) 255 f
+      go false f =
+          let past = past-classes (x .class) (omega (arith, leb-false (x .class) 255 f)) in
+          absurd (false-true (ap (λ (k : Class). classFits k (x .schedule)) past ∙ e))
+
+  tro-small : (x .tro ≡ allOnes) ⊎ (microsecond * x .tro < frameLength (x .rate)) → x .tro ≤ 4294967295
+  tro-small (inl e) = omega (arith, e)
+  tro-small (inr h) = omega (arith, h, frame-most (x .rate))
+
+  udp-small : (x .maxudp ≡ 1460) ⊎ (x .maxudp ≡ 8960) → x .maxudp ≤ 65535
+  udp-small (inl e) = omega (arith, e)
+  udp-small (inr e) = omega (arith, e)
+
+  all-fit : setUpOf (asGiven x .numbers) ≡ 0 → x .offset ≤ 99 → askedOf x ≡ asGiven x
+  unfolding askedOf
+  all-fit e h =
+      let a = accepted (asGiven x .numbers .parameters) e in
+      λ j. record {
+        numbers = record {
+          parameters = record {
+            rate = sym (fits 255 255 (x .rate) (omega (arith, a .rate-known .1))) j;
+            schedule = sym (fits 255 255 (x .schedule) (omega (arith, a .schedule-known))) j;
+            class = sym (fits 255 255 (x .class) (class-small (a .class-fits))) j;
+            height = sym (fits 65535 insteadHeight (x .height) (a .height-fits .1)) j;
+            n = sym (fits 4294967295 4294967295 (x .n) (omega (arith, a .n-fits .1))) j;
+            maxudp = sym (fits 65535 65535 (x .maxudp) (udp-small (a .maxudp-known))) j;
+            tro = sym (fits 4294967295 insteadTro (x .tro) (tro-small (a .tro-fits))) j;
+          };
+        };
+        port = x .port;
+        offset = sym (fits 4294967295 4294967295 (x .offset) (omega arith)) j;
+      }
+
+  -- R18: "The program takes its numbers as they are given.": what it prints is what the rules say of the numbers themselves
+  pub output-as-given : (file : List ℕ) → outputOf (askedOf x) file ≡ outputOf (asGiven x) file
+  unfolding outputOf
+  output-as-given file = rw (set-up-as-given, offset-as-given) (go (eqb (setUpOf (asGiven x .numbers)) 0) (leb (x .offset) 99) refl refl)
+    where
+      go : (t u : Bool) → eqb (setUpOf (asGiven x .numbers)) 0 ≡ t → leb (x .offset) 99 ≡ u
+          → pick t (pick u (outputBy (askedOf x) (headerOf file) file) (refusalLine 33 0)) (refusalLine (setUpOf (asGiven x .numbers)) 0)
+          ≡ pick t (pick u (outputBy (asGiven x) (headerOf file) file) (refusalLine 33 0)) (refusalLine (setUpOf (asGiven x .numbers)) 0)
+      go false u e f = refl
+      go true false e f = refl
+      go true true e f =
+          let same = all-fit (eqb-true (setUpOf (asGiven x .numbers)) 0 e) (leb-true (x .offset) 99 f) in
+          ap (λ (a : Asked). outputBy a (headerOf file) file) same

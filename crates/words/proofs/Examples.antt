@@ -1,0 +1,56 @@
+-- Words and numbers, computed: the rule's own height of 65,536, and the greatest and the shortest of what is a number.
+use Rattle.laws.specs.Kit.{_≡_, refl, [], ℕ}
+use Rattle.laws.specs.Fold.{fold}
+use Rattle.limits.specs.Paper.{rateOf, frameLength, classOf, troFits, firstNo, setUpRefusal}
+use Rattle.timing.specs.Step.{setUpOf}
+use Rattle.text.specs.Decimal.{codes}
+use Rattle.words.specs.declared.Nine.{Nine}
+use Rattle.words.specs.declared.Word.the-variants.{NoNumber, Number}
+use Rattle.words.specs.Paper.{allDigits, numberIn, wordOf, askedOf}
+
+pub greatest : wordOf (codes "9999999999999999999") ≡ Number 9999999999999999999
+unfolding wordOf numberIn allDigits fold
+greatest = refl
+
+pub zeros-lead : wordOf (codes "007") ≡ Number 7
+unfolding wordOf numberIn allDigits fold
+zeros-lead = refl
+
+pub twenty : wordOf (codes "10000000000000000000") ≡ NoNumber
+unfolding wordOf
+twenty = refl
+
+pub none : wordOf [] ≡ NoNumber
+unfolding wordOf
+none = refl
+
+pub a-point : wordOf (codes "1.5") ≡ NoNumber
+unfolding wordOf numberIn allDigits
+a-point = refl
+
+-- 1080p50, gapped and narrow, but for its height and TRO
+abbrev of-height : ℕ → ℕ → Nine
+of-height height tro = record {
+  port = 20000;
+  offset = 37;
+  rate = 6;
+  schedule = 0;
+  class = 1;
+  height = height;
+  n = 4;
+  maxudp = 1460;
+  tro = tro;
+}
+
+-- R18: "as a height of 65,536, is refused as set-up refuses such a number"
+pub too-high : setUpOf (askedOf (of-height 65536 4294967295) .numbers) ≡ 4
+unfolding askedOf setUpRefusal firstNo classOf troFits frameLength rateOf
+too-high = refl
+
+pub too-late : setUpOf (askedOf (of-height 1080 4294967296) .numbers) ≡ 7
+unfolding askedOf setUpRefusal firstNo classOf troFits frameLength rateOf
+too-late = refl
+
+pub measured : setUpOf (askedOf (of-height 1080 4294967295) .numbers) ≡ 0
+unfolding askedOf setUpRefusal firstNo classOf troFits frameLength rateOf
+measured = refl

@@ -1,0 +1,6 @@
+-- The theorems of this crate, file by file, lowest first; each file says in its first line what it shows.
+pub mod Reading
+pub mod Placing
+pub mod AsGiven
+pub mod Spelling
+pub mod Examples

@@ -1,0 +1,87 @@
+-- Each number is put in its place, which holds it.
+use borrow.Author.Needs.{needs}
+use Rattle.words.specs.Paper.{askedOf}
+use Rattle.words.proofs.Nine.asked.Statement.{statement}
+use Rattle.words.proofs.Nine.asked.Tie as tie
+
+place-requires : tie.Need-place-requires
+place-requires c κs = search needs
+
+cast-t3 : tie.Need-cast-t3
+cast-t3 c = search needs
+
+place-requires-2 : tie.Need-place-requires-2
+place-requires-2 c κs = search needs
+
+cast-t5 : tie.Need-cast-t5
+cast-t5 c = search needs
+
+place-requires-3 : tie.Need-place-requires-3
+place-requires-3 c κs = search needs
+
+cast-t7 : tie.Need-cast-t7
+cast-t7 c = search needs
+
+place-requires-4 : tie.Need-place-requires-4
+place-requires-4 c κs = search needs
+
+cast-t9 : tie.Need-cast-t9
+cast-t9 c = search needs
+
+place-requires-5 : tie.Need-place-requires-5
+place-requires-5 c κs = search needs
+
+cast-t11 : tie.Need-cast-t11
+cast-t11 c = search needs
+
+place-requires-6 : tie.Need-place-requires-6
+place-requires-6 c κs = search needs
+
+cast-t13 : tie.Need-cast-t13
+cast-t13 c = search needs
+
+sub-place : tie.Need-sub-place
+sub-place c = search needs
+
+place-requires-7 : tie.Need-place-requires-7
+place-requires-7 c κs = search needs
+
+cast-t16 : tie.Need-cast-t16
+cast-t16 c = search needs
+
+cast-t19 : tie.Need-cast-t19
+cast-t19 c = search needs
+
+place-requires-8 : tie.Need-place-requires-8
+place-requires-8 c κs = search needs
+
+cast-t21 : tie.Need-cast-t21
+cast-t21 c = search needs
+
+returns : tie.Need-returns
+unfolding askedOf
+returns c = cc
+
+pub asked-spec : {M : Type 1} → statement M
+asked-spec =
+    tie.close
+    (tie.spec
+    place-requires
+    cast-t3
+    place-requires-2
+    cast-t5
+    place-requires-3
+    cast-t7
+    place-requires-4
+    cast-t9
+    place-requires-5
+    cast-t11
+    place-requires-6
+    cast-t13
+    sub-place
+    place-requires-7
+    cast-t16
+    cast-t19
+    place-requires-8
+    cast-t21
+    returns)
