@@ -1,5 +1,5 @@
 -- What calls of the system were handed and answered. The logic knows of no read and no write, so these are marks: they are opaque, and
--- `say-so` and `hear-so` are cited in one place each, the proof of the function that makes that call and does nothing else.
+-- `say-so`, `hear-so` and `argue-so` are cited in one place each, the proof of the function that makes that call and does nothing else.
 use Rattle.laws.specs.Kit.{Bool, List, ℕ, ℤ}
 
 -- a call was handed these bytes to be written, and answered whether it wrote them all
@@ -17,3 +17,11 @@ Heard got = Unit
 pub hear-so : (got : ℤ) → Heard got
 unfolding Heard
 hear-so got = tt
+
+-- the program was called with this word at this place
+pub Argued : ℕ → List ℕ → Type 0
+Argued place word = Unit
+
+pub argue-so : (place : ℕ) (word : List ℕ) → Argued place word
+unfolding Argued
+argue-so place word = tt

@@ -1,0 +1,2 @@
+-- The theorems of this crate, file by file, lowest first; each file says in its first line what it shows.
+pub mod Asking
