@@ -512,18 +512,51 @@ static struct ratios measure_capture(uint32_t n, size_t count, size_t captured, 
     return r;
 }
 
+static int64_t number(const uint8_t *out, size_t k)
+{
+    uint64_t x = 0;
+    for (int i = 0; i < 8; i++) x = x << 8 | out[8 * k + (size_t)i];
+    return (int64_t)x;
+}
+
+/* bench FILE and the nine words of vcapture: what vcapture prints of it, by libpcap; status 3 where there is no libpcap. */
+static int print_by_libpcap(char **words)
+{
+    static const char *const buffers[] = {"none", "pass", "under", "over"};
+    uint32_t x[9];
+    for (int k = 0; k < 9; k++) x[k] = (uint32_t)strtoul(words[k + 1], NULL, 10);
+    size_t size = 64 << 20;
+    uint8_t *out = room(size);
+    uint32_t refused = libpcap_capture(words[0], (uint16_t)x[0], x[1], (uint8_t)x[2], (uint8_t)x[3], (uint8_t)x[4], (uint16_t)x[5], x[6],
+                                       (uint16_t)x[7], x[8], out, size);
+    if (refused) return refused == NO_LIBPCAP ? 3 : 1;
+    for (int64_t frame = 0; frame < number(out, 1); frame++) {
+        printf("frame");
+        for (int k = 0; k < ROW; k++) printf(" %" PRId64, number(out, CAPTURE_SUMMARY + ROW * (size_t)frame + (size_t)k));
+        printf("\n");
+    }
+    printf("packets %" PRId64 " frames %" PRId64 " peak %" PRId64 " network ", number(out, 0), number(out, 1), number(out, 2));
+    if (number(out, 3)) printf("burst %" PRId64 " %" PRId64, number(out, 4), number(out, 5));
+    else printf("pass");
+    printf(" buffer %s", buffers[number(out, 6) & 3]);
+    if (number(out, 6) > 1) printf(" %" PRId64 " %" PRId64, number(out, 7), number(out, 8));
+    printf(" records %" PRId64 " skipped %" PRId64 "\n", number(out, 9), number(out, 10));
+    free(out);
+    return 0;
+}
+
 static void keep_worst(struct ratios *worst, struct ratios r)
 {
     if (r.same > worst->same) worst->same = r.same;
     if (r.system > worst->system) worst->system = r.system;
 }
 
-/* bench N PACKETS FILE: the record file of such a stream, for the programs. */
-static int write_file(uint32_t n, size_t count, const char *name)
+/* bench N PACKETS FILE: the record file of such a stream, for the programs. bench N PACKETS CAPTURED FILE: its capture. */
+static int write_file(uint32_t n, size_t count, size_t captured, const char *name)
 {
     struct stream s = {RATE, 0, 1, 1080, n, 1460, DEFAULT_TRO};
     struct list l = jittered(count, n);
-    struct file f = file_of(s, l);
+    struct file f = captured ? capture_of(l, captured) : file_of(s, l);
     save(f, name);
     free_list(l);
     free(f.bytes);
@@ -532,9 +565,13 @@ static int write_file(uint32_t n, size_t count, const char *name)
 
 int main(int argc, char **argv)
 {
-    if (argc == 4) return write_file((uint32_t)strtoul(argv[1], NULL, 10), strtoul(argv[2], NULL, 10), argv[3]);
+    size_t word[4] = {0};
+    for (int k = 1; k < argc && k < 4; k++) word[k] = strtoul(argv[k], NULL, 10);
+    if (argc == 4) return write_file((uint32_t)word[1], word[2], 0, argv[3]);
+    if (argc == 5) return write_file((uint32_t)word[1], word[2], word[3], argv[4]);
+    if (argc == 11) return print_by_libpcap(argv + 1);
     if (argc != 2) {
-        fprintf(stderr, "usage: bench SCRATCH; bench N PACKETS FILE\n");
+        fprintf(stderr, "usage: bench SCRATCH; bench N PACKETS FILE; bench N PACKETS CAPTURED FILE; bench FILE and the nine words of vcapture\n");
         return 2;
     }
     agree_on_short_lists(20000);

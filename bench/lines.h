@@ -1,4 +1,4 @@
-/* The lines that the program in C prints, gathered and written when a window is full: plain.c. */
+/* The lines that the programs in C print, gathered and written when a window is full: plain.c and walk.c. */
 #ifndef LINES_H
 #define LINES_H
 

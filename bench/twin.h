@@ -1,6 +1,6 @@
 /* The same measurement in C, written for speed: what follows from a stream's numbers, one packet more, and a frame
    closed. It shares no code with the proved one, and nothing proves it: it is here to be timed, and bench.c holds its
-   results against the proved code's. twin.c measures arrays and files with it, walker.c captures; plain.c is a program over it. */
+   results against the proved code's. twin.c measures arrays and files with it, walker.c captures; plain.c and walk.c are programs over it. */
 #ifndef TWIN_H
 #define TWIN_H
 

@@ -1,5 +1,5 @@
 /* A capture walked in C, written for speed and proved by nothing: its header, its records, and which of their frames are handed
-   on. walker.c measures a whole capture in memory with it, and libpcap.c takes what it says of a
+   on. walker.c measures a whole capture in memory with it, walk.c is a program over it, and libpcap.c takes what it says of a
    frame. It shares no code with the proved reader. */
 #ifndef WALKER_H
 #define WALKER_H

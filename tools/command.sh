@@ -1,7 +1,7 @@
 # shellcheck shell=bash
 # shellcheck disable=SC2154 # `name`, `here`, `installed`, `reads` and `thing` are the command's
-# Sourced by the command vtiming, and fit for others, which have in common all but their options and their words. It runs the proved
-# program of the command's name on this machine, passes its lines on as they come, and turns the last one into an exit status. In the
+# Sourced by the commands vtiming and vcapture, which have in common all but their options and their words. It runs the proved program of
+# the command's name on this machine, passes its lines on as they come, and turns the last one into an exit status. In the
 # repository it first builds the program where it is missing or older than its sources; installed by a package it finds it in
 # ../lib/vtiming. The command sets `name`; `here`, its own folder; `installed`, that of the program, or nothing in the repository;
 # `thing`, what it reads one of; `reads`, what --version says of that. It has these functions, and then calls `main` with its words:

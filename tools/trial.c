@@ -1,6 +1,6 @@
 /* Tries what the package installs, as somebody else's program would use it: prints of each record file that is named what
- * `vtiming` prints of it, and of each capture (NAME.pcap) the rows and the answer in the same words, by the C functions and the names of
- * the header alone; before that, the header's version. tools/package compiles it as C and as C++ and compares what it
+ * `vtiming` prints of it, and of each capture (NAME.pcap) what `vcapture --port 20000 --rate 50 --packets 8` does, by the C functions and
+ * the names of the header alone; before that, the header's version. tools/package compiles it as C and as C++ and compares what it
  * prints. No file here closes a frame before it is refused, which the program would print and the C call does not tell. */
 #include <vtiming.h>
 #include <inttypes.h>
