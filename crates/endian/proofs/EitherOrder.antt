@@ -6,7 +6,7 @@ use Rattle.endian.specs.declared.Order.{Order}
 use Rattle.endian.specs.declared.Order.the-variants.{Big, Little}
 use Rattle.endian.specs.Number.{numberOf, bytesOf, Bytes, Room}
 use Rattle.endian.specs.Order.{turned, numberBy, bytesBy, joined}
-use Rattle.endian.proofs.Width.{bytes-append, number-bytes, bytes-number, number-join, number-byte}
+use Rattle.endian.proofs.Width.{bytes-append, number-bytes, bytes-number, number-join, number-byte, bytes-all, bytes-take, bytes-drop}
 
 pub turned-twice : (o : Order) (l : List ℕ) → turned o (turned o l) ≡ l
 turned-twice Big l = refl
@@ -58,3 +58,19 @@ halves-by o k {named} {s} {at} told h e f =
     let long-u : length u ≡ k = length-take-le k _ (rw length-drop (omega (arith, h .inside))) in
     let long-v : length v ≡ k = length-take-le k _ (rw length-drop (omega (arith, h .inside))) in
     rw (e, f, told) (number-joined o k u v long-u long-v ∙ rw (take-add k k (drop at s), drop-drop k at s))
+
+-- the number that bytes are the other way round, from the number that they are
+pub number-turned : (l : List ℕ) → Bytes l → numberOf (reverse (bytesOf (length l) (numberOf l))) ≡ numberOf (reverse l)
+number-turned l h = ap (λ (m : List ℕ). numberOf (reverse m)) (bytes-number l h)
+
+-- four bytes that were read the highest first are the number of the little order when they are turned
+pub little-by : {named : Order} {s : List ℕ} {at x r : ℕ} → named ≡ Little → Room 4 s at → ((i : ℕ) → getD s i 0 < 256)
+    → x ≡ numberBy Big 4 s at → r ≡ numberOf (reverse (bytesOf 4 x)) → r ≡ numberBy named 4 s at
+little-by {named} {s} {at} told h b e f =
+    let l = take 4 (drop at s) in
+    let long : length l ≡ 4 = length-take-le 4 (drop at s) (omega (arith, h .inside, length-drop at s)) in
+    rw (f, e, told) (ap (λ (k : ℕ). numberOf (reverse (bytesOf k (numberOf l)))) (sym long)
+    ∙ number-turned l (bytes-take 4 (drop at s) (bytes-drop at s (bytes-all s b))))
+
+pub big-by : {named : Order} (s : List ℕ) (at : ℕ) {x : ℕ} → named ≡ Big → x ≡ numberBy Big 4 s at → x ≡ numberBy named 4 s at
+big-by s at told e = rw told e

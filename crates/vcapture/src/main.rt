@@ -15,6 +15,13 @@ ghost use Rattle.window.specs.Said.{Argued};
 ghost use Rattle.window.specs.Run.{ProgramGives};
 ghost use Rattle.spool.specs.Step.{machine};
 ghost use Rattle.vcapture.specs.Asking.{Stands-at, AskGives};
+ghost use Rattle.vcapture.specs.Calling.{CallGives};
+
+// The words are no call; or how the run ended.
+enum Answered {
+    NoCall,
+    Ran { end: End },
+}
 
 // The one question for a word: how many bytes it has, or 0 where it is missing or too long.
 fn argument(place: usize, word: &mut [u8]) -> usize
@@ -92,14 +99,24 @@ fn run(asked: Asked, window: &mut [u8], out: &mut [u8]) -> End
     End::TurnsOver
 }
 
-// The window holds a record's header and all of a frame that can matter, 178 bytes, and two reads' worth more: a longer frame is passed over
-// as it comes. Both arrays are lent from here, and no other memory is used.
-fn main() {
+// A call: the run of what its words ask.
+fn answer(window: &mut [u8], out: &mut [u8]) -> Answered
+    requires { ⌜ (178 ≤ length (now window)) × (lineRoom ≤ length (now out)) ⌝ }
+    ensures { λ r. ⌜ CallGives (length (now (out .entry))) r ⌝ }
+{
     let given = ask();
     let Given::Asked(asked) = given else {
-        return;
+        return Answered::NoCall;
     };
+    Answered::Ran {
+        end: run(asked, window, out),
+    }
+}
+
+// The window holds a record's header and all of a frame that can matter, 178 bytes, and more, so that reads are few: a longer frame is
+// passed over as it comes. Both arrays are lent from here, and no other memory is used.
+fn main() {
     let mut window = [0u8; 131072];
     let mut out = [0u8; 65536];
-    run(asked, &mut window, &mut out);
+    answer(&mut window, &mut out);
 }

@@ -18,7 +18,7 @@ pub hear-so : (got : ℤ) → Heard got
 unfolding Heard
 hear-so got = tt
 
--- the program was called with this word at this place
+-- the program was called with this word at this place; one that is missing or too long for the bytes that were lent for it counts as empty
 pub Argued : ℕ → List ℕ → Type 0
 Argued place word = Unit
 
