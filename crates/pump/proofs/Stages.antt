@@ -1,9 +1,10 @@
 -- What a step of the program for record files keeps: the bytes used lie within what is shown; the text and what is still to be printed are
 -- the output; and more is wanted only where more may come, with room for it in a window of 65,538 bytes. By the stage.
-use Rattle.laws.specs.Kit.{_≡_, refl, sym, ap, subst, _∙_, Bool, true, false, List, [], ℕ, _≤_, arith, eqb, length}
+use Rattle.laws.specs.Kit.{_≡_, refl, sym, subst, Bool, true, false, List, [], ℕ, _≤_, _<_, arith, length}
 use Rattle.laws.proofs.Choose.{false-true}
+use Rattle.record.specs.Paper.{headBytes}
 use Rattle.record.proofs.InPieces.{head-suffices}
-use Rattle.text.specs.Lines.{lineRoom}
+use Rattle.text.specs.Lines.{lineRoom, refusalLine}
 use Rattle.printer.specs.declared.Walk.{Walk}
 use Rattle.printer.specs.declared.Opened.{Opened}
 use Rattle.printer.specs.declared.Opened.the-variants.{More as Wanting, Refused as Unopened, Ready as Opens}
@@ -15,7 +16,7 @@ use Rattle.printer.proofs.Beginning.{Tells, begin-tells, Answered, head-answere
 use Rattle.printer.proofs.Output.{take-stands, take-ended, take-goes-on, moves-last, moves-full}
 use Rattle.window.specs.Step.{Did}
 use Rattle.window.proofs.Showing.{Bytes}
-use Rattle.window.proofs.Keeping.{Follows, Kept, Keeps, used-none, not-last}
+use Rattle.window.proofs.Keeping.{Follows, Kept, Keeps, keeps-waiting, keeps-refusing, keeps-going, keeps-taken}
 use Rattle.pump.specs.declared.Stage.{Stage}
 use Rattle.pump.specs.declared.Stage.the-variants.{Head, Walking}
 use Rattle.pump.specs.Step.{openMove, tookMove, moveBy, machine}
@@ -37,56 +38,30 @@ abbrev KeptBy : Stage → List ℕ → Bool → ℕ → Did Stage → Type 0
 KeptBy s l last room k = Kept still Good lineRoom size s l last room k
 
 module _ (l : List ℕ) (last : Bool) (room : ℕ) where
-  opens : (o : Opened) → beginOf l last ≡ o → Headed o (length l) → Follows last (λ v. Tells l v o)
-      → (last ≡ true → Answered o) → (Bytes l → size ≤ length l → Answered o) → KeptBy Head l last room (openMove o)
-  opens Wanting e h t a b = record {
-    inside = omega arith;
-    good = tt;
-    goes = λ f v q. refl;
-    ends = λ f v q. absurd (false-true f);
-    waits = λ r f g. not-last last a;
-    roomy = λ r x n f g. b x n;
-  }
-  opens (Unopened number offset) e h t a b = record {
-    inside = omega arith;
-    good = tt;
-    goes = λ f v q. absurd (false-true (sym f));
-    ends = λ f v q. sym (t v q);
-    waits = λ r f g. absurd (false-true (sym f));
-    roomy = λ r x n f g. false-true g;
-  }
-  opens (Opens walk) e h t a b = record {
-    inside = h;
-    good = t [] (λ z. refl) .0;
-    goes = λ f v q. sym (t v q .1);
-    ends = λ f v q. absurd (false-true f);
-    waits = λ r f g. absurd (false-true g);
-    roomy = λ r x n f g. false-true g;
-  }
+  opens : (o : Opened) → Headed o (length l) → Follows last (λ v. Tells l v o) → (last ≡ true → Answered o)
+      → (Bytes l → size ≤ length l → Answered o) → KeptBy Head l last room (openMove o)
+  opens Wanting h t a b = keeps-waiting still Good lineRoom size Head l last room tt a b
+  opens (Unopened number offset) h t a b = keeps-refusing still Good lineRoom size Head l last room (refusalLine number offset) tt t
+  opens (Opens walk) h t a b =
+      keeps-going still Good lineRoom size Head l last room (Walking walk) headBytes h (t [] (λ z. refl) .0) (λ v q. t v q .1)
 
   open-keeps : KeptBy Head l last room (openMove (beginOf l last))
   open-keeps =
-      opens (beginOf l last) refl (begin-headed l last) (λ v q. begin-tells l v last q)
+      opens (beginOf l last) (begin-headed l last) (λ v q. begin-tells l v last q)
       (λ z. subst (λ (t : Bool). Answered (beginOf l t)) (sym z) (begin-answered l))
       (λ b n. head-answered l last (head-suffices l last b n))
 
   walk-keeps : (walk : Walk) → Stands walk → KeptBy (Walking walk) l last room (tookMove (takeOf walk l last room))
-  walk-keeps walk z = record {
-    inside = take-inside walk l last room;
-    good = take-stands walk l [] last room z (λ e. refl);
-    goes = λ f v q. take-goes-on walk l v last room z q f;
-    ends = λ f v q. take-ended walk l v last room z q f;
-    waits = λ r f g. go last refl r f g;
-    roomy = λ r b n f g. used-none g (moves-full walk l last room r b (omega arith) f);
-  }
+  walk-keeps walk z =
+      let k = takeOf walk l last room in
+      keeps-taken still Good lineRoom size (Walking walk) l last room (Walking (k .walk)) (k .used) (k .text) (k .ended)
+      (take-inside walk l last room) (take-stands walk l [] last room z (λ e. refl))
+      (λ f v q. take-goes-on walk l v last room z q f) (λ f v q. take-ended walk l v last room z q f)
+      (λ r f q. at-end last q r f) (λ r f b n. moves-full walk l last room r b (omega arith) f)
     where
-      go : (t : Bool) → last ≡ t → lineRoom ≤ room → takeOf walk l last room .ended ≡ false
-          → eqb (takeOf walk l last room .used) 0 ≡ true → t ≡ false
-      go false q r f g = refl
-      go true q r f g =
-          let over : takeOf walk l true room .ended ≡ false = ap (λ (t : Bool). takeOf walk l t room .ended) (sym q) ∙ f in
-          let none : eqb (takeOf walk l true room .used) 0 ≡ true = ap (λ (t : Bool). eqb (takeOf walk l t room .used) 0) (sym q) ∙ g in
-          absurd (used-none none (moves-last walk l room r over))
+      at-end : (t : Bool) → t ≡ true → lineRoom ≤ room → takeOf walk l t room .ended ≡ false → 0 < takeOf walk l t room .used
+      at-end true q r f = moves-last walk l room r f
+      at-end false q r f = absurd (false-true q)
 
 move-keeps : (s : Stage) (l : List ℕ) (last : Bool) (room : ℕ) → Good s → KeptBy s l last room (moveBy s l last room)
 unfolding moveBy

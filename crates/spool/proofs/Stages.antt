@@ -1,9 +1,9 @@
 -- What a step of the program for captures keeps: the bytes used lie within what is shown; the text and what is still to be printed are the
 -- output; and more is wanted only where more may come, with room for it in a window of 178 bytes. By the stage.
-use Rattle.laws.specs.Kit.{_≡_, refl, sym, ap, _∙_, Bool, true, false, List, [], ℕ, _+_, _≤_, arith, eqb, length}
+use Rattle.laws.specs.Kit.{_≡_, refl, sym, _∙_, Bool, true, List, [], ℕ, _+_, _≤_, arith, length}
 use Rattle.laws.proofs.Choose.{false-true}
 use Rattle.headers.specs.Step.{matter}
-use Rattle.text.specs.Lines.{lineRoom}
+use Rattle.text.specs.Lines.{lineRoom, refusalLine}
 use Rattle.capture.specs.Paper.{headerBytes, recordBytes}
 use Rattle.reel.specs.declared.Asked.{Asked}
 use Rattle.reel.specs.declared.Reel.{Reel}
@@ -14,7 +14,7 @@ use Rattle.reel.specs.Step.{beginOf, takeOf, restBy, Stands}
 use Rattle.reel.proofs.Beginning.{Tells, begin-tells, Answered, begin-answered}
 use Rattle.reel.proofs.Output.{take-stands, take-ended, take-goes-on, take-inside, take-moves}
 use Rattle.window.specs.Step.{Did}
-use Rattle.window.proofs.Keeping.{Follows, Kept, Keeps, used-none, not-last}
+use Rattle.window.proofs.Keeping.{Follows, Kept, Keeps, keeps-waiting, keeps-refusing, keeps-going, keeps-taken}
 use Rattle.spool.specs.declared.Stage.{Stage}
 use Rattle.spool.specs.declared.Stage.the-variants.{Leader, Rolling}
 use Rattle.spool.specs.Step.{leadMove, rolledMove, moveBy, machine}
@@ -39,30 +39,11 @@ KeptBy s l last room k = Kept still Good lineRoom size s l last room k
 module _ (l : List ℕ) (last : Bool) (room : ℕ) where
   leads : (asked : Asked) (o : Threaded) → Follows last (λ v. Tells asked l v o) → (last ≡ true → Answered o)
       → (headerBytes ≤ length l → Answered o) → KeptBy (Leader asked) l last room (leadMove asked o)
-  leads asked Wanting t a b = record {
-    inside = omega arith;
-    good = tt;
-    goes = λ f v q. refl;
-    ends = λ f v q. absurd (false-true f);
-    waits = λ r f g. not-last last a;
-    roomy = λ r x n f g. b (omega arith);
-  }
-  leads asked (Unthreaded number) t a b = record {
-    inside = omega arith;
-    good = tt;
-    goes = λ f v q. absurd (false-true (sym f));
-    ends = λ f v q. sym (t v q);
-    waits = λ r f g. absurd (false-true (sym f));
-    roomy = λ r x n f g. false-true g;
-  }
-  leads asked (Threads reel) t a b = record {
-    inside = t [] (λ z. refl) .1;
-    good = t [] (λ z. refl) .0;
-    goes = λ f v q. sym (t v q .2);
-    ends = λ f v q. absurd (false-true f);
-    waits = λ r f g. absurd (false-true g);
-    roomy = λ r x n f g. false-true g;
-  }
+  leads asked Wanting t a b = keeps-waiting still Good lineRoom size (Leader asked) l last room tt a (λ x n. b (omega arith))
+  leads asked (Unthreaded number) t a b = keeps-refusing still Good lineRoom size (Leader asked) l last room (refusalLine number 0) tt t
+  leads asked (Threads reel) t a b =
+      let first = t [] (λ z. refl) in
+      keeps-going still Good lineRoom size (Leader asked) l last room (Rolling reel) headerBytes (first .1) (first .0) (λ v q. t v q .2)
 
   lead-keeps : (asked : Asked) → KeptBy (Leader asked) l last room (leadMove asked (beginOf asked l last))
   lead-keeps asked =
@@ -70,19 +51,12 @@ module _ (l : List ℕ) (last : Bool) (room : ℕ) where
       (λ z. begin-answered asked l last (λ h. z)) (λ h. begin-answered asked l last (λ k. absurd (omega arith)))
 
   roll-keeps : (reel : Reel) → Stands reel → KeptBy (Rolling reel) l last room (rolledMove (takeOf reel l last room))
-  roll-keeps reel z = record {
-    inside = take-inside reel l last room;
-    good = take-stands reel l [] last room z (λ e. refl);
-    goes = λ f v q. take-goes-on reel l v last room z q f;
-    ends = λ f v q. take-ended reel l v last room z q f;
-    waits = λ r f g. go last refl r f g;
-    roomy = λ r b n f g. used-none g (take-moves reel l last room r (λ e. n) f);
-  }
-    where
-      go : (t : Bool) → last ≡ t → lineRoom ≤ room → takeOf reel l last room .ended ≡ false
-          → eqb (takeOf reel l last room .used) 0 ≡ true → t ≡ false
-      go false q r f g = refl
-      go true q r f g = absurd (used-none g (take-moves reel l last room r (λ e. absurd (false-true (sym e ∙ q))) f))
+  roll-keeps reel z =
+      let k = takeOf reel l last room in
+      keeps-taken still Good lineRoom size (Rolling reel) l last room (Rolling (k .reel)) (k .used) (k .text) (k .ended)
+      (take-inside reel l last room) (take-stands reel l [] last room z (λ e. refl))
+      (λ f v q. take-goes-on reel l v last room z q f) (λ f v q. take-ended reel l v last room z q f)
+      (λ r f q. take-moves reel l last room r (λ e. absurd (false-true (sym e ∙ q))) f) (λ r f b n. take-moves reel l last room r (λ e. n) f)
 
 move-keeps : (s : Stage) (l : List ℕ) (last : Bool) (room : ℕ) → Good s → KeptBy s l last room (moveBy s l last room)
 unfolding moveBy
