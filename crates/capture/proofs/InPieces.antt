@@ -15,8 +15,9 @@ use Rattle.capture.specs.declared.Front.the-variants as front
 use Rattle.capture.specs.declared.Cursor.{Cursor}
 use Rattle.capture.specs.declared.Next.{Next}
 use Rattle.capture.specs.declared.Next.the-variants as next
-use Rattle.capture.specs.Paper.{recordBytes, packet, skipped, done, stopped, Records, none, more, recordsIn}
+use Rattle.capture.specs.Paper.{recordBytes, done, stopped, none, recordsIn}
 use Rattle.capture.specs.Step.{frontOf, between, settledBy, passedOf, begunBy, nextOf, tellBy, restFrom}
+use Rattle.capture.specs.Pieces.{Keeps}
 use Rattle.capture.proofs.Records.{Says, front-says, records-end, size-some, record-there, record-cut}
 
 -- ---- the rest of a file from a cursor on
@@ -36,15 +37,6 @@ module _ (p : Setting) (c : Cursor) (l : List ℕ) where
     rest-told k = rw (ne-eqb (c .left) 0 (λ z. omega arith), le-ltb (length l) (c .left) k)
 
 -- ---- what an answer keeps
-
-abbrev pub Keeps : Setting → Cursor → List ℕ → List ℕ → Next → Type 0
-Keeps p c w v (next.Packet q used) =
-    (0 < used) × (used ≤ length w) × (restFrom p c (w ++ v) ≡ more (packet q) (recordsIn p (drop used w ++ v)))
-Keeps p c w v (next.Skipped used) =
-    (0 < used) × (used ≤ length w) × (restFrom p c (w ++ v) ≡ more skipped (recordsIn p (drop used w ++ v)))
-Keeps p c w v (next.More d used) = (used ≤ length w) × (restFrom p c (w ++ v) ≡ restFrom p d (drop used w ++ v))
-Keeps p c w v next.End = restFrom p c (w ++ v) ≡ none done
-Keeps p c w v (next.Refused n) = restFrom p c (w ++ v) ≡ none (stopped n)
 
 module _ (p : Setting) (w v : List ℕ) (last : Bool) (end : last ≡ true → v ≡ []) where
   ends : last ≡ true → w ++ v ≡ w

@@ -14,7 +14,8 @@ use Rattle.capture.specs.declared.Ahead.{Ahead}
 use Rattle.capture.specs.declared.Ahead.the-variants as ahead
 use Rattle.capture.specs.Paper.{packet, skipped, done, stopped, Records, none, more, recordsIn}
 use Rattle.capture.specs.Step.{between, nextOf, restFrom, behindBy, aheadNext, aheadBy, aheadOf, skipping, UsedFits}
-use Rattle.capture.proofs.InPieces.{Keeps, next-keeps}
+use Rattle.capture.specs.Pieces.{Keeps}
+use Rattle.capture.proofs.InPieces.{next-keeps}
 
 -- what is used lies within the window, and a record takes some of it
 abbrev pub Within : List ℕ → Next → Type 0

@@ -168,14 +168,18 @@ module _ (f : Format) (s : List ℕ) (h : Headed f s) where
       big Little e m = absurd (big-little e)
       big Big e m = m
 
--- R12: "a capture and the same capture in the other order have the same answer"
-pub capture-swapped : (port offset : ℕ) (y : Seen) (f : Format) (s : List ℕ) → Bytes (wordAt 0 s) → headerOf s ≡ capture f
+-- it is known, with its words in the other order, and holds the same records
+pub swapped-known : (f : Format) (s : List ℕ) → Bytes (wordAt 0 s) → headerOf s ≡ capture f → headerOf (swapFile f s) ≡ capture (otherOrder f)
+swapped-known f s b e = header-as (otherOrder f) (swapFile f s) (swapped-headed f s (subst (Says s) e (header-says s)) b)
+
+pub swapped-records : (p : Setting) (s : List ℕ) → headerOf s ≡ capture (p .format)
+    → recordsIn (otherSetting p) (drop headerBytes (swapFile (p .format) s)) ≡ recordsIn p (drop headerBytes s)
+swapped-records p s e = rw (past-header (p .format) s (subst (Says s) e (header-says s))) (records-swapped p (drop headerBytes s))
+
+-- R12: so its check is the same
+pub check-swapped : (port offset : ℕ) (y : Seen) (f : Format) (s : List ℕ) → Bytes (wordAt 0 s) → headerOf s ≡ capture f
     → checkedOf port offset y (swapFile f s) ≡ checkedOf port offset y s
 unfolding checkedOf
-capture-swapped port offset y f s b e =
-    let h = subst (Says s) e (header-says s) in
-    let turned-header = header-as (otherOrder f) (swapFile f s) (swapped-headed f s h b) in
+check-swapped port offset y f s b e =
     let p : Setting = record { format = f; port = port; offset = offset } in
-    let same : recordsIn (otherSetting p) (drop headerBytes (swapFile f s)) ≡ recordsIn p (drop headerBytes s) =
-    rw (past-header f s h) (records-swapped p (drop headerBytes s)) in
-    rw (turned-header, e, same)
+    rw (swapped-known f s b e, e, swapped-records p s e)

@@ -1,3 +1,4 @@
 pub mod Paper
 pub mod Step
 pub mod Swap
+pub mod Pieces

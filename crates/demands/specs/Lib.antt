@@ -14,3 +14,5 @@ pub mod RoundTrips
 pub mod Calls
 -- 6. Output: what the program prints of a file, however it comes.
 pub mod Output
+-- 7. Captures: what is promised of a network capture: which frames count, a call on one, and what the program prints of it.
+pub mod Captures

@@ -2,4 +2,5 @@
 pub mod Reading
 pub mod Taking
 pub mod Feeding
+pub mod Swapped
 pub mod OneAnswer
