@@ -20,7 +20,7 @@ unfolding etherFits after
 internet-ether {b} {n} h (plain e) = rw (le-leb 14 n h, eq-eqb (pairAt b 12) ipv4 e)
 internet-ether {b} {n} h (tagged e k f) = rw (le-leb 18 n k, eq-eqb (pairAt b 16) ipv4 f)
 
-ether-internet : (b : List ℕ) (n : ℕ) → etherFits b n (ipAt b) ≡ true → Internet b n (ipAt b)
+pub ether-internet : (b : List ℕ) (n : ℕ) → etherFits b n (ipAt b) ≡ true → Internet b n (ipAt b)
 unfolding etherFits
 ether-internet b n f = go (eqb (pairAt b 12) tag) refl (facts _ f 0) (facts _ f 1)
   where

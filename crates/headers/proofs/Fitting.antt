@@ -3,7 +3,7 @@ use Rattle.laws.specs.Kit.{_≡_, refl, sym, ap, _∙_, Bool, true, false, _&&_
 use Rattle.laws.specs.Kit.{eqb, le-leb, lt-leb, eq-eqb, ne-eqb}
 use Rattle.laws.specs.Every.{after}
 use Rattle.headers.specs.Paper.{byteAt, pairAt, ipv4, tag}
-use Rattle.headers.specs.Step.{wordsAt, ipAt, endAt, etherFits, ipFits, udpFits, extensionFits, rtpFits}
+use Rattle.headers.specs.Step.{wordsAt, fragment, ipAt, endAt, etherFits, ipFits, udpFits, extensionFits, rtpFits}
 
 module _ (b : List ℕ) where
   pub behind-tag : pairAt b 12 ≡ tag → 18 ≡ ipAt b
@@ -36,16 +36,16 @@ module _ (b : List ℕ) (n ip : ℕ) where
       ip-words w = rw (le-leb (ip + 20) n h, eq-eqb (byteAt b ip / 16) 4 v, lt-leb 5 (wordsAt b ip) w)
 
       module _ (w : 5 ≤ wordsAt b ip) {r : ℕ} (e : r ≡ pairAt b (ip + 6)) where
-        ip-so-far : ipFits b n ip ≡ eqb (r % 16384) 0 && eqb (byteAt b (ip + 9)) 17
+        ip-so-far : ipFits b n ip ≡ eqb (r % fragment) 0 && eqb (byteAt b (ip + 9)) 17
         unfolding ipFits after
         ip-so-far =
             rw (le-leb (ip + 20) n h, eq-eqb (byteAt b ip / 16) 4 v, le-leb 5 (wordsAt b ip) w, e)
 
-        pub ip-fragment : (r % 16384 ≡ 0 → ⊥) → false ≡ ipFits b n ip
-        ip-fragment f = sym (ip-so-far ∙ rw (ne-eqb (r % 16384) 0 f))
+        pub ip-fragment : (r % fragment ≡ 0 → ⊥) → false ≡ ipFits b n ip
+        ip-fragment f = sym (ip-so-far ∙ rw (ne-eqb (r % fragment) 0 f))
 
-        pub ip-protocol : r % 16384 ≡ 0 → eqb (byteAt b (ip + 9)) 17 ≡ ipFits b n ip
-        ip-protocol f = sym (ip-so-far ∙ rw (eq-eqb (r % 16384) 0 f))
+        pub ip-protocol : r % fragment ≡ 0 → eqb (byteAt b (ip + 9)) 17 ≡ ipFits b n ip
+        ip-protocol f = sym (ip-so-far ∙ rw (eq-eqb (r % fragment) 0 f))
 
 module _ (b : List ℕ) (n udp port : ℕ) where
   pub udp-short : n < udp + 8 → false ≡ udpFits b n udp port

@@ -2,4 +2,5 @@
 pub mod Fitting
 pub mod Handing
 pub mod Exactly
+pub mod AtOnce
 pub mod Agreeing

@@ -16,13 +16,17 @@ etherFits b n ip = every (at-most ip n ∷ same (pairAt b (ip - 2)) ipv4 ∷ [])
 abbrev pub wordsAt : List ℕ → ℕ → ℕ
 wordsAt b ip = byteAt b ip % 16
 
+-- R4: the more-fragments bit and the fragment offset are the lowest 14 bits, the rest by this
+abbrev pub fragment : ℕ
+fragment = 16384
+
 unfoldable pub ipFits : List ℕ → ℕ → ℕ → Bool
 ipFits b n ip =
     every
     (at-most (ip + 20) n
     ∷ same (byteAt b ip / 16) 4
     ∷ at-most 5 (wordsAt b ip)
-    ∷ same (pairAt b (ip + 6) % 16384) 0
+    ∷ same (pairAt b (ip + 6) % fragment) 0
     ∷ same (byteAt b (ip + 9)) 17
     ∷ [])
 
@@ -63,6 +67,23 @@ fits b n port =
     ∷ is (ipFits b n (ipAt b))
     ∷ is (udpFits b n (udpIn b) port)
     ∷ is (rtpFits b n (rtpAt (udpIn b)))
+    ∷ [])
+
+-- R4: all hold of a frame without options, padding, extension or contributors: its headers end within 58 bytes, a tag's 4 among them
+abbrev pub plainBytes : ℕ
+plainBytes = 58
+
+unfoldable pub plainFits : List ℕ → ℕ → ℕ → Bool
+plainFits b n port =
+    let ip = ipAt b in
+    every
+    (at-most plainBytes n
+    ∷ same (pairAt b (ip - 2)) ipv4
+    ∷ same (byteAt b ip) 69
+    ∷ same (pairAt b (ip + 6) % fragment) 0
+    ∷ same (byteAt b (ip + 9)) 17
+    ∷ same (pairAt b (ip + 20 + 2)) port
+    ∷ same (byteAt b (ip + 20 + 8)) 128
     ∷ [])
 
 -- R4, R7: what becomes of a frame

@@ -6,7 +6,7 @@ use endian::read32;
 ghost use Rattle.laws.specs.Kit.{_≡_, _≤_, _<_, length};
 ghost use Rattle.endian.specs.Number.{Room};
 ghost use Rattle.headers.specs.Paper.{onAt};
-ghost use Rattle.headers.specs.Step.{Shown, Placed, ipAt, etherFits, ipFits, udpAt, udpFits, extensionFits, rtpFits, handedOf};
+ghost use Rattle.headers.specs.Step.{Shown, Placed, ipAt, etherFits, ipFits, udpAt, udpFits, extensionFits, rtpFits, plainFits, handedOf};
 
 // What becomes of a frame: its timestamp and marker are handed on, or it is skipped.
 pub enum Handed {
@@ -17,11 +17,22 @@ pub enum Handed {
 // How many bytes of a frame can matter, 14 + 4 + 60 + 8 + 12 + 60 + 4: an extension's words are counted, not read.
 pub const MATTER: usize = 162;
 
+// How many the headers of a plain frame have at most, 14 + 4 + 20 + 8 + 12.
+const PLAIN: usize = 58;
+
 const TAG: u16 = 0x8100;
 
 const IPV4: u16 = 0x0800;
 
 const UDP: u8 = 17;
+
+// The more-fragments bit and the fragment offset are the lowest 14 bits, the rest by this.
+const FRAGMENT: u16 = 16384;
+
+// The first bytes of the plainest headers: IPv4 of five words, and RTP of version 2 with no padding, extension or contributors.
+const FIVE_WORDS: u8 = 0x45;
+
+const VERSION_ALONE: u8 = 0x80;
 
 fn byte(x: u8) -> usize
     ensures { λ r. ⌜ (r ≡ x) × (r < 256) ⌝ }
@@ -72,7 +83,7 @@ fn ip_fits(b: &[u8], n: usize, ip: usize) -> bool
     if b[ip] % 16 < 5 {
         return false;
     }
-    if read16(b, ip + 6) % 16384 != 0 {
+    if read16(b, ip + 6) % FRAGMENT != 0 {
         return false;
     }
     b[ip + 9] == UDP
@@ -141,8 +152,26 @@ fn on_at(b: &[u8], rtp: usize) -> Handed
     }
 }
 
-// What becomes of a frame of `n` captured bytes, of which `b` shows the first: all, or at least the 162 that can matter.
-pub fn hand_on_front(b: &[u8], n: usize, port: u16) -> Handed
+// The frame of most senders: a tag or none, no options, and nothing in RTP's header but its 12 bytes. Then one test of length is enough.
+fn plain(b: &[u8], n: usize, port: u16) -> bool
+    requires { ⌜ Shown (now b) n ⌝ }
+    ensures { λ r. ⌜ r ≡ plainFits (now (b .entry)) n port ⌝ }
+{
+    if n < PLAIN {
+        return false;
+    }
+    let ip = ip_at(b);
+    let udp = ip + 20;
+    (read16(b, ip - 2) == IPV4)
+        & (b[ip] == FIVE_WORDS)
+        & (read16(b, ip + 6) % FRAGMENT == 0)
+        & (b[ip + 9] == UDP)
+        & (read16(b, udp + 2) == port)
+        & (b[udp + 8] == VERSION_ALONE)
+}
+
+// Any frame, header by header.
+fn hand_on_any(b: &[u8], n: usize, port: u16) -> Handed
     requires { ⌜ Shown (now b) n ⌝ }
     ensures { λ r. ⌜ r ≡ handedOf (now (b .entry)) n port ⌝ }
 {
@@ -164,6 +193,18 @@ pub fn hand_on_front(b: &[u8], n: usize, port: u16) -> Handed
         return Handed::Skipped;
     }
     on_at(b, udp + 8)
+}
+
+// What becomes of a frame of `n` captured bytes, of which `b` shows the first: all, or at least the 162 that can matter. The plain
+// frame is looked for first, since it has fewer tests.
+pub fn hand_on_front(b: &[u8], n: usize, port: u16) -> Handed
+    requires { ⌜ Shown (now b) n ⌝ }
+    ensures { λ r. ⌜ r ≡ handedOf (now (b .entry)) n port ⌝ }
+{
+    if plain(b, n, port) {
+        return on_at(b, ip_at(b) + 20 + 8);
+    }
+    hand_on_any(b, n, port)
 }
 
 // What becomes of a frame that is all there.
