@@ -1,11 +1,11 @@
 -- What is done with a network capture. First a frame and its headers (`handedOf`, headers' Step), then a capture call (`captureOf`, intake's
 -- Paper; what a capture holds is `recordsOf` and `packetsOf` there), its reader in pieces, the C function (`captureAnswer` and
 -- `captureFilled`, film's Paper), and any run of the program for captures, of which `outputOf` of reel's Paper says what it prints.
-use Rattle.laws.specs.Kit.{_≡_, Bool, true, false, List, [], ℕ, _+_, _≤_, _<_, min, ℤ, length, getD, ne-eqb}
+use Rattle.laws.specs.Kit.{_≡_, refl, _∙_, Bool, true, false, List, [], ℕ, _+_, _≤_, _<_, min, ℤ, length, getD, ne-eqb}
 use Rattle.endian.specs.Number.{Bytes}
 use Rattle.packet.specs.declared.Refusal.{Refusal}
 use Rattle.packet.specs.declared.Scanned.the-variants as scanned
-use Rattle.packet.specs.Step.{scanOf}
+use Rattle.packet.specs.Step.{nothing, scanOf}
 use Rattle.headers.specs.declared.Handed.the-variants.{Skipped}
 use Rattle.headers.specs.Paper.{HandedOn, onAt}
 use Rattle.headers.specs.Step.{handedOf}
@@ -23,7 +23,7 @@ use Rattle.capture.proofs.InPieces as pieces
 use Rattle.capture.proofs.Offsets as offsets
 use Rattle.timing.specs.declared.StreamNumbers.{StreamNumbers}
 use Rattle.timing.specs.declared.State.{State}
-use Rattle.timing.specs.Step.{setUpOf}
+use Rattle.timing.specs.Step.{setUpOf, rulesOf, freshOf}
 use Rattle.timing.specs.Range.{inRange}
 use Rattle.timing.specs.Feed.{feedAll}
 use Rattle.intake.specs.declared.Taken.the-variants.{Accepted, Refused}
@@ -35,7 +35,8 @@ use Rattle.film.specs.Paper.{captureChecked, captureAnswer, captureFilled}
 use Rattle.film.proofs.Leaving as film
 use Rattle.text.specs.Lines.{lineRoom}
 use Rattle.reel.specs.declared.Asked.{Asked}
-use Rattle.reel.specs.Paper.{outputOf}
+use Rattle.reel.specs.Paper.{outputOf, printedBy}
+use Rattle.reel.proofs.Wholly as wholly
 use Rattle.words.specs.declared.Nine.{Nine}
 use Rattle.words.specs.Paper.{asGiven, askedOf}
 use Rattle.words.proofs.AsGiven as words
@@ -142,6 +143,14 @@ refused-fills-nothing = film.refused-fills-nothing
 -- R18: "The program takes its numbers as they are given.": also those that are too large for their places
 pub output-as-given : (x : Nine) (file : List ℕ) → outputOf (askedOf x) file ≡ outputOf (asGiven x) file
 output-as-given = words.output-as-given
+
+-- R17, R19: "Lines as `vtiming` prints them": of the same packets and records as a capture call. The rows of those packets, all or those before
+-- the refused one, and the last line: the verdict of the state behind them, or the refusal of the scan or of the record that stops it
+pub capture-printed : (a : Asked) (file : List ℕ) (f : Format) → setUpOf (a .numbers) ≡ 0 → a .offset ≤ 99 → headerOf file ≡ capture f
+    → outputOf a file
+    ≡ printedBy (scanOf nothing false 0 (packetsOf (a .port) (a .offset) file)) (rulesOf (a .numbers)) (freshOf (a .numbers))
+    (recordsOf (a .port) (a .offset) file)
+capture-printed a file f e h k = wholly.output-wholly a file e h k ∙ rw k refl
 
 module _ (what : Asked) where
   -- R17, X10: whatever the reads brought, what was handed over is a front of the output of the capture

@@ -7,13 +7,13 @@ use Rattle.laws.proofs.Choose.{pick-either}
 use Rattle.laws.proofs.Every.{_and_, facts, of-facts}
 use Rattle.headers.specs.declared.Handed.the-variants.{On, Skipped}
 use Rattle.headers.specs.Paper.{byteAt, pairAt, ipv4, tag, Internet, plain, tagged, HandedOn, onAt}
-use Rattle.headers.specs.Step.{ipAt, udpAt, udpIn, rtpAt, endAt, etherFits, ipFits, udpFits, extensionFits, rtpFits, fits, handedOf}
+use Rattle.headers.specs.Step.{taggedAt, ipAt, udpAt, udpIn, rtpAt, endAt, etherFits, ipFits, udpFits, extensionFits, rtpFits, fits, handedOf}
 use Rattle.headers.proofs.Handing.{goes-on}
 
 -- where the type says that IPv4 starts
 internet-at : {b : List ℕ} {n ip : ℕ} → Internet b n ip → ip ≡ ipAt b
 internet-at {b} (plain e) = rw e refl
-internet-at {b} (tagged e h f) = rw (eq-eqb (pairAt b 12) tag e)
+internet-at {b} (tagged e h f) = rw e refl
 
 internet-ether : {b : List ℕ} {n ip : ℕ} → 14 ≤ n → Internet b n ip → etherFits b n ip ≡ true
 unfolding etherFits after
@@ -22,16 +22,16 @@ internet-ether {b} {n} h (tagged e k f) = rw (le-leb 18 n k, eq-eqb (pairAt b 16
 
 pub ether-internet : (b : List ℕ) (n : ℕ) → etherFits b n (ipAt b) ≡ true → Internet b n (ipAt b)
 unfolding etherFits
-ether-internet b n f = go (eqb (pairAt b 12) tag) refl (facts _ f 0) (facts _ f 1)
+ether-internet b n f = go (taggedAt b) refl (facts _ f 0) (facts _ f 1)
   where
-    go : (t : Bool) → eqb (pairAt b 12) tag ≡ t → pick t 18 14 ≤ n → pairAt b (pick t 18 14 - 2) ≡ ipv4 → Internet b n (pick t 18 14)
+    go : (t : Bool) → taggedAt b ≡ t → pick t 18 14 ≤ n → pairAt b (pick t 18 14 - 2) ≡ ipv4 → Internet b n (pick t 18 14)
     go true e h k = tagged (eqb-true _ _ e) h k
     go false e h k = plain k
 
 module _ {b : List ℕ} {n port ip udp rtp end : ℕ} (c : HandedOn b n port ip udp rtp end) where
   ip-so : ipFits b n ip ≡ true
   unfolding ipFits All
-  ip-so = of-facts _ (c .ip-header and c .version-4 and c .words and c .unfragmented and c .protocol and tt)
+  ip-so = of-facts _ (c .ip-header and c .version-4 and c .words and omega (arith, c .unfragmented) and c .protocol and tt)
 
   udp-so : udpFits b n udp port ≡ true
   unfolding udpFits All

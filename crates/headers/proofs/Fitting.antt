@@ -3,7 +3,7 @@ use Rattle.laws.specs.Kit.{_≡_, refl, sym, ap, _∙_, Bool, true, false, _&&_
 use Rattle.laws.specs.Kit.{eqb, le-leb, lt-leb, eq-eqb, ne-eqb}
 use Rattle.laws.specs.Every.{after}
 use Rattle.headers.specs.Paper.{byteAt, pairAt, ipv4, tag}
-use Rattle.headers.specs.Step.{wordsAt, fragment, ipAt, endAt, etherFits, ipFits, udpFits, extensionFits, rtpFits}
+use Rattle.headers.specs.Step.{wordsAt, fragment, ipAt, endAt, etherFits, ipFits, udpFits, extensionFits, rtpBytes, rtpFits}
 
 module _ (b : List ℕ) where
   pub behind-tag : pairAt b 12 ≡ tag → 18 ≡ ipAt b
@@ -66,27 +66,27 @@ module _ (b : List ℕ) (n end : ℕ) where
   extension-there h e = rw (le-leb (end + 4) n h, e)
 
 module _ (b : List ℕ) (n rtp : ℕ) where
-  pub rtp-short : n < rtp + 12 → false ≡ rtpFits b n rtp
+  pub rtp-short : n < rtp + rtpBytes → false ≡ rtpFits b n rtp
   unfolding rtpFits after
-  rtp-short h = rw (lt-leb (rtp + 12) n h)
+  rtp-short h = rw (lt-leb (rtp + rtpBytes) n h)
 
-  module _ (h : rtp + 12 ≤ n) where
+  module _ (h : rtp + rtpBytes ≤ n) where
     pub rtp-version : (byteAt b rtp / 64 ≡ 2 → ⊥) → false ≡ rtpFits b n rtp
     unfolding rtpFits after
-    rtp-version v = rw (le-leb (rtp + 12) n h, ne-eqb (byteAt b rtp / 64) 2 v)
+    rtp-version v = rw (le-leb (rtp + rtpBytes) n h, ne-eqb (byteAt b rtp / 64) 2 v)
 
     module _ (v : byteAt b rtp / 64 ≡ 2) {end : ℕ} (e : end ≡ endAt b rtp) where
       pub rtp-contributors : n < end → false ≡ rtpFits b n rtp
       unfolding rtpFits after
-      rtp-contributors k = rw (le-leb (rtp + 12) n h, eq-eqb (byteAt b rtp / 64) 2 v, ← e, lt-leb end n k)
+      rtp-contributors k = rw (le-leb (rtp + rtpBytes) n h, eq-eqb (byteAt b rtp / 64) 2 v, ← e, lt-leb end n k)
 
       module _ (k : end ≤ n) where
         pub rtp-plain : (byteAt b rtp / 16 % 2 ≡ 1 → ⊥) → true ≡ rtpFits b n rtp
         unfolding rtpFits after
         rtp-plain x =
-            rw (le-leb (rtp + 12) n h, eq-eqb (byteAt b rtp / 64) 2 v, ← e, le-leb end n k, ne-eqb (byteAt b rtp / 16 % 2) 1 x)
+            rw (le-leb (rtp + rtpBytes) n h, eq-eqb (byteAt b rtp / 64) 2 v, ← e, le-leb end n k, ne-eqb (byteAt b rtp / 16 % 2) 1 x)
 
         pub rtp-extended : byteAt b rtp / 16 % 2 ≡ 1 → extensionFits b n end ≡ rtpFits b n rtp
         unfolding rtpFits after
         rtp-extended x =
-            rw (le-leb (rtp + 12) n h, eq-eqb (byteAt b rtp / 64) 2 v, ← e, le-leb end n k, eq-eqb (byteAt b rtp / 16 % 2) 1 x)
+            rw (le-leb (rtp + rtpBytes) n h, eq-eqb (byteAt b rtp / 64) 2 v, ← e, le-leb end n k, eq-eqb (byteAt b rtp / 16 % 2) 1 x)

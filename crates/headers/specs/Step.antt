@@ -6,9 +6,12 @@ use Rattle.headers.specs.declared.Handed.{Handed}
 use Rattle.headers.specs.declared.Handed.the-variants.{Skipped}
 use Rattle.headers.specs.Paper.{byteAt, pairAt, ipv4, tag, onAt}
 
--- R4: the type stands in the two bytes before ip, behind a tag or not
+-- R4: a tag's type, and where IPv4 starts: its own type stands in the two bytes before, behind a tag or not
+abbrev pub taggedAt : List ℕ → Bool
+taggedAt b = eqb (pairAt b 12) tag
+
 abbrev pub ipAt : List ℕ → ℕ
-ipAt b = pick (eqb (pairAt b 12) tag) 18 14
+ipAt b = pick (taggedAt b) 18 14
 
 unfoldable pub etherFits : List ℕ → ℕ → ℕ → Bool
 etherFits b n ip = every (at-most ip n ∷ same (pairAt b (ip - 2)) ipv4 ∷ [])
@@ -46,10 +49,14 @@ endAt b rtp = rtp + 12 + 4 * (byteAt b rtp % 16)
 unfoldable pub extensionFits : List ℕ → ℕ → ℕ → Bool
 extensionFits b n end = every (at-most (end + 4) n ∷ at-most (end + 4 + 4 * pairAt b (end + 2)) n ∷ [])
 
+-- R4: "RTP's 12 bytes"
+abbrev pub rtpBytes : ℕ
+rtpBytes = 12
+
 unfoldable pub rtpFits : List ℕ → ℕ → ℕ → Bool
 rtpFits b n rtp =
     every
-    (at-most (rtp + 12) n
+    (at-most (rtp + rtpBytes) n
     ∷ same (byteAt b rtp / 64) 2
     ∷ at-most (endAt b rtp) n
     ∷ where-so (same (byteAt b rtp / 16 % 2) 1) (is (extensionFits b n (endAt b rtp)))

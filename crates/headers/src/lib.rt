@@ -26,6 +26,8 @@ const IPV4: u16 = 0x0800;
 
 const UDP: u8 = 17;
 
+const RTP: usize = 12;
+
 // The more-fragments bit and the fragment offset are the lowest 14 bits, the rest by this.
 const FRAGMENT: u16 = 16384;
 
@@ -126,7 +128,7 @@ fn rtp_fits(b: &[u8], n: usize, rtp: usize) -> bool
     requires { ⌜ Placed (now b) n rtp 86 ⌝ }
     ensures { λ r. ⌜ r ≡ rtpFits (now (b .entry)) n rtp ⌝ }
 {
-    if n < rtp + 12 {
+    if n < rtp + RTP {
         return false;
     }
     if b[rtp] / 64 != 2 {

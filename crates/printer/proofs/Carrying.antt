@@ -35,7 +35,7 @@ use Rattle.printer.proofs.Turning.{piece-sixteen}
 
 -- ---- the lines of packets
 
-rows-append : (l m : List Row) → rowLines (l ++ m) ≡ rowLines l ++ rowLines m
+pub rows-append : (l m : List Row) → rowLines (l ++ m) ≡ rowLines l ++ rowLines m
 unfolding rowLines
 rows-append [] m = refl
 rows-append (r ∷ l) m = ap (λ (x : List ℕ). rowLine r ++ x) (rows-append l m) ∙ sym (append-assoc (rowLine r) (rowLines l) (rowLines m))

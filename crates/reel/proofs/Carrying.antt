@@ -28,7 +28,7 @@ small : (n : ℕ) → counted n < 18446744073709551616
 small n = omega arith
 
 -- a count that goes on
-counted-on : (b i : ℕ) → counted (counted b + i) ≡ counted (b + i)
+pub counted-on : (b i : ℕ) → counted (counted b + i) ≡ counted (b + i)
 counted-on b i = omega arith
 
 counted-suc : (a i : ℕ) → counted (counted (a + 1) + i) ≡ counted (a + suc i)
@@ -97,8 +97,8 @@ module _ (rules : Rules) (reel : Reel) (w v : List ℕ) (q : rules ≡ rulesOf (
   next-stands : (p : packets.Packet) (m : ℕ) → numberOf (reel .state .past) p ≡ 0 → Stands (atPacket rules reel p m)
   next-stands p m e = record {
     sound = going-next {rules = rules} (record { rules-are = q; sound = z .sound }) p e .sound;
-    records = small (counted (reel .records + m) + 1);
-    skipped = small (reel .skipped + m);
+    records = small _;
+    skipped = small _;
   }
 
   carried-on : (p : packets.Packet) (m n : ℕ) (k : TakeOutcome) → numberOf (reel .state .past) p ≡ 0

@@ -3,5 +3,6 @@ pub mod Shown
 pub mod Turning
 pub mod Beginning
 pub mod Carrying
+pub mod Wholly
 pub mod Output
 pub mod OneAnswer

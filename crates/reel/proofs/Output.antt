@@ -78,7 +78,8 @@ module _ (reel : Reel) (w : List ℕ) (last : Bool) (room : ℕ) (h : lineRoom �
   Moves : TakeOutcome → Type 0
   Moves k = k .ended ≡ false → 0 < k .used
 
-  moves-ahead : (rules : Rules) (on : Reel → ℕ → ℕ → TakeOutcome) (r : Ahead) → Inside w r → Wanting w last r → Moves (aheadBy rules reel room on r)
+  moves-ahead : (rules : Rules) (on : Reel → ℕ → ℕ → TakeOutcome) (r : Ahead) → Inside w r → Wanting w last r
+      → Moves (aheadBy rules reel room on r)
   unfolding Moves
   moves-ahead rules on (Packet p m n) s t f =
       pick-either Moves (eqb (numberOf (reel .state .past) p) 0) (λ e g. omega (arith, s .0)) (λ e g. absurd (false-true (sym g))) f

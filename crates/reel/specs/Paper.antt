@@ -1,15 +1,19 @@
 -- The program's whole output for a capture, in the request's words: what the capture holds, measured, line by line.
-use Rattle.laws.specs.Kit.{List, [], _∷_, _++_, ℕ, _+_, _%_, leb, eqb, drop}
+use Rattle.laws.specs.Kit.{List, [], _∷_, _++_, ℕ, _+_, _%_, leb, eqb, length, take, drop}
 use Rattle.laws.specs.Choose.{pick}
+use Rattle.packet.specs.declared.Packet as packets
+use Rattle.packet.specs.declared.Scanned.{Scanned}
+use Rattle.packet.specs.declared.Scanned.the-variants as scanned
 use Rattle.packet.specs.Step.{numberOf}
 use Rattle.text.specs.Lines.{captureLine, refusalLine}
 use Rattle.capture.specs.Paper.{headerBytes, Header, capture, unknown, headerOf, Found, packet, skipped, Ending, done, stopped, Records, recordsIn}
+use Rattle.capture.specs.Paper.{handedOn, skippedIn}
 use Rattle.timing.specs.declared.Rules.{Rules}
 use Rattle.timing.specs.declared.State.{State}
 use Rattle.timing.specs.declared.Judged.{Judged}
 use Rattle.timing.specs.declared.Judged.the-variants.{Given, Refused as Not-Judged}
 use Rattle.timing.specs.Answers.{verdictOf}
-use Rattle.timing.specs.Step.{setUpOf, rulesOf, freshOf, stepOf, rowsOf}
+use Rattle.timing.specs.Step.{setUpOf, rulesOf, freshOf, stepOf, rowsOf, stateAfter, rowsAfter}
 use Rattle.printer.specs.Paper.{rowLines}
 use Rattle.reel.specs.declared.Asked.{Asked}
 
@@ -52,3 +56,25 @@ outputOf a file =
     pick (eqb (setUpOf (a .numbers)) 0)
     (pick (leb (a .offset) 99) (outputBy a (headerOf file) file) (refusalLine 33 0))
     (refusalLine (setUpOf (a .numbers)) 0)
+
+-- ---- the same of the whole history: what the scan says of all packets, and how the records end (proofs/Wholly.antt: the two agree)
+
+-- R17, L4: "after the rows closed before a refusal": the packets that are measured, all, or those before the refused one
+abbrev pub measured : Scanned → List packets.Packet → List packets.Packet
+measured (scanned.Fine closed) l = l
+measured (scanned.Refused r) l = take (r .place) l
+
+-- R8, R9, R17: the last line: of the packet that is refused; else of the record at which the capture stops; else the verdict
+abbrev pub lastBy : Ending → State → ℕ → ℕ → List ℕ
+lastBy done s records skips = capturedLine s records skips
+lastBy (stopped number) s records skips = refusalLine number records
+
+abbrev pub lastOf : Scanned → Ending → State → ℕ → ℕ → List ℕ
+lastOf (scanned.Fine closed) e s records skips = lastBy e s records skips
+lastOf (scanned.Refused r) e s records skips = refusalLine (r .number) (r .place)
+
+abbrev pub printedBy : Scanned → Rules → State → Records → List ℕ
+printedBy x rules s r =
+    let l = measured x (handedOn (r .found)) in
+    rowLines (rowsAfter rules s l)
+    ++ lastOf x (r .ending) (stateAfter rules s l) (counted (length (r .found))) (counted (skippedIn (r .found)))

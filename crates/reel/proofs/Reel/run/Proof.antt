@@ -5,8 +5,8 @@ use denote.Ref.{now}
 use borrow.Author.Needs.{needs}
 use Rattle.timing.proofs.Running.{turn-marked, turn-plain}
 use Rattle.printer.proofs.Turning.{as-lines}
-use Rattle.reel.proofs.Turning.{Loop, loop-begins, stops-full, stops-ahead, stops-refused, ahead-fits, Here, packet-inside, packet-arrives, packet-closes}
-use Rattle.reel.proofs.Turning.{packet-closed, packet-next, as-read, stays-takes, takes-length}
+use Rattle.reel.proofs.Turning.{Loop, loop-begins, stops-full, stops-ahead, stops-refused, ahead-fits, Here, packet-inside, packet-arrives}
+use Rattle.reel.proofs.Turning.{packet-closes, packet-closed, packet-next, as-read, stays-takes, takes-length}
 use Rattle.reel.proofs.Reel.run.Statement.{statement}
 use Rattle.reel.proofs.Reel.run.Tie as tie
 
@@ -49,7 +49,8 @@ stop-requires c κs =
     let turn = m .before .before .before in
     let l = turn .before .loop in
     let start = turn .before .before .before .before .before .before .before in
-    (omega (arith, turn .loop-test .taken, l .inv .fits), ahead-fits (l .inv) (omega (arith, start .good)) (as-read (l .inv) (m .before .ahead .ensures)))
+    let read = as-read (l .inv) (m .before .ahead .ensures) in
+    (omega (arith, turn .loop-test .taken, l .inv .fits), ahead-fits (l .inv) (omega (arith, start .good)) read)
 
 same-length : tie.Need-same-length Inv-loop μ-loop
 same-length c = search needs
@@ -127,7 +128,9 @@ start-requires : tie.Need-start-requires Inv-loop μ-loop
 start-requires c κs = search needs
 
 add-used : tie.Need-add-used Inv-loop μ-loop
-add-used c = omega (arith, packet-inside (here c.before.before.before.before.before.before.before) .1, start c.before.before.before.before.before.before.before .good)
+add-used c =
+    let fine = c .before .before .before .before .before .before .before in
+    omega (arith, packet-inside (here fine) .1, start fine .good)
 
 loop-less : tie.Need-loop-less Inv-loop μ-loop
 loop-less c =
