@@ -36,9 +36,9 @@ abbrev spanIn : Came → Span
 spanIn Failed = fresh
 spanIn (On q) = q
 
-module _ {S : Type 0} (m : Machine S) (line size : ℕ) (keeps : Keeps m line size) where
-  pub reached-begins : (room : ℕ) (s : S) (h : Span) (w : List ℕ) → s ≡ m .start → h ≡ fresh → InLoop m room s h w
-  reached-begins room s h w d e =
+module _ {S : Type 0} {m : Machine S} {line size : ℕ} (keeps : Keeps m line size) where
+  pub reached-begins : {room : ℕ} {s : S} {h : Span} {w : List ℕ} → s ≡ m .start → h ≡ fresh → InLoop m room s h w
+  reached-begins {room} {s} {h} {w} d e =
       subst (λ (t : S). InLoop m room t h w) (sym d)
       (subst (λ (q : Span). InLoop m room (m .start) q w) (sym e) (record { file = []; text = []; reaches = begins w }))
 
@@ -81,10 +81,10 @@ module _ {S : Type 0} (m : Machine S) (line size : ℕ) (keeps : Keeps m line si
     pub stepped : StepGives h (stepAt m s h w room) next r after
     pub told : Said (take (r .written - 0) after) fine
 
-  pub spoken : (room n : ℕ) (s : S) (h : Span) (w : List ℕ) (next : S) (r : Told) (after : List ℕ) (fine : Bool) → n ≡ room
+  pub spoken : {room n : ℕ} {s : S} {h : Span} {w : List ℕ} {next : S} {r : Told} {after : List ℕ} {fine : Bool} → n ≡ room
       → InLoop m room s h w → StepGives h (stepAt m s h w n) next r after → Said (take (r .written - 0) after) fine
       → Spoken room s h w next r after fine
-  spoken room n s h w next r after fine same x g d =
+  spoken {s = s} {h = h} {w = w} {next = next} {r = r} {after = after} same x g d =
       record { reached = x; stepped = subst (λ (y : ℕ). StepGives h (stepAt m s h w y) next r after) same g; told = d }
 
   module _ {room : ℕ} {s : S} {h : Span} {w : List ℕ} {next : S} {r : Told} {after : List ℕ} {fine : Bool}

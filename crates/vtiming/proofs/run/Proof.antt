@@ -1,13 +1,12 @@
 -- The loop of the program: where it is reached by reads and steps alone, and how it ends, by the laws of window's Program.
-use Rattle.laws.specs.Kit.{_-_, _≡_, refl, _∙_, ⊎-elim, not-true, not-false, arith, length}
+use Rattle.laws.specs.Kit.{_-_, _≡_, refl, true, false, _∙_, ⊎-elim, not-true, not-false, arith, length}
 use denote.Ref.{now}
-use Rattle.text.specs.Lines.{lineRoom}
 use Rattle.window.specs.Run.{InLoop}
-use Rattle.window.proofs.Program.{reached-begins, reached-fits, reached-turns-over, spoken, reached-steps, reached-ends, reached-unwritten}
+use Rattle.window.proofs.Program.{reached-begins, reached-fits, reached-turns-over, Spoken, spoken, reached-steps, reached-ends, reached-unwritten}
 use Rattle.window.proofs.Program.{reached-wants, reached-roomy, reached-reads, reached-unread, joined}
 use Rattle.pump.specs.declared.Stage.the-variants.{Head}
 use Rattle.pump.specs.Step.{machine}
-use Rattle.pump.proofs.Stages.{size, keeps}
+use Rattle.pump.proofs.Stages.{keeps}
 use borrow.Author.Needs.{needs}
 use Rattle.vtiming.proofs.run.Statement.{statement}
 use Rattle.vtiming.proofs.run.Tie as tie
@@ -19,16 +18,49 @@ Inv-loop window₀ out₀ stage₀ span₀ turns₀ window out stage span turns 
 abbrev μ-loop : tie.MeasureT-loop
 μ-loop window₀ out₀ stage₀ span₀ turns₀ window out stage span turns = turns
 
+abbrev start : tie.At-loop Inv-loop μ-loop → tie.Start Inv-loop μ-loop
+start top = top .before .before .before .before
+
+-- a step was made, and what it put out was handed over: what every way on from here needs
+module _ (told : tie.After-tell Inv-loop μ-loop) where
+  abbrev stepped : tie.After-step Inv-loop μ-loop
+  stepped = told .before .before .before .before .before .before
+
+  abbrev top : tie.At-loop Inv-loop μ-loop
+  top = stepped .before .before .before .before
+
+  abbrev entry : tie.Start Inv-loop μ-loop
+  entry = start top
+
+  here : let l = top .loop in
+      let r = stepped .step .result in
+      Spoken keeps (length (now (entry .args .out))) (l .stage) (l .span) (l .window) (r .stage) (r .told)
+      (stepped .step .last .1 .1 .1 .0) (told .tell .result)
+  here = spoken keeps (top .loop .inv .1) (top .loop .inv .2) (stepped .step .ensures) (told .tell .ensures)
+
+-- all of it went out and the output is not over: the loop goes on from where the step led
+module _ (on : tie.Else2 Inv-loop μ-loop) where
+  abbrev told : tie.After-tell Inv-loop μ-loop
+  told = on .before .before
+
+  went : let r = stepped told .step .result in
+      InLoop machine (length (now (entry told .args .out))) (r .stage) (r .told .span) (top told .loop .window)
+  went = reached-steps keeps (here told) (not-false (told .tell .result) (on .before .if1 .left)) (on .if2 .left)
+
+  wants : let r = stepped told .step .result in
+      r .told .wants ≡ true → r .told .span .last ≡ false
+  wants = reached-wants keeps (here told) (entry told .pre .1) (on .if2 .left)
+
 begin-requires : tie.Need-begin-requires Inv-loop μ-loop
 begin-requires c κs = search needs
 
 loop-holds : tie.Need-loop-holds Inv-loop μ-loop
-loop-holds c = let a = c .before .before .before .args in
-    (refl, refl, reached-begins machine lineRoom size keeps (length (now (a .out))) Head (c .begin .result) (now (a .window)) refl (c .begin .ensures))
+loop-holds c = (refl, refl, reached-begins keeps refl (c .begin .ensures))
 
 step-requires : tie.Need-step-requires Inv-loop μ-loop
-step-requires c κs = let l = c .before .before .before .loop in
-    (reached-fits machine lineRoom size keeps (l .inv .2), omega (arith, l .inv .1, c .before .before .before .before .before .before .before .pre .1))
+step-requires c κs =
+    let top = c .before .before .before in
+    (reached-fits keeps (top .loop .inv .2), omega (arith, top .loop .inv .1, start top .pre .1))
 
 sub-tell : tie.Need-sub-tell Inv-loop μ-loop
 sub-tell c = search needs
@@ -49,13 +81,7 @@ same-length-2 : tie.Need-same-length-2 Inv-loop μ-loop
 same-length-2 c = search needs
 
 returns : tie.Need-returns Inv-loop μ-loop
-returns c = let told = c .before in
-    let t = told .before .before .before .before .before .before in
-    let l = t .before .before .before .before .loop in
-    let start = t .before .before .before .before .before .before .before .before in
-    let k = spoken machine lineRoom size keeps (length (now (start .args .out))) (length (l .out)) (l .stage) (l .span) (l .window)
-    (t .step .result .stage) (t .step .result .told) (t .step .last .1 .1 .1 .0) (told .tell .result) (l .inv .1) (l .inv .2) (t .step .ensures) (told .tell .ensures) in
-    reached-unwritten machine lineRoom size keeps k (not-true (told .tell .result) (c .if1 .taken))
+returns c = reached-unwritten keeps (here c.before) (not-true (c .before .tell .result) (c .if1 .taken))
 
 same-length-3 : tie.Need-same-length-3 Inv-loop μ-loop
 same-length-3 c = search needs
@@ -64,27 +90,16 @@ same-length-4 : tie.Need-same-length-4 Inv-loop μ-loop
 same-length-4 c = search needs
 
 returns-2 : tie.Need-returns-2 Inv-loop μ-loop
-returns-2 c = let told = c .before .before in
-    let t = told .before .before .before .before .before .before in
-    let l = t .before .before .before .before .loop in
-    let start = t .before .before .before .before .before .before .before .before in
-    let k = spoken machine lineRoom size keeps (length (now (start .args .out))) (length (l .out)) (l .stage) (l .span) (l .window)
-    (t .step .result .stage) (t .step .result .told) (t .step .last .1 .1 .1 .0) (told .tell .result) (l .inv .1) (l .inv .2) (t .step .ensures) (told .tell .ensures) in
-    reached-ends machine lineRoom size keeps k (not-false (told .tell .result) (c .before .if1 .left)) (c .if2 .taken)
+returns-2 c =
+    let said = c .before .before in
+    reached-ends keeps (here said) (not-false (said .tell .result) (c .before .if1 .left)) (c .if2 .taken)
 
 fetch-requires : tie.Need-fetch-requires Inv-loop μ-loop
-fetch-requires c κs = let told = c .before .before .before .before .before in
-    let t = told .before .before .before .before .before .before in
-    let l = t .before .before .before .before .loop in
-    let start = t .before .before .before .before .before .before .before .before in
-    let k = spoken machine lineRoom size keeps (length (now (start .args .out))) (length (l .out)) (l .stage) (l .span) (l .window)
-    (t .step .result .stage) (t .step .result .told) (t .step .last .1 .1 .1 .0) (told .tell .result) (l .inv .1) (l .inv .2) (t .step .ensures) (told .tell .ensures) in (
-      reached-fits machine lineRoom size keeps
-          (reached-steps machine lineRoom size keeps k (not-false (told .tell .result) (c .before .before .before .before .if1 .left))
-          (c .before .before .before .if2 .left)),
-      reached-roomy machine lineRoom size keeps k
-          (start .pre .1) (c .before .before .before .if2 .left) (c .before .if3 .taken) (omega (arith, l .inv .0, start .pre .0)),
-    )
+fetch-requires c κs =
+    let on = c .before .before .before in
+    let began = entry (told on) in
+    let roomy = reached-roomy keeps (here (told on)) (began .pre .1) (on .if2 .left) (c .before .if3 .taken) in
+    (reached-fits keeps (went on), roomy (omega (arith, top (told on) .loop .inv .0, began .pre .0)))
 
 enum-known-came : tie.Need-enum-known-came Inv-loop μ-loop
 enum-known-came c = search needs
@@ -99,18 +114,11 @@ same-length-6 : tie.Need-same-length-6 Inv-loop μ-loop
 same-length-6 c = search needs
 
 returns-3 : tie.Need-returns-3 Inv-loop μ-loop
-returns-3 c = let told = c .before .before .before .before .before .before .before .before .before .before in
-    let t = told .before .before .before .before .before .before in
-    let l = t .before .before .before .before .loop in
-    let start = t .before .before .before .before .before .before .before .before in
-    let k = spoken machine lineRoom size keeps (length (now (start .args .out))) (length (l .out)) (l .stage) (l .span) (l .window)
-    (t .step .result .stage) (t .step .result .told) (t .step .last .1 .1 .1 .0) (told .tell .result) (l .inv .1) (l .inv .2) (t .step .ensures) (told .tell .ensures) in
+returns-3 c =
     let fetched = c .before .before .before .before in
     let wanted = fetched .before .before in
-    let went = reached-steps machine lineRoom size keeps k (not-false (told .tell .result) (wanted .before .before .before .if1 .left))
-    (wanted .before .before .if2 .left) in
-    let more = reached-wants machine lineRoom size keeps k (start .pre .1) (wanted .before .before .if2 .left) (wanted .if3 .taken) in
-    reached-unread machine lineRoom size keeps went more (c .enum-told .given .1) (fetched .fetch .ensures)
+    let on = wanted .before .before in
+    reached-unread keeps (went on) (wants on (wanted .if3 .taken)) (c .enum-told .given .1) (fetched .fetch .ensures)
 
 sub-turns : tie.Need-sub-turns Inv-loop μ-loop
 sub-turns c = search needs
@@ -119,20 +127,18 @@ loop-less : tie.Need-loop-less Inv-loop μ-loop
 loop-less c = search needs
 
 loop-again : tie.Need-loop-again Inv-loop μ-loop
-loop-again c = let told = c .before .before .before .before in
-    let t = told .before .before .before .before .before .before in
-    let l = t .before .before .before .before .loop in
-    let start = t .before .before .before .before .before .before .before .before in
-    let k = spoken machine lineRoom size keeps (length (now (start .args .out))) (length (l .out)) (l .stage) (l .span) (l .window)
-    (t .step .result .stage) (t .step .result .told) (t .step .last .1 .1 .1 .0) (told .tell .result) (l .inv .1) (l .inv .2) (t .step .ensures) (told .tell .ensures) in
-    let went = reached-steps machine lineRoom size keeps k (not-false (told .tell .result) (c .before .before .before .if1 .left)) (c .before .before .if2 .left) in
-    let both : (length (c .if3 .window) ≡ length (now (start .args .window)))
-    × InLoop machine (length (now (start .args .out))) (t .step .result .stage) (c .if3 .span) (c .if3 .window) =
+loop-again c =
+    let on = c .before .before in
+    let a = entry (told on) .args in
+    let l = top (told on) .loop in
+    let r = stepped (told on) .step .result in
+    let both : (length (c .if3 .window) ≡ length (now (a .window)))
+    × InLoop machine (length (now (a .out))) (r .stage) (c .if3 .span) (c .if3 .window) =
     ⊎-elim
-    (λ x. joined machine lineRoom size keeps (x .8) (x .9) (x .3 .given ∙ l .inv .0)
-    (reached-reads (reached-fits machine lineRoom size keeps went) went (reached-wants machine lineRoom size keeps k (start .pre .1) (c .before .before .if2 .left) (x .0 .taken))
-    (x .2 .last .1 .0) (x .2 .result) _ (x .6 .given .1) (x .2 .ensures)))
-    (λ x. joined machine lineRoom size keeps (x .1) (x .2) (l .inv .0) went) (c .if3 .came) in
+    (λ x. joined keeps (x .8) (x .9) (x .3 .given ∙ l .inv .0)
+    (reached-reads (reached-fits keeps (went on)) (went on) (wants on (x .0 .taken)) (x .2 .last .1 .0) (x .2 .result) _
+    (x .6 .given .1) (x .2 .ensures)))
+    (λ x. joined keeps (x .1) (x .2) (l .inv .0) (went on)) (c .if3 .came) in
     (both .0, search needs, both .1)
 
 same-length-7 : tie.Need-same-length-7 Inv-loop μ-loop
@@ -142,7 +148,7 @@ same-length-8 : tie.Need-same-length-8 Inv-loop μ-loop
 same-length-8 c = search needs
 
 returns-4 : tie.Need-returns-4 Inv-loop μ-loop
-returns-4 c = reached-turns-over machine lineRoom size keeps (c .before .loop .inv .2)
+returns-4 c = reached-turns-over keeps (c .before .loop .inv .2)
 
 pub run-spec : {M : Type 1} → statement M
 run-spec =
