@@ -342,15 +342,7 @@ fn figures(random: &mut Random) -> Call {
 
 // --- fixed calls ---
 
-const NARROW: Numbers = Numbers {
-    rate: 6,
-    schedule: 0,
-    class: 1,
-    height: 1080,
-    packets_per_frame: 4,
-    maxudp: 1460,
-    tro: None,
-};
+const NARROW: Numbers = Numbers::narrow(4);
 
 fn packets(list: &[(u64, u32, u8)]) -> Vec<Packet> {
     list.iter()

@@ -18,15 +18,7 @@ const ORDERS: [bool; 2] = [false, true];
 
 /// Every packet closes a frame, and its row tells its arrival and its timestamp:
 /// so the rows say which frames were handed on.
-const ONE_A_FRAME: Numbers = Numbers {
-    rate: 6,
-    schedule: 0,
-    class: 1,
-    height: 1080,
-    packets_per_frame: 1,
-    maxudp: 1460,
-    tro: None,
-};
+const ONE_A_FRAME: Numbers = Numbers::narrow(1);
 
 const ASKED: Asked = Asked {
     port: PORT,

@@ -25,6 +25,22 @@ pub struct Numbers {
     pub tro: Option<u64>,
 }
 
+impl Numbers {
+    /// 1080 lines at 50 frames a second, gapped, narrow, with so many packets a
+    /// frame: what most tests begin with.
+    pub const fn narrow(packets_per_frame: u64) -> Numbers {
+        Numbers {
+            rate: 6,
+            schedule: 0,
+            class: 1,
+            height: 1080,
+            packets_per_frame,
+            maxudp: 1460,
+            tro: None,
+        }
+    }
+}
+
 /// What set-up derives.
 #[derive(Clone, Copy, Debug, PartialEq, Eq)]
 pub struct Limits {

@@ -722,15 +722,7 @@ mod tests {
         seen_to_be_held_back(&captured);
     }
 
-    const ONE: Numbers = Numbers {
-        rate: 6,
-        schedule: 0,
-        class: 1,
-        height: 1080,
-        packets_per_frame: 1,
-        maxudp: 1460,
-        tro: None,
-    };
+    const ONE: Numbers = Numbers::narrow(1);
 
     fn seen_to_be_held_back(input: &Input) {
         let scratch = Path::new("");

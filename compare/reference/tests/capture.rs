@@ -239,15 +239,7 @@ fn what_is_not_read_may_be_anything() {
 
 // --- captures ---
 
-const NARROW: Numbers = Numbers {
-    rate: 6,
-    schedule: 0,
-    class: 1,
-    height: 1080,
-    packets_per_frame: 4,
-    maxudp: 1460,
-    tro: None,
-};
+const NARROW: Numbers = Numbers::narrow(4);
 
 fn asked(offset: u32) -> Asked {
     Asked {

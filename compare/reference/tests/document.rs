@@ -17,15 +17,7 @@ packets 5 frames 1 peak 2 network pass buffer pass
 ";
 
 fn narrow(n: u64) -> Numbers {
-    Numbers {
-        rate: 6,
-        schedule: 0,
-        class: 1,
-        height: 1080,
-        packets_per_frame: n,
-        maxudp: 1460,
-        tro: None,
-    }
+    Numbers::narrow(n)
 }
 
 fn with_tro(rate: u64, tro: u64) -> Numbers {
