@@ -1,7 +1,7 @@
 -- One turn of the check of a whole capture, by what stands in front: a record is refused or counted, and anything else ends it. By what
 -- was told.
-use Rattle.laws.specs.Kit.{_≡_, refl, sym, ap, subst, _∙_, Bool, true, false, List, [], _∷_, ℕ, _+_, _≤_, _<_, arith, length, drop, drop-drop, length-drop}
-use Rattle.laws.specs.Kit.{ltb, eq-eqb, ne-eqb, lt-leb, le-leb, ltb-false}
+use Rattle.laws.specs.Kit.{_≡_, refl, sym, ap, subst, _∙_, Bool, true, false, List, [], _∷_, ℕ, _+_, _≤_, _<_, arith}
+use Rattle.laws.specs.Kit.{length, drop, drop-drop, length-drop, ltb, eq-eqb, ne-eqb, lt-leb, le-leb, ltb-false}
 use Rattle.laws.specs.Choose.{pick}
 use types.Run.{OneOf, miss}
 use denote.Enum.Declared.{tagOf}
@@ -28,7 +28,8 @@ use Rattle.capture.specs.Step.{openedBy, openedOf, frontOf, tellBy, refu
 use Rattle.capture.proofs.Records.{Says, front-says, records-end, whole-size, whole-record}
 
 -- a record that is refused
-pub check-refused : (y : Seen) (told : Told) (r : Records) → (refusalOf y told ≡ 0 → ⊥) → refusedAt y told ≡ checkRecords y (tellBy told r)
+pub check-refused : (y : Seen) (told : Told) (r : Records) → (refusalOf y told ≡ 0 → ⊥)
+    → refusedAt y told ≡ checkRecords y (tellBy told r)
 unfolding refusalOf refusedAt checkAll
 check-refused y (Packet p) r n = rw (ne-eqb (numberOf (y .tally .past) p) 0 n)
 check-refused y Skipped r n = absurd (n refl)

@@ -1,7 +1,7 @@
 -- A window with its skipped records passed over: what lies ahead is, behind so many skipped records, what the rest of the file holds. By the
 -- records that are passed over.
-use Rattle.laws.specs.Kit.{_≡_, refl, sym, ap, subst, _∙_, Bool, true, false, List, [], _∷_, _++_, append-nil, ℕ, zero, suc, _+_, _≤_, _<_, arith}
-use Rattle.laws.specs.Kit.{length, drop, length-drop, drop-drop, eq-eqb}
+use Rattle.laws.specs.Kit.{_≡_, refl, sym, ap, subst, _∙_, Bool, true, false, List, [], _∷_, _++_, append-nil, ℕ, zero, suc, _+_}
+use Rattle.laws.specs.Kit.{_≤_, _<_, arith, length, drop, length-drop, drop-drop, eq-eqb}
 use types.Run.{OneOf, miss}
 use denote.Enum.Declared.{tagOf}
 use Rattle.packet.specs.declared.Packet as packets
@@ -42,7 +42,8 @@ Lies p c w v used skips (ahead.Packet q m n) =
     (i : ℕ) × (j : ℕ) × (m ≡ skips + i) × (n ≡ used + j) × (0 < j) × (j ≤ length w)
     × (restFrom p c (w ++ v) ≡ skipping i (more (packet q) (recordsIn p (drop j w ++ v))))
 Lies p c w v used skips (ahead.Wait d m n) =
-    (i : ℕ) × (j : ℕ) × (m ≡ skips + i) × (n ≡ used + j) × (j ≤ length w) × (restFrom p c (w ++ v) ≡ skipping i (restFrom p d (drop j w ++ v)))
+    (i : ℕ) × (j : ℕ) × (m ≡ skips + i) × (n ≡ used + j) × (j ≤ length w)
+    × (restFrom p c (w ++ v) ≡ skipping i (restFrom p d (drop j w ++ v)))
 Lies p c w v used skips (ahead.End m) = (i : ℕ) × (m ≡ skips + i) × (restFrom p c (w ++ v) ≡ skipping i (none done))
 Lies p c w v used skips (ahead.Refused number m) =
     (i : ℕ) × (m ≡ skips + i) × (restFrom p c (w ++ v) ≡ skipping i (none (stopped number)))
@@ -73,7 +74,8 @@ module _ (p : Setting) (v : List ℕ) (last : Bool) (end : last ≡ true → v �
   further c w used skips n h e (ahead.End m) (i, a, lies) = (suc i, omega arith, e ∙ ap (more skipped) lies)
   further c w used skips n h e (ahead.Refused x m) (i, a, lies) = (suc i, omega arith, e ∙ ap (more skipped) lies)
 
-  pub ahead-lies : (k : ℕ) (c : Cursor) (w : List ℕ) (used skips : ℕ) → length w < k → Lies p c w v used skips (aheadBy k p c w last used skips)
+  pub ahead-lies : (k : ℕ) (c : Cursor) (w : List ℕ) (used skips : ℕ) → length w < k
+      → Lies p c w v used skips (aheadBy k p c w last used skips)
   unfolding aheadBy behindBy skipping
   ahead-lies zero c w used skips h = absurd (omega arith)
   ahead-lies (suc k) c w used skips h =

@@ -92,7 +92,8 @@ header-as f s h = go (f .order) (f .nano) (h .magic) (h .link) (h .first)
         )
 
 -- a magic turned is none
-turned-magic : (m : ℕ) (x : List ℕ) → Bytes x → length x ≡ 4 → numberOf x ≡ m → numberOf (reverse x) ≡ numberOf (reverse (bytesOf 4 m))
+turned-magic : (m : ℕ) (x : List ℕ) → Bytes x → length x ≡ 4 → numberOf x ≡ m
+    → numberOf (reverse x) ≡ numberOf (reverse (bytesOf 4 m))
 turned-magic m x b h e =
     let same : bytesOf 4 m ≡ x = rw (h, e) at (bytes-number x b) in
     ap (λ (l : List ℕ). numberOf (reverse l)) (sym same)
@@ -169,7 +170,8 @@ module _ (f : Format) (s : List ℕ) (h : Headed f s) where
       big Big e m = m
 
 -- it is known, with its words in the other order, and holds the same records
-pub swapped-known : (f : Format) (s : List ℕ) → Bytes (wordAt 0 s) → headerOf s ≡ capture f → headerOf (swapFile f s) ≡ capture (otherOrder f)
+pub swapped-known : (f : Format) (s : List ℕ) → Bytes (wordAt 0 s) → headerOf s ≡ capture f
+    → headerOf (swapFile f s) ≡ capture (otherOrder f)
 swapped-known f s b e = header-as (otherOrder f) (swapFile f s) (swapped-headed f s (subst (Says s) e (header-says s)) b)
 
 pub swapped-records : (p : Setting) (s : List ℕ) → headerOf s ≡ capture (p .format)

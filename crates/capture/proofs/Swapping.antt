@@ -1,8 +1,8 @@
 -- Two captures that differ in their byte order alone have the same records. By the records: turned words read in the other order are the same
 -- numbers.
-use Rattle.laws.specs.Kit.{_≡_, refl, sym, ap, subst, _∙_, Bool, true, false, List, [], _∷_, _++_, reverse, reverse-reverse, ℕ, zero, suc, _+_, _-_}
-use Rattle.laws.specs.Kit.{_≤_, _<_, arith, decLe, ltb, leb, eqb, length, take, drop, length-take, length-drop, length-append, length-reverse}
-use Rattle.laws.specs.Kit.{take-at, drop-at, drop-drop, length-take-le, lt-ltb, le-ltb, eq-eqb, ne-eqb, ltb-false}
+use Rattle.laws.specs.Kit.{_≡_, refl, sym, ap, subst, _∙_, Bool, true, false, List, [], _∷_, _++_, reverse, reverse-reverse, ℕ, zero, suc}
+use Rattle.laws.specs.Kit.{_+_, _-_, _≤_, _<_, arith, decLe, ltb, leb, eqb, length, take, drop, length-take, length-drop}
+use Rattle.laws.specs.Kit.{length-append, length-reverse, take-at, drop-at, drop-drop, length-take-le, lt-ltb, le-ltb, eq-eqb, ne-eqb, ltb-false}
 use Rattle.laws.specs.Choose.{pick}
 use Rattle.laws.proofs.Choose.{false-true}
 use Rattle.endian.specs.declared.Order.{Order}
@@ -12,8 +12,8 @@ use Rattle.endian.specs.Order.{turned, numberBy}
 use Rattle.headers.specs.Step.{handedOf}
 use Rattle.capture.specs.declared.Format.{Format}
 use Rattle.capture.specs.declared.Setting.{Setting}
-use Rattle.capture.specs.Paper.{secondsAt, subAt, capturedAt, frameAt, secondOf, unitOf, arrivalOf, cutShort, late, foundBy, foundAt, done, stopped}
-use Rattle.capture.specs.Paper.{Records, none, more, recordsBy, recordsIn}
+use Rattle.capture.specs.Paper.{secondsAt, subAt, capturedAt, frameAt, secondOf, unitOf, arrivalOf, cutShort, late}
+use Rattle.capture.specs.Paper.{foundBy, foundAt, done, stopped, Records, none, more, recordsBy, recordsIn}
 use Rattle.capture.specs.Swap.{other, otherOrder, otherSetting, wordAt, fourTurned, swapRecords}
 use Rattle.capture.proofs.Records.{cut-header}
 
@@ -47,27 +47,42 @@ module _ (a b c d r : List ℕ) (ha : length a ≡ 4) (hb : length b ≡ 4) (hc 
 pub word-length : (i : ℕ) (l : List ℕ) → i + 4 ≤ length l → length (reverse (wordAt i l)) ≡ 4
 word-length i l h = length-reverse (wordAt i l) ∙ length-take-le 4 (drop i l) (rw length-drop (omega arith))
 
--- a turned record
+-- a turned record: its words, and that each has four bytes
 module _ (l r : List ℕ) (h : 16 ≤ length l) where
-  w : (i : ℕ) → i + 4 ≤ 16 → length (reverse (wordAt i l)) ≡ 4
+  abbrev t : ℕ → List ℕ
+  t i = reverse (wordAt i l)
+
+  w : (i : ℕ) → i + 4 ≤ 16 → length (t i) ≡ 4
   w i q = word-length i l (omega arith)
 
+  w-0 : length (t 0) ≡ 4
+  w-0 = w 0 (omega arith)
+
+  w-4 : length (t 4) ≡ 4
+  w-4 = w 4 (omega arith)
+
+  w-8 : length (t 8) ≡ 4
+  w-8 = w 8 (omega arith)
+
+  w-12 : length (t 12) ≡ 4
+  w-12 = w 12 (omega arith)
+
   turned-0 : wordAt 0 (fourTurned l r) ≡ reverse (wordAt 0 l)
-  turned-0 = word-0 (reverse (wordAt 0 l)) (reverse (wordAt 4 l)) (reverse (wordAt 8 l)) (reverse (wordAt 12 l)) r (w 0 (omega arith)) (w 4 (omega arith)) (w 8 (omega arith)) (w 12 (omega arith))
+  turned-0 = word-0 (t 0) (t 4) (t 8) (t 12) r w-0 w-4 w-8 w-12
 
   turned-4 : wordAt 4 (fourTurned l r) ≡ reverse (wordAt 4 l)
-  turned-4 = word-4 (reverse (wordAt 0 l)) (reverse (wordAt 4 l)) (reverse (wordAt 8 l)) (reverse (wordAt 12 l)) r (w 0 (omega arith)) (w 4 (omega arith)) (w 8 (omega arith)) (w 12 (omega arith))
+  turned-4 = word-4 (t 0) (t 4) (t 8) (t 12) r w-0 w-4 w-8 w-12
 
   turned-8 : wordAt 8 (fourTurned l r) ≡ reverse (wordAt 8 l)
-  turned-8 = word-8 (reverse (wordAt 0 l)) (reverse (wordAt 4 l)) (reverse (wordAt 8 l)) (reverse (wordAt 12 l)) r (w 0 (omega arith)) (w 4 (omega arith)) (w 8 (omega arith)) (w 12 (omega arith))
+  turned-8 = word-8 (t 0) (t 4) (t 8) (t 12) r w-0 w-4 w-8 w-12
 
   turned-rest : drop 16 (fourTurned l r) ≡ r
-  turned-rest = past-4 (reverse (wordAt 0 l)) (reverse (wordAt 4 l)) (reverse (wordAt 8 l)) (reverse (wordAt 12 l)) r (w 0 (omega arith)) (w 4 (omega arith)) (w 8 (omega arith)) (w 12 (omega arith))
+  turned-rest = past-4 (t 0) (t 4) (t 8) (t 12) r w-0 w-4 w-8 w-12
 
   turned-length : length (fourTurned l r) ≡ 16 + length r
   turned-length =
       rw (length-append, length-append, length-append, length-append)
-      (omega (arith, w 0 (omega arith), w 4 (omega arith), w 8 (omega arith), w 12 (omega arith)))
+      (omega (arith, w-0, w-4, w-8, w-12))
 
 module _ (f : Format) where
   -- a scrap stays, a record is turned

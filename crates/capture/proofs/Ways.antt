@@ -1,6 +1,7 @@
 -- The answers of the header, of a window and of the reader, one law for each way out of their functions. By the tests.
 use Rattle.laws.specs.Kit.{_≡_, refl, sym, ap, _∙_, Bool, true, false, List, ℕ, _+_, _-_, _*_, _≤_, _<_, arith, length, take, drop}
-use Rattle.laws.specs.Kit.{length-drop, take-all, lt-ltb, le-ltb, le-leb, lt-leb, eq-eqb, ne-eqb}
+use Rattle.laws.specs.Kit.{leb, length-drop, take-all, lt-ltb, le-ltb, le-leb, lt-leb, eq-eqb, ne-eqb}
+use Rattle.laws.specs.Choose.{pick}
 use Rattle.endian.specs.declared.Order.{Order}
 use Rattle.endian.specs.declared.Order.the-variants.{Big, Little}
 use Rattle.endian.specs.Order.{numberBy}
@@ -17,7 +18,7 @@ use Rattle.capture.specs.declared.Front.the-variants as front
 use Rattle.capture.specs.declared.Cursor.{Cursor}
 use Rattle.capture.specs.declared.Next.{Next}
 use Rattle.capture.specs.declared.Next.the-variants as next
-use Rattle.capture.specs.Paper.{headerBytes, recordBytes, microseconds, nanoseconds, format, linkedBy, magicBy, headerOf}
+use Rattle.capture.specs.Paper.{headerBytes, recordBytes, microseconds, nanoseconds, unknown, format, linkedBy, magicBy, headerOf}
 use Rattle.capture.specs.Paper.{secondsAt, subAt, capturedAt, secondOf, unitOf, arrivalOf}
 use Rattle.capture.specs.Step.{openedBy, openedOf, foundTold, toldOf, recordOf, frontOf, passedOf, settledBy, begunBy, nextOf}
 
@@ -42,45 +43,24 @@ module _ (s : List ℕ) (long : headerBytes ≤ length s) {big : ℕ} (e : big �
     unfolding headerOf magicBy
     big-nano f = rw (le-ltb (length s) headerBytes long, ← e, ne-eqb big microseconds n, eq-eqb big nanoseconds f)
 
-    module _ (m : big ≡ nanoseconds → ⊥) {little : ℕ} (g : little ≡ numberBy Little 4 s 0) where
-      pub little-micro : little ≡ microseconds → openedBy (linkedBy Little false s) ≡ openedBy (headerOf s)
-      unfolding headerOf magicBy
-      little-micro f =
-          rw (
-            le-ltb (length s) headerBytes long,
-            ← e,
-            ne-eqb big microseconds n,
-            ne-eqb big nanoseconds m,
-            ← g,
-            eq-eqb little microseconds f,
-          )
+    -- neither magic in one order: by the other
+    pub not-big : (big ≡ nanoseconds → ⊥) → openedBy (magicBy Little s unknown) ≡ openedBy (headerOf s)
+    unfolding headerOf magicBy
+    not-big m = rw (le-ltb (length s) headerBytes long, ← e, ne-eqb big microseconds n, ne-eqb big nanoseconds m)
 
-      module _ (o : little ≡ microseconds → ⊥) where
-        pub little-nano : little ≡ nanoseconds → openedBy (linkedBy Little true s) ≡ openedBy (headerOf s)
-        unfolding headerOf magicBy
-        little-nano f =
-            rw (
-              le-ltb (length s) headerBytes long,
-              ← e,
-              ne-eqb big microseconds n,
-              ne-eqb big nanoseconds m,
-              ← g,
-              ne-eqb little microseconds o,
-              eq-eqb little nanoseconds f,
-            )
+module _ (s : List ℕ) {little : ℕ} (e : little ≡ numberBy Little 4 s 0) where
+  pub little-micro : little ≡ microseconds → openedBy (linkedBy Little false s) ≡ openedBy (magicBy Little s unknown)
+  unfolding magicBy
+  little-micro f = rw (← e, eq-eqb little microseconds f)
 
-        pub no-magic : (little ≡ nanoseconds → ⊥) → opened.Unknown ≡ openedBy (headerOf s)
-        unfolding headerOf magicBy
-        no-magic f =
-            rw (
-              le-ltb (length s) headerBytes long,
-              ← e,
-              ne-eqb big microseconds n,
-              ne-eqb big nanoseconds m,
-              ← g,
-              ne-eqb little microseconds o,
-              ne-eqb little nanoseconds f,
-            )
+  module _ (n : little ≡ microseconds → ⊥) where
+    pub little-nano : little ≡ nanoseconds → openedBy (linkedBy Little true s) ≡ openedBy (magicBy Little s unknown)
+    unfolding magicBy
+    little-nano f = rw (← e, ne-eqb little microseconds n, eq-eqb little nanoseconds f)
+
+    pub no-magic : (little ≡ nanoseconds → ⊥) → opened.Unknown ≡ openedBy (magicBy Little s unknown)
+    unfolding magicBy
+    no-magic m = rw (← e, ne-eqb little microseconds n, ne-eqb little nanoseconds m)
 
 module _ (w : List ℕ) (last : Bool) where
   pub open-short : length w < headerBytes → last ≡ true → opened.Unknown ≡ openedOf w last
@@ -115,7 +95,8 @@ module _ (p : Setting) (w : List ℕ) {unit sub : ℕ} (u : unit ≡ secondOf (p
   unfolding toldOf
   told-late h = rw (← u, ← s, le-leb unit sub h)
 
-  pub told-else : sub < unit → {seconds captured : ℕ} {h : Handed} → seconds ≡ secondsAt (p .format) w → captured ≡ capturedAt (p .format) w
+  pub told-else : sub < unit → {seconds captured : ℕ} {h : Handed} → seconds ≡ secondsAt (p .format) w
+      → captured ≡ capturedAt (p .format) w
       → h ≡ handedOf (take (length w - recordBytes) (drop recordBytes w)) captured (p .port)
       → foundTold (arrivalOf p seconds sub) h ≡ toldOf p w
   unfolding toldOf
@@ -146,34 +127,20 @@ module _ (p : Setting) (w : List ℕ) (last : Bool) where
           rw (ne-eqb (length w) 0 some, le-ltb (length w) recordBytes h, ← c, le-leb captured (length w - recordBytes) k)
 
       module _ (k : length w - recordBytes < captured) where
-        pub cut-last : last ≡ true → front.Cut ≡ frontOf p w last
+        -- the window shows no more than a part of the record
+        in-part : frontOf p w last
+            ≡ pick last front.Cut (pick (leb matter (length w - recordBytes)) (recordOf p w) front.More)
         unfolding frontOf
-        cut-last e =
-            rw (ne-eqb (length w) 0 some, le-ltb (length w) recordBytes h, ← c, lt-leb captured (length w - recordBytes) k, e)
+        in-part = rw (ne-eqb (length w) 0 some, le-ltb (length w) recordBytes h, ← c, lt-leb captured (length w - recordBytes) k)
+
+        pub cut-last : last ≡ true → front.Cut ≡ frontOf p w last
+        cut-last e = rw (in-part, e)
 
         pub front-there : last ≡ false → matter ≤ length w - recordBytes → recordOf p w ≡ frontOf p w last
-        unfolding frontOf
-        front-there e m =
-            rw (
-              ne-eqb (length w) 0 some,
-              le-ltb (length w) recordBytes h,
-              ← c,
-              lt-leb captured (length w - recordBytes) k,
-              e,
-              le-leb matter (length w - recordBytes) m,
-            )
+        front-there e m = rw (in-part, e, le-leb matter (length w - recordBytes) m)
 
         pub front-yet : last ≡ false → length w - recordBytes < matter → front.More ≡ frontOf p w last
-        unfolding frontOf
-        front-yet e m =
-            rw (
-              ne-eqb (length w) 0 some,
-              le-ltb (length w) recordBytes h,
-              ← c,
-              lt-leb captured (length w - recordBytes) k,
-              e,
-              lt-leb matter (length w - recordBytes) m,
-            )
+        front-yet e m = rw (in-part, e, lt-leb matter (length w - recordBytes) m)
 
 -- ---- the reader
 

@@ -1,7 +1,7 @@
 // A capture file, classic pcap of Ethernet: its header, what stands in front of a window on its records, a reader for pieces as they come,
 // and the check of a whole capture.
 // It knows the file's layout, asks `headers` which frames are handed on and `packet` what is refused. It must never know what is measured.
-// A captured length is never added to anything before it is known to lie within the file.
+// A captured length is compared with the bytes that are left, and never tested by a sum: in 64 bits, 16 and any captured length do not wrap.
 use endian::Order;
 use endian::read32_by;
 use headers::Handed;

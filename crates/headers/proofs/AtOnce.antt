@@ -11,7 +11,8 @@ module _ (b : List ℕ) (n port : ℕ) where
   unfolding plainFits after
   plain-short h = rw (lt-leb plainBytes n h)
 
-  pub plain-there : plainBytes ≤ n → {ip t f p : ℕ} → ip ≡ ipAt b → t ≡ pairAt b (ip - 2) → f ≡ pairAt b (ip + 6) → p ≡ pairAt b (ip + 20 + 2)
+  pub plain-there : plainBytes ≤ n → {ip t f p : ℕ} → ip ≡ ipAt b → t ≡ pairAt b (ip - 2) → f ≡ pairAt b (ip + 6)
+      → p ≡ pairAt b (ip + 20 + 2)
       → (eqb t ipv4 && eqb (byteAt b ip) 69 && eqb (f % fragment) 0 && eqb (byteAt b (ip + 9)) 17 && eqb p port
       && eqb (byteAt b (ip + 20 + 8)) 128)
       ≡ plainFits b n port
@@ -26,7 +27,8 @@ module _ (b : List ℕ) (n port : ℕ) where
   unfolding etherFits All
   plain-internet h e = ether-internet b n (of-facts _ (h and e and tt))
 
-  plain-conditions : (ip : ℕ) → ip ≡ ipAt b → ip ≤ 18 → plainFits b n port ≡ true → HandedOn b n port ip (ip + 20) (ip + 20 + 8) (ip + 20 + 8 + 12)
+  plain-conditions : (ip : ℕ) → ip ≡ ipAt b → ip ≤ 18 → plainFits b n port ≡ true
+      → HandedOn b n port ip (ip + 20) (ip + 20 + 8) (ip + 20 + 8 + 12)
   unfolding plainFits
   plain-conditions ip at near e =
       let all = facts _ (rw (← at) at e) in

@@ -1,7 +1,7 @@
 -- The check of a capture whose header is known is the scan of the packets that it hands on, or else names the record at which it stops; where
 -- nothing is refused, every record is counted. By the header.
-use Rattle.laws.specs.Kit.{_≡_, refl, sym, ap, subst, _∙_, Bool, false, List, [], ℕ, _+_, _≤_, _<_, arith, length, drop, ltb, leb, decLe, sets}
-use Rattle.laws.specs.Kit.{ℤ}
+use Rattle.laws.specs.Kit.{_≡_, refl, sym, ap, subst, _∙_, Bool, false, List, [], ℕ, _+_, _≤_, _<_, arith, length, drop}
+use Rattle.laws.specs.Kit.{ltb, leb, decLe, sets, ℤ}
 use Rattle.laws.specs.Fold.{fold}
 use Rattle.packet.specs.declared.Packet.{Packet}
 use Rattle.packet.specs.declared.Past.{Past}
@@ -45,7 +45,8 @@ module _ {A : Type 0} {w : List Row → List A} {rules : Rules} {s : State} {l m
   pub asks-same : {at room : ℕ} → RunAsks w rules s l at room → RunAsks w rules s m at room
   asks-same {at} {room} r = subst (λ (x : List Packet). RunAsks w rules s x at room) e r
 
-  pub gives-same : {at : ℕ} {before after : List A} {t : State} → RunGives w rules s m at before t after → RunGives w rules s l at before t after
+  pub gives-same : {at : ℕ} {before after : List A} {t : State} → RunGives w rules s m at before t after
+      → RunGives w rules s l at before t after
   gives-same {at} {before} {after} {t} g = subst (λ (x : List Packet). RunGives w rules s x at before t after) (sym e) g
 
 -- ---- the check, by the scan

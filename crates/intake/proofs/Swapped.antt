@@ -10,7 +10,8 @@ use Rattle.timing.specs.declared.State.{State}
 use Rattle.intake.specs.Paper.{recordsOf, captureOf}
 
 -- R12: "a capture and the same capture in the other order have the same answer"
-pub capture-swapped : (s : State) (rows : List ℤ) (port offset : ℕ) (f : Format) (b : List ℕ) → Bytes (wordAt 0 b) → headerOf b ≡ capture f
+pub capture-swapped : (s : State) (rows : List ℤ) (port offset : ℕ) (f : Format) (b : List ℕ) → Bytes (wordAt 0 b)
+    → headerOf b ≡ capture f
     → captureOf s rows port offset (swapFile f b) ≡ captureOf s rows port offset b
 unfolding captureOf
 capture-swapped s rows port offset f b k e =

@@ -21,7 +21,8 @@ check-records-requires : tie.Need-check-records-requires
 check-records-requires c κs =
     let told = c .before in
     let opened = told .before .before in
-    (record { inside = capture-long _ (opened .open .ensures) (told .opened .given .1) }, refl, record { few = omega arith; no-more = omega arith; closed = omega arith })
+    let long = capture-long _ (opened .open .ensures) (told .opened .given .1) in
+    (record { inside = long }, refl, record { few = omega arith; no-more = omega arith; closed = omega arith })
 
 returns-3 : tie.Need-returns-3
 returns-3 c =

@@ -17,6 +17,16 @@ Inv-loop rules setting bytes rows₀ s₀ from₀ at₀ rows s from at =
 abbrev μ-loop : tie.MeasureT-loop
 μ-loop rules setting bytes rows₀ s₀ from₀ at₀ rows s from at = length bytes - from
 
+-- the packet that was sought is the first of what is left, and the others begin behind it
+first : (k : tie.After-sought Inv-loop μ-loop)
+    → let at = k .before .before .before in
+    let a = at .before .before .args in
+    let next = k .sought .given .0 .1 .0 in
+    (handedIn (a .setting) (drop (at .loop .from) (a .bytes .now))
+    ≡ k .sought .given .0 .0 ∷ handedIn (a .setting) (drop next (a .bytes .now)))
+    × (at .loop .from < next) × (next ≤ length (a .bytes .now))
+first k = sought-cons _ _ _ (sym (k .before .before .seek .ensures) ∙ k .sought .given .1)
+
 loop-holds : tie.Need-loop-holds Inv-loop μ-loop
 loop-holds c = loop-begins as-numbers _ (c .before .pre)
 
@@ -38,52 +48,48 @@ returns c =
     loop-ends as-numbers (sought-none _ _ _ (sym (sought .seek .ensures) ∙ c .enum-told .given .1)) (sought .before .loop .inv)
 
 arrive-requires : tie.Need-arrive-requires Inv-loop μ-loop
-arrive-requires c κs = loop-arrives as-numbers (sought-cons _ _ _ (sym (c .before .before .before .seek .ensures) ∙ c .before .sought .given .1) .0) (c .before .before .before .before .loop .inv)
+arrive-requires c κs =
+    let k = c .before in
+    loop-arrives as-numbers (first k .0) (k .before .before .before .loop .inv)
 
 lay-row-requires : tie.Need-lay-row-requires Inv-loop μ-loop
 lay-row-requires c κs =
     let arrived = c .before .before .before in
     let k = arrived .before .before in
-    let first = sought-cons _ _ _ (sym (k .before .before .seek .ensures) ∙ k .sought .given .1) in
-    rw (arrived .arrive .ensures) (loop-lays as-numbers (first .0) (k .before .before .before .loop .inv) (c .before .if1 .taken))
+    rw (arrived .arrive .ensures) (loop-lays as-numbers (first k .0) (k .before .before .before .loop .inv) (c .before .if1 .taken))
 
 mark-requires : tie.Need-mark-requires Inv-loop μ-loop
 mark-requires c κs =
     let arrived = c .before .before .before .before .before in
     let k = arrived .before .before in
-    let first = sought-cons _ _ _ (sym (k .before .before .seek .ensures) ∙ k .sought .given .1) in
-    rw (arrived .arrive .ensures) (loop-closed as-numbers (first .0) (k .before .before .before .loop .inv))
+    rw (arrived .arrive .ensures) (loop-closed as-numbers (first k .0) (k .before .before .before .loop .inv))
 
 loop-less : tie.Need-loop-less Inv-loop μ-loop
 loop-less c =
     let k = c .before .before .before .before .before .before .before .before in
-    let first = sought-cons _ _ _ (sym (k .before .before .seek .ensures) ∙ k .sought .given .1) in
-    omega (arith, first .1, first .2)
+    omega (arith, first k .1, first k .2)
 
 loop-again : tie.Need-loop-again Inv-loop μ-loop
 loop-again c =
     let laid = c .before .before in
     let arrived = laid .before .before .before .before in
     let k = arrived .before .before in
-    let first = sought-cons _ _ _ (sym (k .before .before .seek .ensures) ∙ k .sought .given .1) in
     let l = k .before .before .before .loop in
-    loop-next as-numbers (first .0) (l .inv)
+    loop-next as-numbers (first k .0) (l .inv)
     (turn-marked as-numbers _ (l .s) _ (l .at) (l .rows) (arrived .arrive .ensures) (laid .before .before .if1 .taken) (c .mark .ensures)
     (laid .lay-row .ensures))
 
 loop-less-2 : tie.Need-loop-less-2 Inv-loop μ-loop
 loop-less-2 c =
     let k = c .before .before .before .before in
-    let first = sought-cons _ _ _ (sym (k .before .before .seek .ensures) ∙ k .sought .given .1) in
-    omega (arith, first .1, first .2)
+    omega (arith, first k .1, first k .2)
 
 loop-again-2 : tie.Need-loop-again-2 Inv-loop μ-loop
 loop-again-2 c =
     let arrived = c .before .before in
     let k = arrived .before .before in
-    let first = sought-cons _ _ _ (sym (k .before .before .seek .ensures) ∙ k .sought .given .1) in
     let l = k .before .before .before .loop in
-    loop-next as-numbers (first .0) (l .inv) (turn-plain as-numbers _ (l .s) _ (l .at) (l .rows) (arrived .arrive .ensures) (c .if1 .left))
+    loop-next as-numbers (first k .0) (l .inv) (turn-plain as-numbers _ (l .s) _ (l .at) (l .rows) (arrived .arrive .ensures) (c .if1 .left))
 
 pub run-packets-spec : {M : Type 1} → statement M
 run-packets-spec =

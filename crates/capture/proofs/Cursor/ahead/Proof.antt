@@ -1,9 +1,9 @@
 -- The invariant: what lies ahead from here, with what was used and skipped so far, is what lies ahead of the whole window (Looking).
-use Rattle.laws.specs.Kit.{_≡_, refl, sym, _∙_, suc, _-_, _≤_, arith, length, drop, length-drop}
+use Rattle.laws.specs.Kit.{_≡_, refl, sym, subst, _∙_, List, ℕ, suc, _+_, _-_, _≤_, _<_, arith, length, drop, length-drop}
 use borrow.Author.Needs.{needs}
 use Rattle.capture.specs.Step.{nextOf, aheadOf}
 use Rattle.capture.proofs.Ways.{rest-all}
-use Rattle.capture.proofs.Looking.{aheadFrom, turn-within, ahead-stops, ahead-goes, used-fits}
+use Rattle.capture.proofs.Looking.{Within, aheadFrom, turn-within, ahead-stops, ahead-goes, used-fits}
 use Rattle.capture.proofs.Cursor.ahead.Statement.{statement}
 use Rattle.capture.proofs.Cursor.ahead.Tie as tie
 
@@ -14,15 +14,36 @@ Inv-loop setting window last cursor₀ used₀ skipped₀ cursor used skipped =
 abbrev μ-loop : tie.MeasureT-loop
 μ-loop setting window last cursor₀ used₀ skipped₀ cursor used skipped = length window - used
 
+abbrev start : tie.After-read Inv-loop μ-loop → tie.Start Inv-loop μ-loop
+start c = c .before .before .before .before
+
+-- what is left of the window
+abbrev rest : tie.After-read Inv-loop μ-loop → List ℕ
+rest c = drop (c .before .before .loop .used) (start c .args .window .now)
+
 -- what was read is what stands ahead of the rest of the window
 here : (c : tie.After-read Inv-loop μ-loop)
-    → let l = c .before .before .loop in
-    let a = c .before .before .before .before .args in
-    c .read .result ≡ nextOf (a .setting) (l .cursor) (drop (l .used) (a .window .now)) (a .last)
-here c =
+    → nextOf (start c .args .setting) (c .before .before .loop .cursor) (rest c) (start c .args .last) ≡ c .read .result
+here c = sym (c .read .ensures ∙ rw (rest-all (start c .args .window .now) (c .before .before .loop .used)))
+
+-- and uses no more than that
+fits : (c : tie.After-read Inv-loop μ-loop) → Within (rest c) (c .read .result)
+fits c =
     let l = c .before .before .loop in
-    let a = c .before .before .before .before .args in
-    c .read .ensures ∙ rw (rest-all (a .window .now) (l .used))
+    let a = start c .args in
+    turn-within (a .setting) (a .last) (l .cursor) (a .window .now) (l .used) 0 (here c)
+
+-- a skipped record takes some of the window, and no more than is left
+takes : (c : tie.After-next Inv-loop μ-loop)
+    → let read = c .before .before in
+    let used = read .before .before .loop .used in
+    (0 < c .next .given .0 .0) × (used + c .next .given .0 .0 ≤ length (start read .args .window .now))
+takes c =
+    let read = c .before .before in
+    let l = read .before .before .loop in
+    let within = subst (Within (rest read)) (c .next .given .1) (fits read) in
+    let left = length-drop (l .used) (start read .args .window .now) in
+    (within .0, omega (arith, within .1, left, l .inv .2))
 
 loop-holds : tie.Need-loop-holds Inv-loop μ-loop
 unfolding aheadOf
@@ -47,59 +68,38 @@ behind-requires : tie.Need-behind-requires Inv-loop μ-loop
 behind-requires c κs =
     let read = c .before in
     let l = read .before .before .loop in
-    let start = read .before .before .before .before in
-    used-fits (drop (l .used) (start .args .window .now)) (l .used) (read .read .result) (omega (arith, length-drop (l .used) (start .args .window .now), l .inv .2, start .good)) (turn-within (start .args .setting) (start .args .last) (l .cursor) (start .args .window .now) (l .used) 0 (sym (here read)))
+    let left = length-drop (l .used) (start read .args .window .now) in
+    used-fits (rest read) (l .used) (read .read .result) (omega (arith, left, l .inv .2, start read .good)) (fits read)
 
 returns : tie.Need-returns Inv-loop μ-loop
 returns c =
     let read = c .before .before in
     let l = read .before .before .loop in
-    c .behind .ensures ∙ ahead-stops _ _ _ _ _ _ (sym (here read)) (c .before .match .keys2) ∙ l .inv .0
+    c .behind .ensures ∙ ahead-stops _ _ _ _ _ _ (here read) (c .before .match .keys2) ∙ l .inv .0
 
 add-used : tie.Need-add-used Inv-loop μ-loop
-add-used c =
-    let known = c .before in
-    let read = known .before .before in
-    let l = read .before .before .loop in
-    let start = read .before .before .before .before in
-    let within = turn-within (start .args .setting) (start .args .last) (l .cursor) (start .args .window .now) (l .used) 0 (sym (here read) ∙ known .next .given .1) in
-    let left = length-drop (l .used) (start .args .window .now) in
-    omega (arith, within .0, within .1, left, l .inv .1, l .inv .2, start .good)
+add-used c = omega (arith, takes (c .before) .1, start (c .before .before .before) .good)
 
 add-skipped : tie.Need-add-skipped Inv-loop μ-loop
 add-skipped c =
-    let known = c .before in
-    let read = known .before .before in
+    let read = c .before .before .before in
     let l = read .before .before .loop in
-    let start = read .before .before .before .before in
-    let within = turn-within (start .args .setting) (start .args .last) (l .cursor) (start .args .window .now) (l .used) 0 (sym (here read) ∙ known .next .given .1) in
-    let left = length-drop (l .used) (start .args .window .now) in
-    omega (arith, within .0, within .1, left, l .inv .1, l .inv .2, start .good)
+    omega (arith, takes (c .before) .0, takes (c .before) .1, l .inv .1, start read .good)
 
 start-requires : tie.Need-start-requires Inv-loop μ-loop
 start-requires c κs = search needs
 
 loop-less : tie.Need-loop-less Inv-loop μ-loop
-loop-less c =
-    let known = c .before .before in
-    let read = known .before .before in
-    let l = read .before .before .loop in
-    let start = read .before .before .before .before in
-    let within = turn-within (start .args .setting) (start .args .last) (l .cursor) (start .args .window .now) (l .used) 0 (sym (here read) ∙ known .next .given .1) in
-    let left = length-drop (l .used) (start .args .window .now) in
-    omega (arith, within .0, within .1, left, l .inv .1, l .inv .2, start .good)
+loop-less c = omega (arith, takes (c .before .before) .0, takes (c .before .before) .1)
 
 loop-again : tie.Need-loop-again Inv-loop μ-loop
 loop-again c =
-    let known = c .before .before in
-    let read = known .before .before in
-    let l = read .before .before .loop in
-    let start = read .before .before .before .before in
-    let within = turn-within (start .args .setting) (start .args .last) (l .cursor) (start .args .window .now) (l .used) 0 (sym (here read) ∙ known .next .given .1) in
-    let left = length-drop (l .used) (start .args .window .now) in (
-      rw (c .start .ensures) (ahead-goes _ _ _ _ _ _ (sym (here read)) (known .next .given .1) (l .inv .2) ∙ l .inv .0),
-      omega (arith, within .0, l .inv .1),
-      omega (arith, within .1, left, l .inv .2),
+    let skip = c .before .before in
+    let read = skip .before .before in
+    let l = read .before .before .loop in (
+      rw (c .start .ensures) (ahead-goes _ _ _ _ _ _ (here read) (skip .next .given .1) (l .inv .2) ∙ l .inv .0),
+      omega (arith, takes skip .0, l .inv .1),
+      takes skip .1,
     )
 
 pub ahead-spec : {M : Type 1} → statement M

@@ -70,7 +70,8 @@ returns-2 c =
     let told = number .before .before in
     let read = told .before .before in
     let at = read .before .before .loop in
-    c .refused .ensures ∙ loop-refused (at .inv) (sym (here read) ∙ told .front2 .given .1) (λ e. c .before .if1 .taken (number .refusal .ensures ∙ e))
+    c .refused .ensures
+    ∙ loop-refused (at .inv) (sym (here read) ∙ told .front2 .given .1) (λ e. c .before .if1 .taken (number .refusal .ensures ∙ e))
 
 with-requires : tie.Need-with-requires Inv-loop μ-loop
 with-requires c κs =

@@ -25,7 +25,9 @@ add-result c = search needs
 returns : tie.Need-returns
 returns c =
     let two = c .before .before in
-    arrival-nano (two .before .before .before .args .self) _ _ (two .before .wide .ensures .0) (two .wide2 .ensures .0) (c .wide3 .ensures .0) (c .before .if1 .taken)
+    let self = two .before .before .before .args .self in
+    let seconds = two .before .wide .ensures .0 in
+    arrival-nano self _ _ seconds (two .wide2 .ensures .0) (c .wide3 .ensures .0) (c .before .if1 .taken)
 
 wide-requires-4 : tie.Need-wide-requires-4
 wide-requires-4 c κs = search needs
@@ -39,7 +41,9 @@ add-result-2 c = search needs
 returns-2 : tie.Need-returns-2
 returns-2 c =
     let two = c .before .before in
-    arrival-micro (two .before .before .before .args .self) _ _ (two .before .wide .ensures .0) (two .wide2 .ensures .0) (c .wide4 .ensures .0) (c .before .if1 .left)
+    let self = two .before .before .before .args .self in
+    let seconds = two .before .wide .ensures .0 in
+    arrival-micro self _ _ seconds (two .wide2 .ensures .0) (c .wide4 .ensures .0) (c .before .if1 .left)
 
 pub arrival-spec : {M : Type 1} → statement M
 arrival-spec =

@@ -1,9 +1,24 @@
 -- By the length of the window, one law for each way out (Ways).
-use Rattle.laws.specs.Kit.{_∙_, arith}
+use Rattle.laws.specs.Kit.{_≡_, _∙_, _≤_, arith, length}
+use Rattle.capture.specs.Paper.{recordBytes, capturedAt}
 use Rattle.capture.proofs.Ways.{none-last, none-yet, scrap-last, scrap-yet, whole-there, cut-last, front-there, front-yet}
 use borrow.Author.Needs.{needs}
 use Rattle.capture.proofs.Setting.front.Statement.{statement}
 use Rattle.capture.proofs.Setting.front.Tie as tie
+
+-- what is known where the captured length was read
+module _ (c : tie.After-size) where
+  abbrev start : tie.Start
+  start = c .before .before .before .before .before .before
+
+  some : length (start .args .window .now) ≡ 0 → ⊥
+  some = c .before .before .before .before .if1 .left
+
+  sixteen : recordBytes ≤ length (start .args .window .now)
+  sixteen = c .before .before .before .if3 .left
+
+  captured : c .size .result ≡ capturedAt (start .args .self .format) (start .args .window .now)
+  captured = c .size .ensures .0 ∙ c .before .read32-by .ensures
 
 returns : tie.Need-returns
 returns c = none-last _ _ _ (c .before .if1 .taken) (c .if2 .taken)
@@ -32,14 +47,12 @@ record-in-requires c κs = search needs
 returns-5 : tie.Need-returns-5
 returns-5 c =
     let sized = c .before .before in
-    let three = sized .before .before .before in
-    c .record-in .ensures ∙ whole-there _ _ _ (three .before .if1 .left) (three .if3 .left) (sized .size .ensures .0 ∙ sized .before .read32-by .ensures) (c .before .if5 .taken)
+    c .record-in .ensures ∙ whole-there _ _ _ (some sized) (sixteen sized) (captured sized) (c .before .if5 .taken)
 
 returns-6 : tie.Need-returns-6
 returns-6 c =
     let sized = c .before .before in
-    let three = sized .before .before .before in
-    cut-last _ _ _ (three .before .if1 .left) (three .if3 .left) (sized .size .ensures .0 ∙ sized .before .read32-by .ensures) (c .before .if5 .left) (c .if6 .taken)
+    cut-last _ _ _ (some sized) (sixteen sized) (captured sized) (c .before .if5 .left) (c .if6 .taken)
 
 sub-if7 : tie.Need-sub-if7
 sub-if7 c = search needs
@@ -51,15 +64,14 @@ returns-7 : tie.Need-returns-7
 returns-7 c =
     let six = c .before .before in
     let sized = six .before .before in
-    let three = sized .before .before .before in
-    c .record-in2 .ensures ∙ front-there _ _ _ (three .before .if1 .left) (three .if3 .left) (sized .size .ensures .0 ∙ sized .before .read32-by .ensures) (six .before .if5 .left) (six .if6 .left) (c .before .if7 .taken)
+    c .record-in2 .ensures
+    ∙ front-there _ _ _ (some sized) (sixteen sized) (captured sized) (six .before .if5 .left) (six .if6 .left) (c .before .if7 .taken)
 
 returns-8 : tie.Need-returns-8
 returns-8 c =
     let six = c .before in
     let sized = six .before .before in
-    let three = sized .before .before .before in
-    front-yet _ _ _ (three .before .if1 .left) (three .if3 .left) (sized .size .ensures .0 ∙ sized .before .read32-by .ensures) (six .before .if5 .left) (six .if6 .left) (c .if7 .left)
+    front-yet _ _ _ (some sized) (sixteen sized) (captured sized) (six .before .if5 .left) (six .if6 .left) (c .if7 .left)
 
 pub front-spec : {M : Type 1} → statement M
 front-spec =
