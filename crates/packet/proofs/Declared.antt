@@ -21,7 +21,7 @@ use Rattle.packet.proofs.Refusals.{accepted}
 use Rattle.packet.proofs.Turn.{fine-refused, scan-ends, scan-goes, scan-stops}
 
 -- one more place, whether or not it is marked
-begun-more : (n : ℕ) (t : Bool) → ltb 0 n || t ≡ ltb 0 (n + pick t 1 0)
+pub begun-more : (n : ℕ) (t : Bool) → ltb 0 n || t ≡ ltb 0 (n + pick t 1 0)
 begun-more n true = or-true (ltb 0 n) ∙ sym (lt-ltb 0 (n + 1) (omega arith))
 begun-more n false = or-false (ltb 0 n) ∙ rw (add-zero n)
 

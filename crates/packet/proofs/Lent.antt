@@ -1,6 +1,8 @@
 -- Three lent slices of one length as one list of packets: from place i on, and by place. By the lists.
-use Rattle.laws.specs.Kit.{_≡_, refl, ap, List, [], _∷_, ℕ, zero, suc, _+_, _≤_, _<_, arith, suc-inj, length, drop-cons, drop-length}
+use Rattle.laws.specs.Kit.{_≡_, refl, sym, ap, _∙_, List, [], _∷_, ℕ, zero, suc, _+_, _≤_, _<_, arith, suc-inj, length, drop-cons}
+use Rattle.laws.specs.Kit.{drop-length}
 use native.Mathlib.Numerals.{add-one}
+use Rattle.packet.specs.declared.Packet.{Packet}
 use Rattle.packet.specs.Paper.{packets, OneLength, lent, packetsFrom, at}
 
 module _ {ts ss ms : List ℕ} (same : OneLength ts ss ms) (i : ℕ) where
@@ -11,6 +13,9 @@ module _ {ts ss ms : List ℕ} (same : OneLength ts ss ms) (i : ℕ) where
       let hs : i < length ss = omega arith in
       let hm : i < length ms = omega arith in
       rw (drop-cons ts i 0 h, drop-cons ss i 0 hs, drop-cons ms i 0 hm, add-one)
+
+  pub packets-lent : {p : Packet} → p ≡ lent ts ss ms i → i < length ts → packetsFrom i ts ss ms ≡ p ∷ packetsFrom (i + 1) ts ss ms
+  packets-lent e h = packets-cons h ∙ ap (λ (p : Packet). p ∷ packetsFrom (i + 1) ts ss ms) (sym e)
 
   pub packets-none : length ts ≤ i → i ≤ length ts → packetsFrom i ts ss ms ≡ []
   unfolding packets

@@ -3,6 +3,7 @@ pub mod Refusals
 pub mod Lent
 pub mod Turn
 pub mod Declared
+pub mod Latest
 pub mod Cutting
 pub mod Limits
 pub mod Ranging

@@ -1,9 +1,10 @@
 // What came before a packet, the refusals 11 to 14 of a packet against it, and the scan of three lent slices:
 // the first refused packet's number and place, or how many frames close. The scan writes nothing.
 // It knows arrivals, markers and how many packets there were. It must never know a rate, a frame length or a bucket.
-ghost use Rattle.laws.specs.Kit.{_≡_, _-_, _≤_, _<_};
+ghost use Rattle.laws.specs.Kit.{_≡_, _+_, _-_, _^_, _≤_, _<_, length};
 ghost use Rattle.laws.specs.Every.{every};
-ghost use Rattle.packet.specs.Paper.{OneLength, packets};
+ghost use Rattle.packet.specs.Paper.{OneLength, lent, packets};
+ghost use Rattle.packet.specs.Quick.{startOf, takesOf, runsOf, ranOf, admitsOf, closedBy};
 ghost use Rattle.packet.specs.Range.{ranges};
 ghost use Rattle.packet.specs.Step.{nothing, firstOf, elapsedOf, numberOf, nextOf, noPackets, tallied, Countable, scanOf, scannedOf};
 
@@ -28,6 +29,18 @@ pub struct Tally {
     pub closed: usize,
 }
 
+// Packets that 11 and 12 accept, one after the other: the last arrival, and how many markers came.
+pub struct Run {
+    pub last: u64,
+    pub marks: usize,
+}
+
+// Through all packets, or broken off at one that 11 or 12 refuses.
+pub enum Ran {
+    Through(Run),
+    Broken,
+}
+
 // Document 01's number, and the refused packet's place in the history, from 0; place 0 for number 10.
 pub struct Refusal {
     pub number: u8,
@@ -38,6 +51,18 @@ pub struct Refusal {
 pub enum Scanned {
     Fine(usize),
     Refused(Refusal),
+}
+
+// Packet `i` of three lent slices.
+fn lent_packet(arrivals: &[u64], stamps: &[u32], markers: &[u8], i: usize) -> Packet
+    requires { ⌜ OneLength (now arrivals) (now stamps) (now markers) × (i < length (now arrivals)) ⌝ }
+    ensures { λ r. ⌜ r ≡ lent (now (arrivals .entry)) (now (stamps .entry)) (now (markers .entry)) i ⌝ }
+{
+    Packet {
+        time: arrivals[i],
+        stamp: stamps[i],
+        marker: markers[i],
+    }
 }
 
 impl Past {
@@ -113,7 +138,27 @@ impl Past {
         }
     }
 
-    // `begun`: a marker came before.
+    // The run before the packets that come next; a marker that came before, where `begun`, is counted.
+    pub fn start(self, begun: bool) -> Run
+        ensures { λ r. ⌜ r ≡ startOf self begun ⌝ }
+    {
+        Run {
+            last: self.last,
+            marks: if begun { 1 } else { 0 },
+        }
+    }
+
+    // Whether 13 and 14 accept all packets of a run, `count` of them from `first` to `last`: arrivals that never fall have their
+    // greatest at the end.
+    pub fn admits(self, count: u64, first: u64, last: u64) -> bool
+        ensures { λ r. ⌜ r ≡ admitsOf self count first last ⌝ }
+    {
+        (count <= laws::less(1000000000, self.packets))
+            & (laws::less(last, self.first_with(first)) <= 600000000000)
+    }
+
+    // `begun`: a marker came before. Mostly nothing is refused, and a run sees that with fewer tests; where it does not, the careful
+    // scan tells what is refused.
     pub fn scan(self, begun: bool, arrivals: &[u64], stamps: &[u32], markers: &[u8]) -> Scanned
         ensures { λ r. ⌜ r ≡ scannedOf self begun (now (arrivals .entry)) (now (stamps .entry)) (now (markers .entry)) ⌝ }
     {
@@ -124,12 +169,68 @@ impl Past {
                 place: 0,
             });
         }
+        if count != 0 {
+            let ran = self.start(begun).over(arrivals, stamps, markers);
+            if let Ran::Through(run) = ran {
+                if self.admits(count as u64, arrivals[0], run.last) {
+                    return Scanned::Fine(run.closed());
+                }
+            }
+        }
         let tally = Tally {
             past: self,
             begun,
             closed: 0,
         };
         tally.scan(arrivals, stamps, markers)
+    }
+}
+
+impl Run {
+    // Whether 11 and 12 accept a packet.
+    pub fn takes(self, p: Packet) -> bool
+        ensures { λ r. ⌜ r ≡ takesOf self p ⌝ }
+    {
+        (p.marker <= 1) & (self.last <= p.time)
+    }
+
+    // With one packet more, whose marker is 0 or 1.
+    pub fn with(self, p: Packet) -> Run
+        requires { ⌜ self .marks + p .marker < 2 ^ 64 ⌝ }
+        ensures { λ r. ⌜ r ≡ runsOf self p ⌝ }
+    {
+        Run {
+            last: p.time,
+            marks: self.marks + p.marker as usize,
+        }
+    }
+
+    // The frames that close: the first marker ends the lead-in.
+    pub fn closed(self) -> usize
+        ensures { λ r. ⌜ r ≡ closedBy self ⌝ }
+    {
+        if self.marks == 0 {
+            return 0;
+        }
+        self.marks - 1
+    }
+
+    // Over three slices of one length.
+    fn over(self, arrivals: &[u64], stamps: &[u32], markers: &[u8]) -> Ran
+        requires { ⌜ OneLength (now arrivals) (now stamps) (now markers) × (self .marks ≤ 1) ⌝ }
+        ensures { λ r. ⌜ r ≡ ranOf self (packets (now (arrivals .entry)) (now (stamps .entry)) (now (markers .entry))) ⌝ }
+    {
+        let mut run = self;
+        let mut i = 0;
+        while i < arrivals.len() {
+            let p = lent_packet(arrivals, stamps, markers, i);
+            if !run.takes(p) {
+                return Ran::Broken;
+            }
+            run = run.with(p);
+            i += 1;
+        }
+        Ran::Through(run)
     }
 }
 
@@ -182,11 +283,7 @@ impl Tally {
         let mut tally = self;
         let mut i = 0;
         while i < arrivals.len() {
-            let p = Packet {
-                time: arrivals[i],
-                stamp: stamps[i],
-                marker: markers[i],
-            };
+            let p = lent_packet(arrivals, stamps, markers, i);
             let past = tally.past;
             let number = past.refusal(p);
             if number != 0 {

@@ -5,7 +5,7 @@ use borrow.Author.Needs.{needs}
 use Rattle.packet.specs.Paper.{packets, packetsFrom}
 use Rattle.packet.specs.Step.{scanOf}
 use Rattle.packet.proofs.Refusals.{accepted}
-use Rattle.packet.proofs.Lent.{packets-cons, packets-none}
+use Rattle.packet.proofs.Lent.{packets-lent, packets-none}
 use Rattle.packet.proofs.Turn.{scan-ends, scan-stops, scan-tallied, tally-keeps}
 use Rattle.packet.proofs.Tally.scan.Statement.{statement}
 use Rattle.packet.proofs.Tally.scan.Tie as tie
@@ -22,36 +22,26 @@ abbrev μ-loop : tie.MeasureT-loop
 loop-holds : tie.Need-loop-holds Inv-loop μ-loop
 loop-holds c = (refl, search needs, search needs)
 
-mul-t10 : tie.Need-mul-t10 Inv-loop μ-loop
-mul-t10 c = search needs
-
-shared-slice-read-t13 : tie.Need-shared-slice-read-t13 Inv-loop μ-loop
-shared-slice-read-t13 c = search needs
-
-mul-t14 : tie.Need-mul-t14 Inv-loop μ-loop
-mul-t14 c = search needs
-
-shared-slice-read-t16 : tie.Need-shared-slice-read-t16 Inv-loop μ-loop
-shared-slice-read-t16 c = search needs
-
-shared-slice-read-t18 : tie.Need-shared-slice-read-t18 Inv-loop μ-loop
-shared-slice-read-t18 c = search needs
+lent-packet-requires : tie.Need-lent-packet-requires Inv-loop μ-loop
+lent-packet-requires c κs =
+    let start = c .before .before .before .before .before in (start .pre .0, c .loop-test .taken)
 
 refusal-requires : tie.Need-refusal-requires Inv-loop μ-loop
 refusal-requires c κs = search needs
 
 returns : tie.Need-returns Inv-loop μ-loop
 returns c =
-    let in-loop = c .before .before .before .before .before .before in
+    let told = c .before .before .before in
+    let in-loop = told .before in
     let at = in-loop .before .loop in
     let start = in-loop .before .before .before .before .before in
-    let here = packets-cons (start .pre .0) (at .i) (in-loop .loop-test .taken) in
+    let here = packets-lent (start .pre .0) (at .i) (told .lent-packet .ensures) (in-loop .loop-test .taken) in
     cc (scan-stops (at .tally .past) (at .tally .begun) (at .tally .closed) here
     (λ e. c .if1 .taken (c .before .refusal .ensures ∙ e)))
 
 with-requires : tie.Need-with-requires Inv-loop μ-loop
 with-requires c κs =
-    let at = c .before .before .before .before .before .before .before .loop in
+    let at = c .before .before .before .before .before .loop in
     record { few = accepted _ _ _ (sym (c .before .refusal .ensures) ∙ c .if1 .left) .few; no-more = at .inv .2 }
 
 add-i : tie.Need-add-i Inv-loop μ-loop
@@ -63,10 +53,11 @@ loop-less c = search needs
 loop-again : tie.Need-loop-again Inv-loop μ-loop
 loop-again c =
     let fine = c .before in
-    let in-loop = fine .before .before .before .before .before .before in
+    let told = fine .before .before .before in
+    let in-loop = told .before in
     let at = in-loop .before .loop in
     let start = in-loop .before .before .before .before .before in
-    let here = packets-cons (start .pre .0) (at .i) (in-loop .loop-test .taken) in (
+    let here = packets-lent (start .pre .0) (at .i) (told .lent-packet .ensures) (in-loop .loop-test .taken) in (
       rw (c .with .ensures)
           (scan-tallied (at .tally) here (sym (fine .before .refusal .ensures) ∙ fine .if1 .left) ∙ at .inv .0),
       omega arith,
@@ -87,11 +78,7 @@ scan-spec =
     Inv-loop
     μ-loop
     loop-holds
-    mul-t10
-    shared-slice-read-t13
-    mul-t14
-    shared-slice-read-t16
-    shared-slice-read-t18
+    lent-packet-requires
     refusal-requires
     returns
     with-requires
