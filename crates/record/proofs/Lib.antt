@@ -5,6 +5,7 @@ pub mod Reading
 pub mod Saying
 pub mod Standing
 pub mod Walking
+pub mod Quickly
 pub mod Opening
 pub mod Stores
 pub mod Writing

@@ -1,9 +1,14 @@
 -- A whole file gone through record by record, with what is counted on the way; and the answer to it, from what the file reads as.
-use Rattle.laws.specs.Kit.{List, ℕ, length}
+use Rattle.laws.specs.Kit.{_&&_, List, ℕ, zero, suc, _/_, _%_, eqb, length, drop}
+use Rattle.laws.specs.Choose.{pick}
 use Rattle.laws.specs.Count.{count}
 use Rattle.packet.specs.declared.Packet.{Packet}
+use Rattle.packet.specs.declared.Run.{Run}
+use Rattle.packet.specs.declared.Ran.{Ran}
+use Rattle.packet.specs.declared.Ran.the-variants.{Through, Broken}
 use Rattle.packet.specs.Paper.{closesAt}
 use Rattle.packet.specs.Step.{tallyOf}
+use Rattle.packet.specs.Quick.{takesOf, runsOf}
 use Rattle.limits.specs.declared.Parameters.{Parameters}
 use Rattle.packet.specs.declared.Tally.{Tally}
 use Rattle.record.specs.declared.Head.{Head}
@@ -12,7 +17,8 @@ use Rattle.record.specs.declared.Next.{Next}
 use Rattle.record.specs.declared.Next.the-variants as next
 use Rattle.record.specs.declared.Checked.{Checked}
 use Rattle.record.specs.declared.Checked.the-variants.{Fine, Refused}
-use Rattle.record.specs.Paper.{Ending, done, stopped, Packets, File, file, refused, fileOf}
+use Rattle.record.specs.Paper.{packetBytes, packetAt, Ending, done, stopped, Packets, File, file, refused, fileOf}
+use Rattle.record.specs.Step.{standsIn}
 
 -- a file is fine with its stream numbers, how many packets it has, and how many frames they close
 abbrev pub asChecked : File → Checked
@@ -53,3 +59,14 @@ unfoldable pub refusedBy : Head → Checked
 refusedBy (head.Ready version kind parameters c) = Refused 0 0
 refusedBy head.More = Refused 0 0
 refusedBy (head.Refused number offset) = Refused number offset
+
+-- ---- gone through quickly
+
+-- how many packets' records the bytes are, 0 where they are no whole number of them
+abbrev pub recordsLeft : List ℕ → ℕ
+recordsLeft l = pick (eqb (length l % packetBytes) 0) (length l / packetBytes) 0
+
+-- a run over so many of them, broken off where none stands
+unfoldable pub ranIn : Run → ℕ → List ℕ → Ran
+ranIn r zero l = Through r
+ranIn r (suc k) l = pick (standsIn l && takesOf r (packetAt l)) (ranIn (runsOf r (packetAt l)) k (drop packetBytes l)) Broken

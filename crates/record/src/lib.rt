@@ -10,19 +10,21 @@ use endian::write64;
 use limits::Parameters;
 use packet::Packet;
 use packet::Past;
+use packet::Ran;
 use packet::Scanned;
 use packet::Tally;
-ghost use Rattle.laws.specs.Kit.{_≡_, true, _<_, drop, sets};
+ghost use Rattle.laws.specs.Kit.{_≡_, true, false, _+_, _*_, _≤_, _<_, length, drop, sets};
 ghost use Rattle.endian.specs.Number.{Room};
 ghost use Rattle.record.specs.declared.Head.the-variants.{Refused};
 ghost use Rattle.packet.specs.Paper.{packets};
+ghost use Rattle.packet.specs.Quick.{startOf};
 ghost use Rattle.packet.specs.Step.{nothing, noPackets};
 ghost use Rattle.record.specs.Paper.{parametersBytes, packetBytes, headBytes};
 ghost use Rattle.record.specs.Paper.{parametersAt, packetAt, isParameters, kindLength, packetsIn};
 ghost use Rattle.record.specs.Step.{scrapOf, framedOf, Whole, firstOf, headBy, headPiece, after, packetOf, wholeOf, nextPiece, standsIn};
 ghost use Rattle.record.specs.Layout.{packetWith, packetRecord, headOf, recordsOf};
 ghost use Rattle.record.specs.Write.{writtenOf, WriteGives, Fitting};
-ghost use Rattle.record.specs.Walk.{closing, refusedBy, finish, checkedOf};
+ghost use Rattle.record.specs.Walk.{ranIn, recordsLeft, closing, refusedBy, finish, checkedOf};
 
 // Where the reader stands after the head of a file: at a packet, or at the end.
 pub struct Cursor {
@@ -167,10 +169,18 @@ fn packet_stands(window: &[u8]) -> bool
     if window.len() < PACKET_BYTES {
         return false;
     }
-    if read16(window, 0) != kind_length(PACKET) {
+    packet_fits(window)
+}
+
+// The same of bytes that have room for one.
+fn packet_fits(s: &[u8]) -> bool
+    requires { ⌜ Room packetBytes (now s) 0 ⌝ }
+    ensures { λ r. ⌜ r ≡ standsIn (now (s .entry)) ⌝ }
+{
+    if read16(s, 0) != kind_length(PACKET) {
         return false;
     }
-    window[2] == PACKET
+    s[2] == PACKET
 }
 
 // Behind a packet's record. An offset past 2^64 would wrap; no file is that long.
@@ -408,8 +418,63 @@ pub fn check(s: &[u8]) -> Checked
     check_packets(parameters, next, s)
 }
 
-// The packets from an offset on, after the parameters.
+// How many packets' records fill the file from an offset on; 0 where there is none, or some bytes are too few for one.
+fn records_left(from: Cursor, s: &[u8]) -> usize
+    ensures { λ r. ⌜ r ≡ recordsLeft (drop (from .at) (now (s .entry))) ⌝ }
+{
+    let size = laws::less(s.len() as u64, from.at) as usize;
+    if size % PACKET_BYTES != 0 {
+        return 0;
+    }
+    size / PACKET_BYTES
+}
+
+// A run over so many packets' records from an offset on.
+fn run_packets(from: Cursor, count: usize, s: &[u8]) -> Ran
+    requires { ⌜ from .at + packetBytes * count ≤ length (now s) ⌝ }
+    ensures { λ r. ⌜ r ≡ ranIn (startOf nothing false) count (drop (from .at) (now (s .entry))) ⌝ }
+{
+    let mut run = Past::none().start(false);
+    let mut at = from.at as usize;
+    let mut left = count;
+    while 0 < left {
+        if !packet_fits(&s[at..]) {
+            return Ran::Broken;
+        }
+        let p = packet_at(&s[at..]);
+        if !run.takes(p) {
+            return Ran::Broken;
+        }
+        run = run.with(p);
+        at += PACKET_BYTES;
+        left -= 1;
+    }
+    Ran::Through(run)
+}
+
+// The packets from an offset on, after the parameters. Mostly nothing is refused, and a run sees that with fewer tests.
 fn check_packets(numbers: Parameters, from: Cursor, s: &[u8]) -> Checked
+    ensures { λ r. ⌜ r ≡ finish numbers noPackets (packetsIn nothing (from .at) (drop (from .at) (now (s .entry)))) ⌝ }
+{
+    let count = records_left(from, s);
+    if count != 0 {
+        let ran = run_packets(from, count, s);
+        if let Ran::Through(run) = ran {
+            let first = packet_at(&s[from.at as usize..]);
+            if Past::none().admits(count as u64, first.time, run.last) {
+                return Checked::Fine {
+                    numbers: numbers,
+                    packets: count as u64,
+                    closed: run.closed() as u64,
+                };
+            }
+        }
+    }
+    walk_packets(numbers, from, s)
+}
+
+// The same record by record, whatever stands there: what is refused, and at which offset.
+fn walk_packets(numbers: Parameters, from: Cursor, s: &[u8]) -> Checked
     ensures { λ r. ⌜ r ≡ finish numbers noPackets (packetsIn nothing (from .at) (drop (from .at) (now (s .entry)))) ⌝ }
 {
     let mut cursor = from;

@@ -1,98 +1,103 @@
--- The packets of a file. The invariant: what is left, read from where the cursor is into the tally so far, finishes as the whole does.
--- Each turn is a law of one answer; a record takes 16 bytes, so the walk ends.
-use Rattle.laws.specs.Kit.{_-_, _≤_, _≡_, sym, _∙_, arith, length, drop}
+-- The packets of a file: what a run that is admitted says, and else the walk over the records.
+use Rattle.laws.specs.Kit.{_≡_, sym, ap, subst, _∙_, List, ℕ, _+_, _*_, _≤_, _<_, arith, length, drop, length-drop}
 use borrow.Author.Needs.{needs}
-use Rattle.packet.specs.Step.{nothing, noPackets}
-use Rattle.packet.proofs.Refusals.{accepted}
-use Rattle.packet.proofs.Turn.{tally-keeps}
-use Rattle.record.specs.Paper.{packetsIn}
-use Rattle.record.specs.Walk.{finish}
-use Rattle.record.proofs.Walking.{stops, goes, refuses, next-at, next-within}
+use Rattle.record.specs.Paper.{packetBytes}
+use Rattle.record.specs.Walk.{recordsLeft}
+use Rattle.record.specs.declared.Checked.the-variants.{Fine}
+use Rattle.record.proofs.Ways.{rest-all}
+use Rattle.record.proofs.Quickly.{left-fills, quick-finish}
 use Rattle.record.proofs.check_packets.Statement.{statement}
 use Rattle.record.proofs.check_packets.Tie as tie
 
-abbrev Inv-loop : tie.InvT-loop
-Inv-loop numbers s cursor₀ tally₀ cursor tally =
-    (finish numbers tally (packetsIn (tally .past) (cursor .at) (drop (cursor .at) s))
-    ≡ finish numbers noPackets (packetsIn nothing (cursor₀ .at) (drop (cursor₀ .at) s)))
-    × (tally .closed ≤ tally .past .packets)
+records-left-requires : tie.Need-records-left-requires
+records-left-requires c κs = search needs
 
-abbrev μ-loop : tie.MeasureT-loop
-μ-loop numbers s cursor₀ tally₀ cursor tally = length s - cursor .at
+-- where there are records, they fill the file
+module _ (c : tie.Then1) where
+  abbrev at : ℕ
+  at = c .before .before .before .args .from .at
 
-none-requires : tie.Need-none-requires Inv-loop μ-loop
+  abbrev file : List ℕ
+  file = c .before .before .before .args .s .now
+
+  fills : length (drop at file) ≡ packetBytes * c .before .records-left .result
+  fills =
+      let many = c .before .records-left .ensures in
+      let some : 0 < recordsLeft (drop at file) = subst (λ (n : ℕ). 0 < n) many (omega arith) in
+      left-fills (drop at file) some ∙ ap (λ (n : ℕ). packetBytes * n) (sym many)
+
+  some : 0 < c .before .records-left .result
+  some = omega arith
+
+  room : packetBytes ≤ length (drop at file)
+  room = omega (arith, fills, some)
+
+  inside : at + packetBytes * c .before .records-left .result ≤ length file
+  inside = omega (arith, fills, length-drop at file)
+
+run-packets-requires : tie.Need-run-packets-requires
+run-packets-requires c κs = inside c
+
+enum-known-ran : tie.Need-enum-known-ran
+enum-known-ran c = search needs
+
+sub-packet-at : tie.Need-sub-packet-at
+sub-packet-at c = omega (arith, inside (c .before .before .before .before))
+
+part-packet-at-start : tie.Need-part-packet-at-start
+part-packet-at-start c = omega (arith, inside (c .before .before .before .before))
+
+part-packet-at-end : tie.Need-part-packet-at-end
+part-packet-at-end c = search needs
+
+packet-at-requires : tie.Need-packet-at-requires
+packet-at-requires c κs = record { inside = rw (rest-all _ _) (room (c .before .before .before .before .before)) }
+
+none-requires : tie.Need-none-requires
 none-requires c κs = search needs
 
-loop-holds : tie.Need-loop-holds Inv-loop μ-loop
-loop-holds c = (rw (c .none .ensures), rw (c .none .ensures) (omega arith))
+admits-requires : tie.Need-admits-requires
+admits-requires c κs = search needs
 
-read-requires : tie.Need-read-requires Inv-loop μ-loop
-read-requires c κs = search needs
-
-enum-known-item : tie.Need-enum-known-item Inv-loop μ-loop
-enum-known-item c = search needs
-
-closed-requires : tie.Need-closed-requires Inv-loop μ-loop
+closed-requires : tie.Need-closed-requires
 closed-requires c κs = search needs
 
-returns : tie.Need-returns Inv-loop μ-loop
+returns : tie.Need-returns
 returns c =
-    let after-read = c .before .before in
-    let at = after-read .before .loop in
-    c .closed .ensures ∙ sym (stops _ _ _ _ _ (c .before .match .keys2) (sym (after-read .read .ensures))) ∙ at .inv .0
+    let admitted = c .before .before in
+    let first = admitted .before .before in
+    let ran = first .before .before .before in
+    let left = ran .before .before .before in
+    let through = sym (ran .before .before .run-packets .ensures) ∙ ran .ran .given .1 in
+    let fine = sym (admitted .admits .ensures) ∙ c .before .if2 .taken in
+    ap (Fine (left .before .before .before .args .numbers) (left .before .records-left .result)) (c .closed .ensures)
+    ∙ quick-finish _ (at left) (drop (at left) (file left)) _ (some left) (fills left) through
+    (rw (admitted .before .none .ensures, first .packet-at .ensures, rest-all (file left) (at left)) at fine)
 
-refusal-requires : tie.Need-refusal-requires Inv-loop μ-loop
-refusal-requires c κs = search needs
+enum-told : tie.Need-enum-told
+enum-told c = search needs
 
-returns-2 : tie.Need-returns-2 Inv-loop μ-loop
-returns-2 c =
-    let after-item = c .before .before .before .before in
-    let after-read = after-item .before .before in
-    let at = after-read .before .loop in
-    let here = sym (after-read .read .ensures) ∙ after-item .item .given .1 in
-    sym (refuses _ _ (omega arith) here _ (at .tally) _ (sym (c .before .refusal .ensures)) (omega arith)) ∙ at .inv .0
+walk-packets-requires : tie.Need-walk-packets-requires
+walk-packets-requires c κs = search needs
 
-with-requires : tie.Need-with-requires Inv-loop μ-loop
-with-requires c κs =
-    let at = c .before .before .before .before .before .before .before .loop in
-    record { few = accepted _ _ _ (sym (c .before .refusal .ensures) ∙ c .if1 .left) .few; no-more = at .inv .1 }
-
-loop-less : tie.Need-loop-less Inv-loop μ-loop
-loop-less c =
-    let after-item = c .before .before .before .before .before in
-    let after-read = after-item .before .before in
-    let at = after-read .before .loop in
-    let start = after-read .before .before .before .before in
-    let here = sym (after-read .read .ensures) ∙ after-item .item .given .1 in
-    omega (arith, next-at _ _ (omega (arith, start .good)) here, next-within _ _ (omega (arith, start .good)) here)
-
-loop-again : tie.Need-loop-again Inv-loop μ-loop
-loop-again c =
-    let not-refused = c .before in
-    let after-item = not-refused .before .before .before .before in
-    let after-read = after-item .before .before in
-    let at = after-read .before .loop in
-    let start = after-read .before .before .before .before in
-    let here = sym (after-read .read .ensures) ∙ after-item .item .given .1 in
-    let fine = sym (not-refused .before .refusal .ensures) ∙ not-refused .if1 .left in (
-      rw (c .with .ensures) (sym (goes _ _ (omega (arith, start .good)) here _ (at .tally) fine) ∙ at .inv .0),
-      rw (c .with .ensures) (tally-keeps (at .tally) _ (at .inv .1)),
-    )
+returns-2 : tie.Need-returns-2
+returns-2 c = search needs
 
 pub check-packets-spec : {M : Type 1} → statement M
 check-packets-spec =
     tie.close
     (tie.spec
-    Inv-loop
-    μ-loop
+    records-left-requires
+    run-packets-requires
+    enum-known-ran
+    sub-packet-at
+    part-packet-at-start
+    part-packet-at-end
+    packet-at-requires
     none-requires
-    loop-holds
-    read-requires
-    enum-known-item
+    admits-requires
     closed-requires
     returns
-    refusal-requires
-    returns-2
-    with-requires
-    loop-less
-    loop-again)
+    enum-told
+    walk-packets-requires
+    returns-2)

@@ -1,7 +1,5 @@
--- The room, the body's length and the kind, in that order: one law each (Standing).
-use Rattle.laws.specs.Kit.{sym, _∙_, arith}
-use Rattle.record.proofs.Format.{length-14}
-use Rattle.record.proofs.Standing.{no-room, other-length, by-kind}
+-- The room first: without it none stands there.
+use Rattle.record.proofs.Standing.{no-room}
 use borrow.Author.Needs.{needs}
 use Rattle.record.proofs.packet_stands.Statement.{statement}
 use Rattle.record.proofs.packet_stands.Tie as tie
@@ -9,30 +7,11 @@ use Rattle.record.proofs.packet_stands.Tie as tie
 returns : tie.Need-returns
 returns c = no-room _ (c .if1 .taken)
 
-read16-requires : tie.Need-read16-requires
-read16-requires c κs = search needs
-
-kind-length-requires : tie.Need-kind-length-requires
-kind-length-requires c κs = search needs
+packet-fits-requires : tie.Need-packet-fits-requires
+packet-fits-requires c κs = search needs
 
 returns-2 : tie.Need-returns-2
-returns-2 c = other-length _ (λ e. c .if2 .taken (c .before .before .read16 .ensures ∙ e ∙ sym (c .before .kind-length .ensures ∙ length-14)))
-
-shared-slice-read-result : tie.Need-shared-slice-read-result
-shared-slice-read-result c = search needs
-
-returns-3 : tie.Need-returns-3
-returns-3 c =
-    let lengths = c .before .before in
-    by-kind _ (omega arith) (sym (lengths .before .read16 .ensures) ∙ c .before .if2 .left ∙ lengths .kind-length .ensures ∙ length-14)
+returns-2 c = c .packet-fits .ensures
 
 pub packet-stands-spec : {M : Type 1} → statement M
-packet-stands-spec =
-    tie.close
-    (tie.spec
-    returns
-    read16-requires
-    kind-length-requires
-    returns-2
-    shared-slice-read-result
-    returns-3)
+packet-stands-spec = tie.close (tie.spec returns packet-fits-requires returns-2)
