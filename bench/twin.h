@@ -43,12 +43,32 @@ static uint64_t grains_mod(uint64_t t, uint64_t m) { return GRAINS * (t % m) % m
 
 #define INLINE static inline __attribute__((always_inline))
 
-INLINE uint16_t big16(const uint8_t *b) { return (uint16_t)(b[0] << 8 | b[1]); }
-INLINE uint32_t big32(const uint8_t *b) { return (uint32_t)big16(b) << 16 | big16(b + 2); }
-INLINE uint64_t big64(const uint8_t *b) { return (uint64_t)big32(b) << 32 | big32(b + 4); }
+/* Copied and turned, so that every compiler makes one load, or one store, of each: clang does not see it in shifts of single bytes. */
+#if __BYTE_ORDER__ != __ORDER_LITTLE_ENDIAN__
+#error "written for little-endian processors"
+#endif
+INLINE uint16_t big16(const uint8_t *b)
+{
+    uint16_t x;
+    __builtin_memcpy(&x, b, 2);
+    return __builtin_bswap16(x);
+}
+INLINE uint32_t big32(const uint8_t *b)
+{
+    uint32_t x;
+    __builtin_memcpy(&x, b, 4);
+    return __builtin_bswap32(x);
+}
+INLINE uint64_t big64(const uint8_t *b)
+{
+    uint64_t x;
+    __builtin_memcpy(&x, b, 8);
+    return __builtin_bswap64(x);
+}
 INLINE void put64(uint8_t *b, uint64_t x)
 {
-    for (int k = 0; k < 8; k++) b[k] = (uint8_t)(x >> (56 - 8 * k));
+    x = __builtin_bswap64(x);
+    __builtin_memcpy(b, &x, 8);
 }
 
 /* What follows from the stream's numbers. */
