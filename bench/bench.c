@@ -1,6 +1,7 @@
 /* Times the proved measurement and its C twin over the same arrays, in one process, and compares their results.
    Any difference ends the program with status 1. The twin is there twice, by two compilers: the ratio to the one that
-   the proved code was compiled by too is of the code alone; the other's has the compilers in it. */
+   the proved code was compiled by too is of the code alone; the other's has the compilers in it. bench/run links it several times,
+   with the timed code at other places, and makes tables of the lines. */
 #define _POSIX_C_SOURCE 199309L
 #include "feed.h"
 
@@ -19,7 +20,11 @@
 #define TICKS_PER_FRAME 1800u
 #define NINE_TICKS_NS 100000ull /* fewer ticks are no whole nanoseconds */
 #define LONGEST_NS 590000000000ull /* a list longer than 600 s is refused */
-#define ROUNDS 7
+#define ROUNDS 2 /* at each place that the code is put at */
+
+/* What is timed: the proved code; its scan alone, or libpcap's way to the same; the twin by the kit's clang and by the system's compiler;
+   and the arrays or bytes read once. */
+enum { PROVED, PART, KIT, SYSTEM, FLOOR, COLUMNS };
 
 struct list {
     size_t count;
@@ -227,48 +232,61 @@ static double timed(feed_function *feed, size_t calls, struct stream s, struct l
     return now() - start;
 }
 
-struct ratios {
-    double same, system;
-};
-
-static struct ratios measure(uint32_t n, size_t wanted)
+static struct stream stream_of(uint32_t n)
 {
     struct stream s = {RATE, 0, 1, 1080, n, 1460, DEFAULT_TRO};
-    /* A stream of few packets a frame reaches 600 s first: then the list is as long as may be, and is fed again and again. */
+    return s;
+}
+
+/* A stream of few packets a frame reaches 600 s first: then the list is as long as may be, and is fed again and again. */
+struct load {
+    size_t count, calls;
+};
+static struct load load_of(uint32_t n, size_t wanted)
+{
     size_t longest = LONGEST_NS / FRAME_NS * n, count = wanted < longest ? wanted : longest;
-    size_t calls = (wanted + count - 1) / count;
-    struct list l = jittered(count, n);
-    size_t row_count = (count / n + 1) * ROW;
+    struct load load = {count, (wanted + count - 1) / count};
+    return load;
+}
+
+/* One line for bench/run, in nanoseconds a packet; "-" is for what was not timed. */
+static void tell(const char *kind, uint32_t n, struct load load, const double *times)
+{
+    printf("%s %" PRIu32 " %zu %zu", kind, n, load.count, load.calls);
+    for (int k = 0; k < COLUMNS; k++)
+        if (times[k] == 0) printf(" -");
+        else printf(" %.3f", times[k] / ((double)load.count * (double)load.calls));
+    printf("\n");
+}
+
+static void time_lists(uint32_t n, size_t wanted)
+{
+    struct stream s = stream_of(n);
+    struct load load = load_of(n, wanted);
+    struct list l = jittered(load.count, n);
+    size_t row_count = (load.count / n + 1) * ROW;
     uint32_t answer = agree(s, l, row_count);
     if (answer != 0) {
         printf("DIFFERENT: the list is refused, by %" PRIu32 "\n", answer);
         exit(1);
     }
-
     int64_t *rows = room(row_count * sizeof *rows);
     memset(rows, 0, row_count * sizeof *rows);
-    double proved = 0, kit = 0, system = 0, floor = 0;
+    double times[COLUMNS] = {0};
     for (int round = 0; round < ROUNDS; round++) {
-        keep_least(&proved, timed(proved_feed, calls, s, l, rows, row_count));
-        keep_least(&kit, timed(kit_twin_feed, calls, s, l, rows, row_count));
-        keep_least(&system, timed(twin_feed, calls, s, l, rows, row_count));
+        keep_least(times + PROVED, timed(proved_feed, load.calls, s, l, rows, row_count));
+        keep_least(times + KIT, timed(kit_twin_feed, load.calls, s, l, rows, row_count));
+        keep_least(times + SYSTEM, timed(twin_feed, load.calls, s, l, rows, row_count));
         double start = now();
-        for (size_t k = 0; k < calls; k++) read_all(l);
-        keep_least(&floor, now() - start);
+        for (size_t k = 0; k < load.calls; k++) read_all(l);
+        keep_least(times + FLOOR, now() - start);
     }
     /* A list that is refused at its last packet is scanned and not measured: what the scan costs. */
-    double scan = 0;
-    l.markers[count - 1] = 2;
-    for (int round = 0; round < ROUNDS; round++) keep_least(&scan, timed(proved_feed, calls, s, l, rows, row_count));
-
-    double packets = (double)count * (double)calls;
-    struct ratios r = {proved / kit, proved / system};
-    printf("%6" PRIu32 " %9zu %6zu %9.2f %9.2f %9.2f %9.2f %9.2f %9.2f %9.2f\n", n, count, calls, proved / packets, scan / packets,
-           kit / packets, system / packets, floor / packets, r.same, r.system);
-    fflush(stdout);
+    l.markers[load.count - 1] = 2;
+    for (int round = 0; round < ROUNDS; round++) keep_least(times + PART, timed(proved_feed, load.calls, s, l, rows, row_count));
+    tell("feed", n, load, times);
     free(rows);
     free_list(l);
-    return r;
 }
 
 /* ---- the C call over a record file */
@@ -317,45 +335,50 @@ static void read_bytes(struct file f)
     sink = sum;
 }
 
-static struct ratios measure_file(uint32_t n, size_t wanted)
+static void agree_on_file(struct file f, uint8_t *out, size_t size)
 {
-    struct stream s = {RATE, 0, 1, 1080, n, 1460, DEFAULT_TRO};
-    size_t longest = LONGEST_NS / FRAME_NS * n, count = wanted < longest ? wanted : longest;
-    size_t calls = (wanted + count - 1) / count;
-    struct list l = jittered(count, n);
-    struct file f = file_of(s, l);
-    free_list(l);
-    size_t size = 8 * (SUMMARY + ROW * (count / n + 1));
-    uint8_t *out = room(size), *twin = room(size);
     measure_function *twins[] = {kit_twin_measure, twin_measure};
+    uint8_t *twin = room(size);
     for (int k = 0; k < 2; k++) {
         memset(out, 0x55, size);
         memset(twin, 0x55, size);
         timed_file(vtiming_measure, 1, f, out, size);
         timed_file(twins[k], 1, f, twin, size);
         if (memcmp(out, twin, size) != 0) {
-            printf("DIFFERENT: the bytes of a file of %zu packets, n %" PRIu32 "\n", count, n);
+            printf("DIFFERENT: the bytes of a file of %zu bytes\n", f.size);
             exit(1);
         }
     }
-    double proved = 0, kit = 0, system = 0, floor = 0;
+    free(twin);
+}
+
+static struct file jittered_file(uint32_t n, size_t count)
+{
+    struct list l = jittered(count, n);
+    struct file f = file_of(stream_of(n), l);
+    free_list(l);
+    return f;
+}
+
+static void time_file(uint32_t n, size_t wanted)
+{
+    struct load load = load_of(n, wanted);
+    struct file f = jittered_file(n, load.count);
+    size_t size = 8 * (SUMMARY + ROW * (load.count / n + 1));
+    uint8_t *out = room(size);
+    agree_on_file(f, out, size);
+    double times[COLUMNS] = {0};
     for (int round = 0; round < ROUNDS; round++) {
-        keep_least(&proved, timed_file(vtiming_measure, calls, f, out, size));
-        keep_least(&kit, timed_file(kit_twin_measure, calls, f, out, size));
-        keep_least(&system, timed_file(twin_measure, calls, f, out, size));
+        keep_least(times + PROVED, timed_file(vtiming_measure, load.calls, f, out, size));
+        keep_least(times + KIT, timed_file(kit_twin_measure, load.calls, f, out, size));
+        keep_least(times + SYSTEM, timed_file(twin_measure, load.calls, f, out, size));
         double start = now();
-        for (size_t k = 0; k < calls; k++) read_bytes(f);
-        keep_least(&floor, now() - start);
+        for (size_t k = 0; k < load.calls; k++) read_bytes(f);
+        keep_least(times + FLOOR, now() - start);
     }
-    double packets = (double)count * (double)calls;
-    struct ratios r = {proved / kit, proved / system};
-    printf("%6" PRIu32 " %9zu %6zu %9.2f %9s %9.2f %9.2f %9.2f %9.2f %9.2f\n", n, count, calls, proved / packets, "", kit / packets,
-           system / packets, floor / packets, r.same, r.system);
-    fflush(stdout);
+    tell("file", n, load, times);
     free(f.bytes);
     free(out);
-    free(twin);
-    return r;
 }
 
 /* ---- the C call over a capture */
@@ -439,7 +462,7 @@ static void save(struct file f, const char *name)
 static void agree_on_damaged(unsigned captures)
 {
     unsigned by_answer[256] = {0};
-    struct stream s = {RATE, 0, 1, 1080, 2, 1460, DEFAULT_TRO};
+    struct stream s = stream_of(2);
     struct list l = jittered(8, s.n);
     struct file f = capture_of(l, 60), damaged = f;
     free_list(l);
@@ -469,16 +492,19 @@ static void agree_on_damaged(unsigned captures)
     free(f.bytes);
 }
 
-static struct ratios measure_capture(uint32_t n, size_t count, size_t captured, const char *name)
+static struct file jittered_capture(uint32_t n, size_t count, size_t captured)
 {
-    struct stream s = {RATE, 0, 1, 1080, n, 1460, DEFAULT_TRO};
     struct list l = jittered(count, n);
     struct file f = capture_of(l, captured);
     free_list(l);
-    save(f, name);
-    size_t size = 8 * (CAPTURE_SUMMARY + ROW * (count / n + 1));
-    uint8_t *out = room(size), *twin = room(size);
+    return f;
+}
+
+/* Whether libpcap is there; where it is, its bytes are compared too. */
+static int agree_on_capture(struct stream s, struct file f, const char *name, uint8_t *out, size_t size)
+{
     capture_function *walkers[] = {kit_walker_capture, walker_capture};
+    uint8_t *twin = room(size);
     memset(out, 0x55, size);
     must_accept("the proved call", captured_by(vtiming_capture, s, f, out, size));
     for (int k = 0; k < 2; k++) {
@@ -488,29 +514,78 @@ static struct ratios measure_capture(uint32_t n, size_t count, size_t captured, 
     }
     memset(twin, 0x55, size);
     uint32_t by_libpcap = captured_by_libpcap(name, s, twin, size);
-    int absent = by_libpcap == NO_LIBPCAP;
-    if (!absent) {
+    if (by_libpcap != NO_LIBPCAP) {
         must_accept("libpcap", by_libpcap);
         same_bytes("libpcap", out, twin, size);
     }
-    double proved = 0, kit = 0, system = 0, libpcap = 0;
+    free(twin);
+    return by_libpcap != NO_LIBPCAP;
+}
+
+static void time_capture(uint32_t n, size_t count, size_t captured, const char *name)
+{
+    struct stream s = stream_of(n);
+    struct file f = jittered_capture(n, count, captured);
+    save(f, name);
+    size_t size = 8 * (CAPTURE_SUMMARY + ROW * (count / n + 1));
+    uint8_t *out = room(size);
+    int libpcap = agree_on_capture(s, f, name, out, size);
+    double times[COLUMNS] = {0};
     for (int round = 0; round < ROUNDS; round++) {
-        keep_least(&proved, timed_capture(vtiming_capture, s, f, out, size));
-        keep_least(&kit, timed_capture(kit_walker_capture, s, f, out, size));
-        keep_least(&system, timed_capture(walker_capture, s, f, out, size));
-        if (!absent) keep_least(&libpcap, timed_libpcap(name, s, out, size));
+        keep_least(times + PROVED, timed_capture(vtiming_capture, s, f, out, size));
+        keep_least(times + KIT, timed_capture(kit_walker_capture, s, f, out, size));
+        keep_least(times + SYSTEM, timed_capture(walker_capture, s, f, out, size));
+        if (libpcap) keep_least(times + PART, timed_libpcap(name, s, out, size));
     }
-    double packets = (double)count;
-    struct ratios r = {proved / kit, proved / system};
-    printf("%6" PRIu32 " %9zu %8zu %9.2f %9.2f %9.2f", n, count, captured, proved / packets, kit / packets, system / packets);
-    if (absent) printf(" %9s %9.2f %9.2f %9s\n", "absent", r.same, r.system, "absent");
-    else printf(" %9.2f %9.2f %9.2f %9.2f\n", libpcap / packets, r.same, r.system, libpcap / proved);
-    fflush(stdout);
+    char kind[32];
+    snprintf(kind, sizeof kind, "capture/%zu", captured);
+    tell(kind, n, (struct load){count, 1}, times);
     free(f.bytes);
     free(out);
-    free(twin);
-    return r;
 }
+
+/* ---- one call, for its instructions to be counted */
+
+static int count_feed(feed_function *feed, uint32_t n, size_t count)
+{
+    struct list l = jittered(count, n);
+    size_t row_count = (count / n + 1) * ROW;
+    int64_t *rows = room(row_count * sizeof *rows);
+    uint64_t out[SUMMARY];
+    return fed(feed, stream_of(n), l, rows, row_count, out) != 0;
+}
+
+static int count_file(measure_function *measure, uint32_t n, size_t count)
+{
+    struct file f = jittered_file(n, count);
+    size_t size = 8 * (SUMMARY + ROW * (count / n + 1));
+    return measure(f.bytes, f.size, room(size), size) != 0;
+}
+
+static int count_capture(capture_function *measure, uint32_t n, size_t count)
+{
+    struct file f = jittered_capture(n, count, 96);
+    size_t size = 8 * (CAPTURE_SUMMARY + ROW * (count / n + 1));
+    return captured_by(measure, stream_of(n), f, room(size), size) != 0;
+}
+
+/* The function of that name called once. */
+static int call_once(const char *name, uint32_t n, size_t count)
+{
+    static const char *const names[] = {"vtiming_feed", "kit_twin_feed", "twin_feed", "vtiming_measure", "kit_twin_measure", "twin_measure",
+                                        "vtiming_capture", "kit_walker_capture", "walker_capture"};
+    feed_function *const feeds[] = {proved_feed, kit_twin_feed, twin_feed};
+    measure_function *const measures[] = {vtiming_measure, kit_twin_measure, twin_measure};
+    capture_function *const captures[] = {vtiming_capture, kit_walker_capture, walker_capture};
+    for (int k = 0; k < 9; k++)
+        if (strcmp(name, names[k]) == 0)
+            return k < 3   ? count_feed(feeds[k], n, count)
+                   : k < 6 ? count_file(measures[k - 3], n, count)
+                           : count_capture(captures[k - 6], n, count);
+    return 2;
+}
+
+/* ---- the programs' files, and libpcap's program */
 
 static int64_t number(const uint8_t *out, size_t k)
 {
@@ -519,7 +594,7 @@ static int64_t number(const uint8_t *out, size_t k)
     return (int64_t)x;
 }
 
-/* bench FILE and the nine words of vcapture: what vcapture prints of it, by libpcap; status 3 where there is no libpcap. */
+/* What vcapture prints of the file, called with the nine words that follow it, by libpcap; status 3 where there is no libpcap. */
 static int print_by_libpcap(char **words)
 {
     static const char *const buffers[] = {"none", "pass", "under", "over"};
@@ -545,61 +620,47 @@ static int print_by_libpcap(char **words)
     return 0;
 }
 
-static void keep_worst(struct ratios *worst, struct ratios r)
+static int write_file(struct file f, const char *name)
 {
-    if (r.same > worst->same) worst->same = r.same;
-    if (r.system > worst->system) worst->system = r.system;
+    save(f, name);
+    free(f.bytes);
+    return 0;
 }
 
-/* bench N PACKETS FILE: the record file of such a stream, for the programs. bench N PACKETS CAPTURED FILE: its capture. */
-static int write_file(uint32_t n, size_t count, size_t captured, const char *name)
+static int agree_on_all(void)
 {
-    struct stream s = {RATE, 0, 1, 1080, n, 1460, DEFAULT_TRO};
-    struct list l = jittered(count, n);
-    struct file f = captured ? capture_of(l, captured) : file_of(s, l);
-    save(f, name);
-    free_list(l);
-    free(f.bytes);
+    agree_on_short_lists(20000);
+    agree_on_damaged(20000);
+    return 0;
+}
+
+/* Three lengths at one n, which show that the time a packet does not depend on the length, and one length at each other n. */
+static int time_all(const char *scratch)
+{
+    static const struct {
+        uint32_t n;
+        size_t packets;
+    } loads[] = {{1, 1000000}, {100, 1000000}, {4320, 100000}, {4320, 1000000}, {4320, 2000000}, {20000, 1000000}};
+    for (size_t k = 0; k < sizeof loads / sizeof *loads; k++) time_lists(loads[k].n, loads[k].packets);
+    for (size_t k = 0; k < sizeof loads / sizeof *loads; k++) time_file(loads[k].n, loads[k].packets);
+    time_capture(4320, 1000000, 96, scratch);
+    time_capture(100, 1000000, 96, scratch);
+    time_capture(4320, 100000, 1414, scratch);
     return 0;
 }
 
 int main(int argc, char **argv)
 {
-    size_t word[4] = {0};
-    for (int k = 1; k < argc && k < 4; k++) word[k] = strtoul(argv[k], NULL, 10);
-    if (argc == 4) return write_file((uint32_t)word[1], word[2], 0, argv[3]);
-    if (argc == 5) return write_file((uint32_t)word[1], word[2], word[3], argv[4]);
-    if (argc == 11) return print_by_libpcap(argv + 1);
-    if (argc != 2) {
-        fprintf(stderr, "usage: bench SCRATCH; bench N PACKETS FILE; bench N PACKETS CAPTURED FILE; bench FILE and the nine words of vcapture\n");
-        return 2;
-    }
-    agree_on_short_lists(20000);
-    printf("1080p50, gapped, narrow, a jittered sender; the least of %d rounds, taking turns.\n", ROUNDS);
-    printf("Rows were cleared once, before the first round, and not between; nothing was flushed from a cache.\n");
-    printf("Nanoseconds a packet: proved, its scan alone, the twin by the proved code's compiler, the twin by the system's,\n");
-    printf("and the arrays read once; RATIO is proved to twin, by the same compiler and by the system's.\n");
-    printf("%6s %9s %6s %9s %9s %9s %9s %9s %9s %9s\n", "n", "packets", "calls", "proved", "scan", "twin", "twin/sys", "read",
-           "RATIO", "RATIO/sys");
-    static const size_t counts[] = {100000, 1000000, 4000000};
-    static const uint32_t sizes[] = {1, 100, 4320, 20000};
-    struct ratios feed = {0, 0}, file = {0, 0}, capture = {0, 0};
-    for (size_t j = 0; j < sizeof sizes / sizeof *sizes; j++)
-        for (size_t k = 0; k < sizeof counts / sizeof *counts; k++) keep_worst(&feed, measure(sizes[j], counts[k]));
-    printf("The same streams as record files through the C call, which checks, counts, measures and writes; READ is the bytes read once.\n");
-    for (size_t j = 0; j < sizeof sizes / sizeof *sizes; j++)
-        for (size_t k = 0; k < sizeof counts / sizeof *counts; k++) keep_worst(&file, measure_file(sizes[j], counts[k]));
-    agree_on_damaged(20000);
-    printf("The same streams as captures in memory, of each frame so many bytes captured, through the C call; against a plain C walker that scans\n");
-    printf("for all refusals, parses and measures the same; and libpcap's walk over the file on disk with the twin, which does not scan first.\n");
-    printf("RATIO is proved to walker, by the same compiler and by the system's; PCAP is libpcap to proved.\n");
-    printf("%6s %9s %8s %9s %9s %9s %9s %9s %9s %9s\n", "n", "packets", "captured", "proved", "walker", "walk/sys", "libpcap", "RATIO",
-           "RATIO/sys", "PCAP");
-    keep_worst(&capture, measure_capture(4320, 1000000, 96, argv[1]));
-    keep_worst(&capture, measure_capture(100, 1000000, 96, argv[1]));
-    keep_worst(&capture, measure_capture(4320, 100000, 1414, argv[1]));
-    printf("All results were the same. The highest ratios: arrays %.2f by the same compiler, %.2f by the system's; files %.2f and %.2f;\n"
-           "captures %.2f and %.2f.\n",
-           feed.same, feed.system, file.same, file.system, capture.same, capture.system);
-    return 0;
+    const char *what = argc > 1 ? argv[1] : "";
+    size_t x[3] = {0};
+    for (int k = 2; k < argc && k < 5; k++) x[k - 2] = strtoul(argv[k], NULL, 10);
+    if (argc == 2 && strcmp(what, "agree") == 0) return agree_on_all();
+    if (argc == 3 && strcmp(what, "time") == 0) return time_all(argv[2]);
+    if (argc == 5 && strcmp(what, "once") == 0) return call_once(argv[2], (uint32_t)x[1], x[2]);
+    if (argc == 5 && strcmp(what, "file") == 0) return write_file(jittered_file((uint32_t)x[0], x[1]), argv[4]);
+    if (argc == 6 && strcmp(what, "capture") == 0) return write_file(jittered_capture((uint32_t)x[0], x[1], x[2]), argv[5]);
+    if (argc == 12 && strcmp(what, "libpcap") == 0) return print_by_libpcap(argv + 2);
+    fprintf(stderr, "usage: bench agree; bench time SCRATCH; bench once FUNCTION N PACKETS; bench file N PACKETS FILE;\n"
+                    "bench capture N PACKETS CAPTURED FILE; bench libpcap FILE and the nine words of vcapture\n");
+    return 2;
 }
