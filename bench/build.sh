@@ -4,7 +4,7 @@
 # `processor`, its name; `compiler` and `link`, the system's compiler for it and words to link by; `made`, the folder for what is made.
 # `clang` is the kit's, which compiled the proved code too.
 
-# Under an emulator a loop that lies across two pages takes up to half as long again, and a real processor minds where in a line of its
+# Under an emulator a loop that lies across two pages takes longer, and a real processor minds where in a line of its
 # cache a loop begins: so eight places over a page, at four places of a line. Every function moves by 16 bytes or a multiple of it.
 places="0 528 1056 1584 2112 2640 3168 3696"
 # -O3 as the proved code is compiled; no -march, as that is for any processor of its kind.

@@ -80,15 +80,14 @@ seconds() { ratio "$1" 1000000 4; }
 cells() { printf ' %9s' "$@" && echo; }
 
 # turns FILE PROVED PLAIN NAMES WORD..: the proved program, the one in plain C and the others at each place, all over the file; sets
-# best[NAME], the least microseconds of a whole run, and fails where one but count prints differently. They take turns, so that what else
-# the machine does falls on all alike; a native run is short, and so there are three.
+# best[NAME], the least microseconds of a whole run, and fails where one but count prints differently. They take turns, two at each place,
+# so that what else the machine does falls on all alike.
 declare -A best
 turns() {
-    local file=$1 proved=$2 names="$2 kit-$3 $3 $4 count" often=$places place name words began took
+    local file=$1 proved=$2 names="$2 kit-$3 $3 $4 count" place name words began took
     shift 4
     best=()
-    [ -n "$runner" ] || often="$places $places $places"
-    for place in $often; do
+    for place in $places $places; do
         for name in $names; do
             words=("$@")
             [ "$name" != bench ] || words=(libpcap "$file" "$@")
