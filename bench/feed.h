@@ -8,7 +8,7 @@
 
 /* The proved code, from libprobe.a. A state is 32 words, one for each number of docs/STATE.md in its order, a flag as 0 or 1
    and an answer as document 01's three numbers for it. Whoever calls keeps them between the calls. */
-#define STATE_WORDS 32
+#define STATE_WORDS 33
 
 /* A stream set up: 1 to 7, then 15 for fewer words than a state is, and nothing written; or 0, and the fresh state's words. */
 uint32_t vtiming_set_up(uint8_t rate, uint8_t schedule, uint8_t class, uint16_t height, uint32_t n, uint16_t maxudp, uint32_t tro,

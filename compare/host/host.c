@@ -355,7 +355,7 @@ static void remember(const void *words) {
 
 /* docs/STATE.md: where the packets so far stand, and the nine numbers of the summary. */
 enum { PACKETS = 7 };
-static const int summary_words[9] = {PACKETS, 17, 12, 13, 14, 15, 29, 30, 31};
+static const int summary_words[9] = {PACKETS, 17, 12, 13, 14, 15, 30, 31, 32};
 
 static uint32_t call_set_up(const struct lent *state) {
     const struct numbers *n = &now.numbers;
@@ -393,7 +393,7 @@ static uint64_t place_of_feed(const struct lent *state, const struct lent *arriv
                               now.stamp_count, pointer(markers), now.markers.count, rows, out);
 }
 
-/* The state after an accepted call: 32 words, of which nine are the summary's, and what stood behind them. */
+/* The state after an accepted call: its words, of which nine are the summary's, and what stood behind them. */
 static void state_holds(const struct lent *state, const uint64_t *given, const struct lent *out) {
     uint64_t after[STATE_WORDS], numbers[9];
     memcpy(after, state->at, sizeof after);

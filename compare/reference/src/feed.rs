@@ -42,7 +42,7 @@ impl Lists {
 pub struct Feed {
     /// The stream is set up before it, and nothing has been fed.
     pub anew: bool,
-    /// How many words are lent: 32, more, or too few.
+    /// How many words are lent: a state's, more, or too few.
     pub words: u64,
     /// Words changed before the call. After it the words are as they were.
     pub changes: Vec<(u8, u64)>,

@@ -7,8 +7,8 @@ use crate::numbers::{frame_length, Numbers, GRAINS_PER_MICROSECOND};
 use crate::output::nine_numbers;
 use crate::packet::{Packet, Past, LONGEST_HISTORY, MOST_PACKETS};
 
-/// "a state is 32 words of 64 bits, one for each row of the tables".
-pub const STATE_WORDS: u64 = 32;
+/// "a state is 33 words of 64 bits, one for each row of the tables".
+pub const STATE_WORDS: u64 = 33;
 
 const RATE: u8 = 0;
 const SCHEDULE: u8 = 1;
@@ -26,7 +26,7 @@ const PEAK: u8 = 12;
 const NETWORK: u8 = 13;
 const RUN_FIRST: u8 = 14;
 const RUN_LAST: u8 = 15;
-const DRAINED: u8 = 16;
+const REST: u8 = 16;
 const CLOSED: u8 = 17;
 const BEGUN: u8 = 18;
 const MARKED: u8 = 19;
@@ -35,13 +35,14 @@ const OPEN_FIRST: u8 = 21;
 const STAMP: u8 = 22;
 const PHASE: u8 = 23;
 const READS: u8 = 24;
-const DIFFERS: u8 = 25;
-const TOP: u8 = 26;
-const LATE: u8 = 27;
-const DEFICIT: u8 = 28;
-const BUFFER: u8 = 29;
-const BUFFER_FRAME: u8 = 30;
-const BUFFER_PLACE: u8 = 31;
+const WAIT: u8 = 25;
+const DIFFERS: u8 = 26;
+const TOP: u8 = 27;
+const LATE: u8 = 28;
+const DEFICIT: u8 = 29;
+const BUFFER: u8 = 30;
+const BUFFER_FRAME: u8 = 31;
+const BUFFER_PLACE: u8 = 32;
 
 /// The words that the nine numbers of a state stand in, in their order.
 const NINE: [u8; 9] = [
@@ -98,6 +99,16 @@ impl Known {
             marked: marker.map(|place| history[place].arrival),
             held: open.len() as u64,
             open_first: open.first().map_or(0, |packet| packet.arrival),
+        }
+    }
+
+    /// "den is 25n for gapped, n for linear".
+    fn read_den(&self) -> u64 {
+        let n = self.numbers.packets_per_frame;
+        if self.numbers.schedule == 0 {
+            25 * n
+        } else {
+            n
         }
     }
 }
@@ -157,7 +168,8 @@ fn stream_numbers(known: &Known, sides: &mut Sides) {
     // "0 or 3; 1 with schedule 0; 2 with schedule 1".
     for class in 0..4 {
         for schedule in 0..2 {
-            let words = [(SCHEDULE, schedule), (CLASS, class)];
+            // The range of the wait depends on the schedule, and 0 is in each.
+            let words = [(SCHEDULE, schedule), (CLASS, class), (WAIT, 0)];
             if class == 0 || class == 3 || class == schedule + 1 {
                 sides.within(&words);
             } else {
@@ -241,7 +253,8 @@ fn bucket(known: &Known, sides: &mut Sides) {
 /// `past.first` to `past.last`; else any".
 fn counts(known: &Known, sides: &mut Sides) {
     let Past { count, first, last } = known.past;
-    sides.at_most(DRAINED, 1_000_000_000);
+    // "below 10F".
+    sides.at_most(REST, 10 * known.frame - 1);
     sides.at_most(CLOSED, count);
     sides.outside(&[(BEGUN, 2)]);
     sides.outside(&[(BEGUN, u64::MAX)]);
@@ -302,6 +315,7 @@ fn open_frame(known: &Known, sides: &mut Sides) {
     sides.at_most(STAMP, 0xffff_ffff);
     sides.at_most(PHASE, 2 * known.frame);
     sides.at_most(READS, known.numbers.packets_per_frame);
+    sides.at_most(WAIT, 2 * known.frame * known.read_den());
 }
 
 /// "at most `held`", "at most n"; the buffer answer's numbers "at most

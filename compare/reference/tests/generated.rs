@@ -12,6 +12,7 @@ use vtiming_reference::frame::{closed_frames, t_cf, Kind};
 use vtiming_reference::generate::file;
 use vtiming_reference::measure::{measure_accepted, Row};
 use vtiming_reference::numbers::{GRAINS_PER_NANOSECOND, GRAINS_PER_SECOND, GRAINS_PER_TICK, WRAP};
+use vtiming_reference::ranges::STATE_WORDS;
 use vtiming_reference::reads::read_instant;
 use vtiming_reference::record::read;
 use vtiming_reference::*;
@@ -631,7 +632,7 @@ fn a_case_is_accepted_where_there_is_room() {
         };
         // What set-up writes is not known here, but how much it is.
         let needed = match case.call {
-            Call::SetUp(numbers) if set_up(&numbers).is_ok() => 32,
+            Call::SetUp(numbers) if set_up(&numbers).is_ok() => STATE_WORDS,
             _ => case.filled.len() as u64 / size,
         };
         for room in &case.rooms {

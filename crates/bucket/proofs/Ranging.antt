@@ -1,5 +1,5 @@
 -- A bucket passes its tests exactly where it is in range, fact by fact; the empty one is, and a packet keeps it so.
-use Rattle.laws.specs.Kit.{_≡_, Bool, true, false, ℕ, _+_, _≤_, arith, leb}
+use Rattle.laws.specs.Kit.{_≡_, Bool, true, false, ℕ, _+_, _-_, _≤_, arith, leb, ltb}
 use Rattle.laws.specs.Choose.{pick}
 use Rattle.laws.proofs.Choose.{pick-either}
 use Rattle.laws.specs.Every.{every, All}
@@ -42,8 +42,10 @@ ranged-step b packets drains limit x = record {
   level = omega (arith, x .level);
   start = started;
   peak = omega (arith, x .level, x .peak);
-  run-first = judged-first (b .network) _ _ packets (packets + 1) (omega (arith, x .run-first)) started;
-  run-last = judged-last (b .network) _ _ packets (packets + 1) (omega (arith, x .run-last)) (omega arith);
+  run-first = pick-either (λ v. networkFirst v ≤ packets + 1) (ltb (b .peak) (b .level - drains + 1))
+      (λ e. judged-first (b .network) _ _ packets (packets + 1) (omega (arith, x .run-first)) started) (λ e. omega (arith, x .run-first));
+  run-last = pick-either (λ v. networkLast v ≤ packets + 1) (ltb (b .peak) (b .level - drains + 1))
+      (λ e. judged-last (b .network) _ _ packets (packets + 1) (omega (arith, x .run-last)) (omega arith)) (λ e. omega (arith, x .run-last));
 }
   where
     started : pick (leb (b .level) drains) packets (b .start) ≤ packets + 1

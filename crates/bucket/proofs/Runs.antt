@@ -1,6 +1,6 @@
 -- Peak and first burst in sums of naturals, over any D: the peak is the
 -- greatest level, and the first level above the limit names the first burst.
-use Rattle.laws.specs.Kit.{_≡_, refl, Bool, true, false, ℕ, zero, suc, _+_, _-_, _≤_, _<_, arith, not-suc-le-zero, ltb, ltb-true}
+use Rattle.laws.specs.Kit.{_≡_, refl, Bool, true, false, ℕ, zero, suc, _+_, _-_, _≤_, _<_, arith, not-suc-le-zero, decLt, ltb, ltb-true}
 use Rattle.laws.specs.Kit.{ltb-false}
 use Rattle.laws.specs.Climb.{Climbs}
 use Rattle.laws.proofs.Choose.{up-to}
@@ -72,6 +72,20 @@ of-levels D c (suc m) = go (networkAt D c m) (ltb c (levelAt D m)) refl (of-leve
     go Pass true e low = (omega arith, low, ltb-true c (levelAt D m) e, refl)
     go Pass false e low = up-to (λ b. levelAt D b ≤ c) m low (ltb-false c (levelAt D m) e)
     go (Burst r) t e w = (omega (arith, w .0), w .1, w .2, w .3)
+
+-- D3c: so a level that is no new peak is no news: with a pass so far no level was above c, and this one is no higher
+pub judged-at-peaks : (D : ℕ → ℕ) (c m : ℕ) → levelAt D m ≤ most (levelAt D) m
+    → judged (networkAt D c m) (ltb c (levelAt D m)) (startAt D m) m ≡ networkAt D c m
+judged-at-peaks D c m l = go (networkAt D c m) (ltb c (levelAt D m)) refl (of-levels D c m)
+  where
+    low-peak : Low D m c → Dec (0 < m) → most (levelAt D) m ≤ c
+    low-peak low (yes some) = let w = most-is (levelAt D) m .met some in omega (arith, low (w .0) (w .1), w .2)
+    low-peak low (no none) = omega (arith, most-is (levelAt D) m .none (omega arith))
+
+    go : (v : Network) (t : Bool) → ltb c (levelAt D m) ≡ t → OfLevels D c m v → judged v t (startAt D m) m ≡ v
+    go Pass true e low = absurd (omega (arith, ltb-true c (levelAt D m) e, low-peak low (decLt 0 m)))
+    go Pass false e low = refl
+    go (Burst r) t e w = refl
 
 -- and what it says of the runs
 abbrev pub OfRuns : (ℕ → ℕ) → ℕ → ℕ → Network → Type 0

@@ -17,9 +17,14 @@ judged Pass true first last = Burst (record { first = first; last = last })
 judged Pass false first last = Pass
 judged (Burst r) above first last = Burst r
 
+-- D3c: only a new peak is judged: a level that is none is no higher than one that was judged (proofs/Runs.antt, judged-at-peaks)
 abbrev pub arrivedOf : ℕ → ℕ → ℕ → Network → ℕ → ℕ → Bucket
-arrivedOf level start peak network place limit =
-    record { level = level; start = start; peak = max peak level; network = judged network (ltb limit level) start place }
+arrivedOf level start peak network place limit = record {
+  level = level;
+  start = start;
+  peak = max peak level;
+  network = pick (ltb peak level) (judged network (ltb limit level) start place) network;
+}
 
 -- B2, B4: level′ = (level less the drains, not below 0) + 1; where nothing is left of the level a new run begins
 unfoldable pub stepOf : Bucket → ℕ → ℕ → ℕ → Bucket

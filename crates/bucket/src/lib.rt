@@ -109,12 +109,13 @@ fn began(level: u64, drains: u64, place: u64, start: u64) -> u64
     if level <= drains { place } else { start }
 }
 
-// The bucket at a new level, whose run began at `start` and ends at `place`.
+// The bucket at a new level, whose run began at `start` and ends at `place`. The first level above the limit is a new peak, so no
+// other level is judged.
 fn arrived(level: u64, start: u64, peak: u64, network: Network, place: u64, limit: u64) -> Bucket
     ensures { λ r. ⌜ r ≡ arrivedOf level start peak network place limit ⌝ }
 {
-    let answer = judge(network, limit < level, start, place);
     if peak < level {
+        let answer = judge(network, limit < level, start, place);
         return Bucket {
             level,
             start,
@@ -126,7 +127,7 @@ fn arrived(level: u64, start: u64, peak: u64, network: Network, place: u64, limi
         level,
         start,
         peak,
-        network: answer,
+        network,
     }
 }
 

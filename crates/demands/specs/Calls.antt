@@ -29,7 +29,7 @@ use Rattle.report.proofs.Calls.{written-whole}
 use Rattle.report.proofs.Signed.{report-fits, number-back}
 use Rattle.report.proofs.Answering as file-proved
 use Rattle.report.proofs.Asking as asked
-use Rattle.probe.specs.Words.{Holds, HoldNone}
+use Rattle.probe.specs.Words.{stateWords, Holds, HoldNone}
 use Rattle.probe.specs.Calls.{wordsNumber, setUpLeft, accepted, callOf, Unchanged}
 use Rattle.probe.specs.Dealt.{Lent, asCall, AllWhole, Dealt}
 use Rattle.probe.proofs.Dealing as call-proved
@@ -123,7 +123,7 @@ written-measured w ts ss ms out after hw ht hs h =
 -- ---- set-up and one call over words
 
 -- X8: the words that set-up leaves hold the fresh state
-pub set-up-holds : (x : StreamNumbers) (words : List ℕ) → ParametersHeld (x .parameters) → setUpOf x ≡ 0 → 32 ≤ length words
+pub set-up-holds : (x : StreamNumbers) (words : List ℕ) → ParametersHeld (x .parameters) → setUpOf x ≡ 0 → stateWords ≤ length words
     → (wordsNumber x (length words) ≡ 0) × Holds (setUpLeft x words) (freshOf x)
 set-up-holds = call-proved.set-up-holds
 
@@ -153,7 +153,7 @@ module _ (words : List ℕ) (rows : List ℤ) (out ts ss ms : List ℕ) where
 -- D3a, X8: "An accepted list of packets dealt out in order over any calls gives the rows, end state and verdicts of one call with the whole
 -- list.": from the words that set-up leaves, each call is accepted, what they write to the rows is the one call's, and the words at the end
 -- hold its state
-pub dealt-over-c-calls : (h : AcceptedHistory) → ParametersHeld (h .stream .parameters) → (words : List ℕ) → 32 ≤ length words
+pub dealt-over-c-calls : (h : AcceptedHistory) → ParametersHeld (h .stream .parameters) → (words : List ℕ) → stateWords ≤ length words
     → (cs : List Lent) → AllWhole cs → allOf (map asCall cs) ≡ h .packets → Rooms (freshOf (h .stream)) (map asCall cs)
     → (end : List ℕ) × Dealt (setUpLeft (h .stream) words) cs end (numbers (rowsOfAll h)) × Holds end (reached h)
 dealt-over-c-calls = call-proved.dealt-over-c-calls

@@ -31,7 +31,6 @@ use Rattle.timing.specs.History.{stateAt, rowsTo, AcceptedHistory, reached, row
 use Rattle.timing.proofs.InRange.{sound-fresh, of-sound}
 use Rattle.timing.proofs.Answering.{set-up-numbered, verdict-numbered, graph-numbered, first-refused}
 use Rattle.timing.proofs.Feeding.{refused-stays, feed-slices, nothing-fed}
-use Rattle.timing.proofs.Declared.{state-declared, rows-declared}
 use Rattle.timing.proofs.Dealing.{stays-in-range}
 use Rattle.timing.proofs.Stopping.{all-stop}
 use Rattle.timing.proofs.Figures.{rows-drawn as all-drawn}
@@ -108,7 +107,7 @@ latency-of-nearest = nearest-encoded
 module _ (h : AcceptedHistory) where
   -- B5: it is the declared state of its history
   pub state-of-history : reached h ≡ stateAt (h .stream) (h .packets) (size h)
-  state-of-history = state-declared (h .stream) (h .packets)
+  state-of-history = proved.state-reached h
 
   -- ---- Demand 2: "Frame times, offsets, latency, margin, gap, levels and limits equal the exact fractions; every other row number, the
   -- counts and the buffer answer are document 01's."
@@ -123,7 +122,7 @@ module _ (h : AcceptedHistory) where
 
   -- D2b, V1: the rows written are those of the packets that close a frame, in order
   pub rows-in-order : rowsOfAll h ≡ rowsTo (h .stream) (h .packets) (size h)
-  rows-in-order = rows-declared (h .stream) (h .packets)
+  rows-in-order = proved.rows-reached h
 
   -- D2a, D2b, V1, V2, V3, V10, P6, P8, P9, P10, P11, P12, P13, P17, P18: and each is the row of its frame: FPT, RTP_OFFSET, VL, margin, GAP,
   -- peak, least, kind, detail, number and the place of its first packet

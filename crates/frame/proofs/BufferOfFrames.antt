@@ -179,10 +179,10 @@ module _ (plan : Plan) (p : Planned plan) (h : History) (ordered : Climbs (h .ti
         omega (arith, lacks (m .0) (m .1))
 
     -- and one of its packets comes after its read time exactly then; the lowest such is the one kept
-    pub late-lowest : Lowest (late plan h s) (plan .packets) (kept .late)
-    late-lowest =
+    pub late-lowest : 0 < kept .deficit → Lowest (late plan h s) (plan .packets) (kept .late)
+    late-lowest some =
         let same = seek-same (late plan h s) (λ j. ltb j (readsTo plan h s j)) (plan .packets) (D.late-is (frame w)) in
-        rw (late-is w, sym same) (seek-is (late plan h s) (plan .packets))
+        rw (late-is w some, sym same) (seek-is (late plan h s) (plan .packets))
 
     pub not-overfull : kept .top ≤ plan .full → ¬ Overfull plan h s
     not-overfull few o =
@@ -219,7 +219,7 @@ module _ (plan : Plan) (p : Planned plan) (h : History) (ordered : Climbs (h .ti
       whole = record { closing = closing; whole = k };
       frame = refl;
       dry = is-dry i inside k l;
-      place = late-lowest i inside k;
+      place = late-lowest i inside k l;
     })
     judged-whole k (no g) (yes l) = subst (AnswerIs plan h i) (answer-over plan _ _ (kind-is plan h i ∙ k) (omega arith) l) (record {
       whole = record { closing = closing; whole = k };

@@ -16,20 +16,20 @@ module _ (f : Frame) (n : ℕ) where
   unfolding kindOf
   kind-long h = rw (le-ltb (f .held) n (omega arith), lt-ltb n (f .held) h)
 
-  pub kind-stamp : n ≤ f .held → f .held ≤ n → f .differs < f .held → 3 ≡ kindOf f n
+  pub kind-stamp : n ≤ f .held → f .held ≤ n → (f .differs ≡ 0 → ⊥) → 3 ≡ kindOf f n
   unfolding kindOf
-  kind-stamp h k d = rw (le-ltb (f .held) n h, le-ltb n (f .held) k, lt-ltb (f .differs) (f .held) d)
+  kind-stamp h k d = rw (le-ltb (f .held) n h, le-ltb n (f .held) k, ne-eqb (f .differs) 0 d)
 
-  pub kind-whole : n ≤ f .held → f .held ≤ n → f .held ≤ f .differs → 0 ≡ kindOf f n
+  pub kind-whole : n ≤ f .held → f .held ≤ n → f .differs ≡ 0 → 0 ≡ kindOf f n
   unfolding kindOf
-  kind-whole h k d = rw (le-ltb (f .held) n h, le-ltb n (f .held) k, le-ltb (f .differs) (f .held) d)
+  kind-whole h k d = rw (le-ltb (f .held) n h, le-ltb n (f .held) k, eq-eqb (f .differs) 0 d)
 
 pub kind-small : (f : Frame) (n : ℕ) → kindOf f n ≤ 3
 unfolding kindOf
 kind-small f n =
     pick-either (λ k. k ≤ 3) (ltb (f .held) n) (λ e. omega arith) (λ e.
     pick-either (λ k. k ≤ 3) (ltb n (f .held)) (λ e. omega arith) (λ e.
-    pick-either (λ k. k ≤ 3) (ltb (f .differs) (f .held)) (λ e. omega arith) (λ e. omega arith)))
+    pick-either (λ k. k ≤ 3) (eqb (f .differs) 0) (λ e. omega arith) (λ e. omega arith)))
 
 pub detail-small : (f : Frame) (kind : ℕ) {m : ℕ} → f .held ≤ m → f .differs ≤ m → detailOf f kind ≤ m
 detail-small f kind {m} h d =

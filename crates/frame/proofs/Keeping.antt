@@ -1,20 +1,133 @@
 -- What the open frame keeps, packet by packet, is what its packets say: one step goes from what k
 -- packets say to what k + 1 say. And its times, taken from the first packet on, are those of document 01.
-use Rattle.laws.specs.Kit.{_≡_, refl, sym, _∙_, Bool, true, false, ℕ, zero, suc, _+_, _-_, _*_, _≤_, _<_, arith, add-mul, eqb·suc-zero}
-use Rattle.laws.specs.Kit.{ltb-true, ltb-false, lt-ltb, le-ltb}
+use Rattle.laws.specs.Kit.{_≡_, refl, sym, ap, _∙_, Bool, true, false, not, ℕ, suc, _+_, _-_, _*_, _≤_, _<_, arith, add-mul, zero-mul}
+use Rattle.laws.specs.Kit.{decLt, ltb, eqb, eqb·suc-zero, ltb-true, ltb-false, lt-ltb, le-ltb, eq-eqb, eqb-true, eqb-false}
 use native.Mathlib.Numerals.{add-one}
+use Rattle.laws.specs.Most.{most}
+use Rattle.laws.specs.Seek.{seek, hit}
+use Rattle.laws.proofs.Choose.{false-true}
 use Rattle.laws.proofs.Count.{count-same}
+use Rattle.laws.proofs.Most.{most-is}
+use Rattle.laws.proofs.Seek.{seek-is, hit-next, hit-on}
 use Rattle.grain.specs.Paper.{grains, frameTime, phase, readBefore, readsBefore}
+use Rattle.grain.specs.Carry.{waitAt, readsOn}
+use Rattle.grain.specs.declared.Reads.{Reads}
 use Rattle.grain.proofs.Rounding.{phase-from}
+use Rattle.grain.proofs.ReadCount.{reads-none}
+use Rattle.grain.proofs.Onward.{reads-on, wait-on, none-yet}
 use Rattle.frame.specs.declared.Plan.{Plan}
-use Rattle.frame.specs.Step.{openedOf, countedOf, pushOf}
-use Rattle.frame.specs.ByPlace.{readsFrom, keptOf}
+use Rattle.frame.specs.declared.Frame.{Frame}
+use Rattle.frame.specs.Step.{firstReadOf, openedOf, countedOf, pushOf}
+use Rattle.frame.specs.ByPlace.{timeFrom, readsFrom, waitFrom, differing, lateFrom, keptOf}
+
+-- the first place with a lack is the first late one: no lack so far, and none was late
+module _ (reads : ℕ → ℕ) (k : ℕ) where
+  abbrev lacks : ℕ → ℕ
+  lacks j = reads j - j
+
+  abbrev late : ℕ → Bool
+  late j = ltb j (reads j)
+
+  none-late : eqb (most lacks k) 0 ≡ true → k ≤ seek late k
+  none-late e =
+      let no : ¬ (seek late k < k) = λ l.
+      let after-read = ltb-true (seek late k) (reads (seek late k)) (seek-is late k .here l) in
+      omega (arith, eqb-true (most lacks k) 0 e, most-is lacks k .bound (seek late k) l, after-read) in
+      omega arith
+
+  some-late : eqb (most lacks k) 0 ≡ false → seek late k < k
+  some-late e = go (decLt 0 k)
+    where
+      go : Dec (0 < k) → seek late k < k
+      go (no g) = absurd (eqb-false (most lacks k) 0 e (most-is lacks k .none (omega arith)))
+      go (yes l) =
+          let w = most-is lacks k .met l in
+          let lack : ¬ (most lacks k ≡ 0) = eqb-false (most lacks k) 0 e in
+          let no : ¬ (k ≤ seek late k) = λ m. false-true
+          (sym (seek-is late k .before (w .0) (omega (arith, w .1))) ∙ lt-ltb (w .0) (reads (w .0)) (omega (arith, w .2))) in
+          omega arith
 
 module _ (plan : Plan) (time stamp : ℕ → ℕ) where
-  pub kept-step : (k : ℕ) → pushOf plan (keptOf plan time stamp k) (time k) (stamp k) ≡ keptOf plan time stamp (suc k)
-  unfolding keptOf countedOf openedOf
-  kept-step zero = refl
-  kept-step (suc k) = rw (eqb·suc-zero k) (rw add-one)
+  -- with the frame's times set, and what k packets left
+  abbrev timed : ℕ → ℕ → ℕ → Frame
+  timed k reads wait = record {
+    held = k;
+    first = time 0;
+    stamp = stamp 0;
+    phase = phase (grains (time 0)) (plan .period);
+    differs = hit (differing plan time stamp) k;
+    reads = reads;
+    wait = wait;
+    top = most (λ j. suc j - readsFrom plan time stamp j) k;
+    deficit = most (λ j. readsFrom plan time stamp j - j) k;
+    late = hit (lateFrom plan time stamp) k;
+  }
+
+  abbrev told : ℕ → Reads
+  told k = record { count = readsFrom plan time stamp k; wait = waitFrom plan time stamp k }
+
+  -- packet k counted, with the reads before it and the wait that the paper has
+  counted-on : (k reads wait : ℕ) → countedOf (timed k reads wait) (stamp k) (told k) ≡ keptOf plan time stamp (suc k)
+  unfolding keptOf countedOf
+  counted-on k reads wait =
+      rw add-one (λ j. record {
+        held = suc k;
+        first = time 0;
+        stamp = stamp 0;
+        phase = phase (grains (time 0)) (plan .period);
+        differs = sym (hit-on (differing plan time stamp) k (ap not (eq-eqb (stamp 0) (stamp 0) refl))) j;
+        reads = readsFrom plan time stamp k;
+        wait = waitFrom plan time stamp k;
+        top = most (λ j. suc j - readsFrom plan time stamp j) (suc k);
+        deficit = most (λ j. readsFrom plan time stamp j - j) (suc k);
+        late = sym (hit-next (lateFrom plan time stamp) k (eqb (most (λ j. readsFrom plan time stamp j - j) k) 0)
+            (none-late (readsFrom plan time stamp) k) (some-late (readsFrom plan time stamp) k)) j;
+      })
+
+  module _ (apart : 0 < plan .reads .num) where
+    -- m grains after x, both from one period before the frame's start on
+    read-on : (x m : ℕ)
+        → readsOn (readsBefore (plan .packets) (firstReadOf plan) (plan .reads .num) (plan .reads .den) x)
+        (waitAt (firstReadOf plan) (plan .reads .num) (plan .reads .den) x) (plan .packets) (plan .reads .num) (m * plan .reads .den)
+        ≡ record {
+          count = readsBefore (plan .packets) (firstReadOf plan) (plan .reads .num) (plan .reads .den) (x + m);
+          wait = waitAt (firstReadOf plan) (plan .reads .num) (plan .reads .den) (x + m);
+        }
+    read-on x m = λ j. record {
+      count = sym (reads-on (firstReadOf plan) (plan .reads .num) (plan .reads .den) apart x m (plan .packets)) j;
+      wait = sym (wait-on (firstReadOf plan) (plan .reads .num) (plan .reads .den) apart x m) j;
+    }
+
+    -- at 0 no read is over, and read 0 is its own time away
+    first-reads : readsOn 0 (firstReadOf plan * plan .reads .den) (plan .packets) (plan .reads .num)
+        (phase (grains (time 0)) (plan .period) * plan .reads .den) ≡ told 0
+    first-reads =
+        let start : timeFrom plan time stamp 0 ≡ 0 + phase (grains (time 0)) (plan .period) = omega arith in
+        let none = reads-none (plan .packets) (firstReadOf plan) (plan .reads .num) (plan .reads .den) apart 0 (omega arith) in
+        let wait = none-yet (firstReadOf plan) (plan .reads .num) (plan .reads .den) apart 0 (omega arith) .1 in
+        let whole : waitAt (firstReadOf plan) (plan .reads .num) (plan .reads .den) 0 ≡ firstReadOf plan * plan .reads .den =
+        omega (arith, wait, zero-mul (plan .reads .den)) in
+        rw start (rw (none, whole) at (read-on 0 (phase (grains (time 0)) (plan .period))))
+
+    -- the first packet, whatever went by before it
+    pub kept-first : (gone : ℕ) → pushOf plan (keptOf plan time stamp 0) gone (time 0) (stamp 0) ≡ keptOf plan time stamp 1
+    unfolding keptOf openedOf
+    kept-first gone =
+        ap (countedOf (timed 0 0 (firstReadOf plan * plan .reads .den)) (stamp 0)) first-reads
+        ∙ counted-on 0 0 (firstReadOf plan * plan .reads .den)
+
+    -- and each later one, by what goes by since the packet before it
+    module _ (k : ℕ) (lead : time 0 ≤ time k) (order : time k ≤ time (suc k)) where
+      pub kept-next : (gone : ℕ) → gone ≡ grains (time (suc k) - time k)
+          → pushOf plan (keptOf plan time stamp (suc k)) gone (time (suc k)) (stamp (suc k)) ≡ keptOf plan time stamp (suc (suc k))
+      unfolding keptOf openedOf
+      kept-next gone e =
+          let later : timeFrom plan time stamp (suc k) ≡ timeFrom plan time stamp k + gone = omega arith in
+          let reads : readsOn (readsFrom plan time stamp k) (waitFrom plan time stamp k) (plan .packets) (plan .reads .num)
+          (gone * plan .reads .den) ≡ told (suc k) = rw later (read-on (timeFrom plan time stamp k) gone) in
+          rw (eqb·suc-zero k)
+          (ap (countedOf (timed (suc k) (readsFrom plan time stamp k) (waitFrom plan time stamp k)) (stamp (suc k))) reads
+          ∙ counted-on (suc k) (readsFrom plan time stamp k) (waitFrom plan time stamp k))
 
 -- a read is before a time exactly when it is with both as much later
 shift : (base num den x s j : ℕ) → readBefore (base + s) num den (x + s) j ≡ readBefore base num den x j

@@ -1,69 +1,57 @@
 -- A frame whose times are set: what holds of it before its next packet is counted, so that every product fits.
-use Rattle.laws.specs.Kit.{_≡_, refl, sym, subst, Bool, true, false, ℕ, _+_, _*_, _-_, _≤_, _<_, arith, mul-le-mul, eqb, eqb-false}
-use Rattle.laws.specs.Choose.{pick}
+use Rattle.laws.specs.Kit.{_≡_, sym, subst, ℕ, _+_, _*_, _≤_, _<_, arith, mul-le-mul, mul-le-mul-right, eqb}
+use Rattle.laws.proofs.Choose.{pick-either}
 use Rattle.grain.specs.Paper.{grains, phase}
 use Rattle.grain.proofs.Rounding.{phase-small}
 use Rattle.grain.proofs.Extremes.{reads-fit}
 use Rattle.frame.specs.declared.Plan.{Plan}
 use Rattle.frame.specs.declared.Frame.{Frame}
-use Rattle.frame.specs.Step.{openedOf}
+use Rattle.frame.specs.Step.{firstReadOf, openedOf, goneOf}
 use Rattle.frame.specs.Range.{Planned, PushAsks}
 
-pub record Timed (plan : Plan) (f : Frame) (t : ℕ) : Type 0 where
+pub record Timed (plan : Plan) (f : Frame) (gone : ℕ) : Type 0 where
   pub few : f .held < 1000000000
-  pub order : f .first ≤ t
-  pub near : t - f .first ≤ 600000000000
+  pub near : gone ≤ 16200000000000
   pub phased : f .phase ≤ 2 * plan .period
   pub read : f .reads ≤ plan .packets
 
-pub timed : (plan : Plan) (f : Frame) (t stamp : ℕ) → Planned plan → PushAsks plan f t → Timed plan (openedOf f (plan .period) t stamp) t
-unfolding openedOf
-timed plan f t stamp p h = go (eqb (f .held) 0) refl
-  where
-    go : (z : Bool) → eqb (f .held) 0 ≡ z → Timed plan (record {
-      held = f .held;
-      first = pick z t (f .first);
-      stamp = pick z stamp (f .stamp);
-      phase = pick z (phase (grains t) (plan .period)) (f .phase);
-      differs = f .differs;
-      reads = f .reads;
-      top = f .top;
-      deficit = f .deficit;
-      late = f .late;
-    }) t
-    go true e = record {
-      few = h .few;
-      order = omega arith;
-      near = omega arith;
-      phased = omega (arith, p .long, phase-small (grains t) (plan .period) (omega (arith, p .long)));
-      read = h .read;
-    }
-    go false e =
-        let some : ¬ (f .held ≡ 0) = eqb-false (f .held) 0 e in
-        record {
-          few = h .few;
-          order = h .order (omega arith);
-          near = omega (arith, h .near (omega arith));
-          phased = h .phased;
-          read = h .read;
-        }
+module _ (plan : Plan) (p : Planned plan) where
+  -- read 0 lies two periods after its period's start at most
+  pub first-read-fits : firstReadOf plan * plan .reads .den ≤ 2 * plan .period * plan .reads .den
+  first-read-fits = mul-le-mul-right (plan .reads .den) (let l : firstReadOf plan ≤ 2 * plan .period = omega (arith, p .early) in l)
 
-module _ {plan : Plan} {f g : Frame} {t : ℕ} (stamp : ℕ) (e : g ≡ openedOf f (plan .period) t stamp) (p : Planned plan)
-    (h : PushAsks plan f t) where
-  pub opened-timed : Timed plan g t
-  opened-timed = subst (λ (x : Frame). Timed plan x t) (sym e) (timed plan f t stamp p h)
+  pub bound-fits : 2 * plan .period * plan .reads .den ≤ 2147483648000000
+  bound-fits =
+      let l : 2 * plan .period ≤ 4294967296 = omega (arith, p .short) in
+      omega (arith, mul-le-mul l (p .divided))
 
-  -- the time since the frame's first packet, with the phase
-  pub time-fits : grains (t - g .first) + g .phase ≤ 16204294967296
-  time-fits = omega (arith, opened-timed .near, opened-timed .phased, p .short)
+  module _ (f : Frame) (t stamp : ℕ) where
+    phase-fits : f .phase ≤ 2 * plan .period → (openedOf plan f t stamp) .phase ≤ 2 * plan .period
+    unfolding openedOf
+    phase-fits h =
+        pick-either (λ x. x ≤ 2 * plan .period) (eqb (f .held) 0)
+        (λ e. omega (arith, p .long, phase-small (grains t) (plan .period) (omega (arith, p .long)))) (λ e. h)
 
-  pub guess-fits : g .reads * plan .reads .num < 18446744073709551616
-  guess-fits =
-      let n : g .reads ≤ 20000 = omega (arith, opened-timed .read, p .few) in
-      let m : plan .reads .num ≤ 103079215104 = omega (arith, p .near, p .short) in
-      omega (arith, mul-le-mul n m)
+    pub wait-fits : f .wait ≤ 2 * plan .period * plan .reads .den → (openedOf plan f t stamp) .wait ≤ 2 * plan .period * plan .reads .den
+    unfolding openedOf
+    wait-fits h = pick-either (λ x. x ≤ 2 * plan .period * plan .reads .den) (eqb (f .held) 0) (λ e. first-read-fits) (λ e. h)
 
-  pub reach-fits : (base : ℕ) → (grains (t - g .first) + g .phase - base) * plan .reads .den + plan .reads .num < 18446744073709551616
-  reach-fits base =
-      reads-fit (grains (t - g .first) + g .phase - base) (plan .reads .den) (plan .reads .num) (omega (arith, time-fits)) (p .divided)
-      (omega (arith, p .near, p .short))
+    pub timed : (gone : ℕ) → PushAsks plan f gone → Timed plan (openedOf plan f t stamp) gone
+    unfolding openedOf
+    timed gone h = record { few = h .few; near = h .near; phased = phase-fits (h .phased); read = h .read }
+
+module _ {plan : Plan} {f g : Frame} {gone : ℕ} (t stamp : ℕ) (e : g ≡ openedOf plan f t stamp) (p : Planned plan)
+    (h : PushAsks plan f gone) where
+  pub opened-timed : Timed plan g gone
+  opened-timed = subst (λ (x : Frame). Timed plan x gone) (sym e) (timed plan p f t stamp gone h)
+
+  -- 600 s, or two periods for the first
+  gone-fits : goneOf g gone ≤ 16204294967296
+  gone-fits =
+      pick-either (λ x. x ≤ 16204294967296) (eqb (g .held) 0) (λ z. omega (arith, opened-timed .phased, p .short))
+      (λ z. omega (arith, opened-timed .near))
+
+  pub reach-fits : g .reads + goneOf g gone * plan .reads .den + plan .reads .num < 18446744073709551616
+  reach-fits =
+      reads-fit (g .reads) (goneOf g gone) (plan .reads .den) (plan .reads .num) (omega (arith, opened-timed .read, p .few)) gone-fits
+      (p .divided) (omega (arith, p .near, p .short))

@@ -1,22 +1,21 @@
 -- Frames pass their tests exactly where each number is in its range; it stays there, packet by packet, and from
 -- these ranges the code's own demands follow.
-use Rattle.laws.specs.Kit.{_≡_, refl, sym, _∙_, Bool, true, false, not, ℕ, _+_, _-_, _*_, _≤_, _<_, arith, ltb, eqb, eqb-false}
+use Rattle.laws.specs.Kit.{_≡_, refl, sym, _∙_, Bool, true, false, not, _&&_, ℕ, _+_, _*_, _≤_, _<_, arith, ltb, eqb, eqb-false}
 use Rattle.laws.specs.Choose.{pick}
 use Rattle.laws.proofs.Choose.{pick-either, false-true}
-use Rattle.laws.proofs.Count.{count-le}
 use Rattle.laws.specs.Every.{every, All}
 use Rattle.laws.proofs.Every.{facts, of-facts, _and_}
-use Rattle.grain.specs.Paper.{grains, readBefore}
+use Rattle.grain.proofs.Carried.{wait-small}
 use Rattle.frame.specs.declared.Plan.{Plan}
 use Rattle.frame.specs.declared.Frame.{Frame}
 use Rattle.frame.specs.declared.Frames.{Frames}
 use Rattle.frame.specs.declared.Buffer.{Buffer}
 use Rattle.frame.specs.declared.Buffer.the-variants.{None, Pass}
 use Rattle.frame.specs.Paper.{hasFailed, isNone}
-use Rattle.frame.specs.Step.{lower, kindOf, openedOf, countedOf, readsOf, pushOf, answerOf, joined, noFrames, arriveOf}
+use Rattle.frame.specs.Step.{kindOf, openedOf, goneOf, countedOf, readsOf, pushOf, answerOf, joined, noFrames, arriveOf}
 use Rattle.frame.specs.Step.{closeOf, emptyOf, beganOf}
 use Rattle.frame.specs.Range.{Planned, PushAsks, RowAsks, FramesRowAsks, ranges, Answered, Kept}
-use Rattle.frame.proofs.Opening.{Timed, timed}
+use Rattle.frame.proofs.Opening.{Timed, timed, wait-fits}
 
 module _ (plan : Plan) (s : Frames) (first last packets : ℕ) where
   pub kept-of : every (ranges plan s first last packets) ≡ true → Kept plan s first last packets
@@ -32,11 +31,12 @@ module _ (plan : Plan) (s : Frames) (first last packets : ℕ) where
         first-to = t 6;
         phased = t 7;
         read = t 8;
-        differs = t 9;
-        top = t 10;
-        late = t 11;
-        deficit = t 12;
-        answered = record { frame = t 13; place = t 14 };
+        waits = t 9;
+        differs = t 10;
+        top = t 11;
+        late = t 12;
+        deficit = t 13;
+        answered = record { frame = t 14; place = t 15 };
       }
 
   pub of-kept : Kept plan s first last packets → every (ranges plan s first last packets) ≡ true
@@ -44,7 +44,7 @@ module _ (plan : Plan) (s : Frames) (first last packets : ℕ) where
   of-kept k =
       of-facts (ranges plan s first last packets)
       (k .closed and k .begun and k .marked-from and k .marked-to and k .held and k .first-from and k .first-to and k .phased and k .read
-      and k .differs and k .top and k .late and k .deficit and k .answered .frame and k .answered .place and tt)
+      and k .waits and k .differs and k .top and k .late and k .deficit and k .answered .frame and k .answered .place and tt)
 
 -- with no packet in the open frame, what is known of the frames is enough
 kept-empty : (plan : Plan) {begun : Bool} {closed marked first last packets : ℕ} {buffer : Buffer} → (begun ≡ true → 0 < packets)
@@ -60,6 +60,7 @@ kept-empty plan b c from to a = record {
   first-to = λ l. omega arith;
   phased = omega arith;
   read = omega arith;
+  waits = omega arith;
   differs = omega arith;
   top = omega arith;
   deficit = omega arith;
@@ -77,20 +78,13 @@ pub record Next (first last packets t : ℕ) : Type 0 where
   pub near : t ≤ first + 600000000000
   pub few : packets < 1000000000
 
-lower-small : (known place : ℕ) (hit : Bool) → known ≤ place → lower known place hit ≤ place + 1
-lower-small known place hit l =
-    pick-either (λ k. k ≤ place + 1) (ltb known place) (λ e. omega arith)
-    (λ e. pick-either (λ k. k ≤ place + 1) hit (λ e. omega arith) (λ e. omega arith))
+-- a place that is kept is one of the frame's
+place-small : (known place : ℕ) (hit : Bool) → known ≤ place → pick hit place known ≤ place + 1
+place-small known place hit l = pick-either (λ k. k ≤ place + 1) hit (λ e. omega arith) (λ e. omega arith)
 
-module _ (plan : Plan) (s : Frames) (first last packets t : ℕ) (p : Planned plan) (k : Kept plan s first last packets) where
-  pub pushable : (s .begun ≡ true → Next first last packets t) → s .begun ≡ true → PushAsks plan (s .current) t
-  pushable next e = record {
-    few = omega (arith, k .held, next e .few);
-    order = λ l. omega (arith, k .first-to l, next e .order);
-    near = λ l. omega (arith, k .first-from l, k .marked-from e, next e .near);
-    phased = omega (arith, k .phased);
-    read = k .read;
-  }
+module _ (plan : Plan) (s : Frames) (first last packets gone t : ℕ) (p : Planned plan) (k : Kept plan s first last packets) where
+  pub pushable : gone ≤ 16200000000000 → (s .begun ≡ true → Next first last packets t) → s .begun ≡ true → PushAsks plan (s .current) gone
+  pushable near next e = record { few = omega (arith, k .held, next e .few); near = near; phased = omega (arith, k .phased); read = k .read }
 
   -- what is pushed
   pub record Pushed (f : Frame) : Type 0 where
@@ -99,48 +93,51 @@ module _ (plan : Plan) (s : Frames) (first last packets t : ℕ) (p : Planned pl
     pub first-to : f .first ≤ t
     pub phased : f .phase ≤ 2 * plan .period
     pub read : f .reads ≤ plan .packets
+    pub waits : f .wait ≤ 2 * plan .period * plan .reads .den
     pub differs : f .differs ≤ f .held
     pub top : f .top ≤ f .held
     pub deficit : f .deficit ≤ plan .packets
     pub late : f .late ≤ f .held
 
   counted : (o : Frame) (stamp : ℕ) → o .held ≡ s .current .held → o .differs ≡ s .current .differs → o .top ≡ s .current .top
-      → o .deficit ≡ s .current .deficit
-      → o .late ≡ s .current .late → s .marked ≤ o .first → Timed plan o t → Pushed (countedOf o stamp (readsOf plan o t))
+      → o .deficit ≡ s .current .deficit → o .late ≡ s .current .late → o .wait ≤ 2 * plan .period * plan .reads .den
+      → (s .marked ≤ o .first) × (o .first ≤ t) → Timed plan o gone → Pushed (countedOf o stamp (readsOf plan o gone))
   unfolding countedOf
-  counted o stamp eh ed et ef el from z =
-      let few = count-le (readBefore (plan .tro + plan .period) (plan .reads .num) (plan .reads .den) (grains (t - o .first) + o .phase))
-      (plan .packets) in
+  counted o stamp eh ed et ef el wait from z =
       record {
         held = omega arith;
-        first-from = from;
-        first-to = z .order;
+        first-from = from .0;
+        first-to = from .1;
         phased = z .phased;
-        read = few;
-        differs = lower-small (o .differs) (o .held) (not (eqb stamp (o .stamp))) (omega (arith, k .differs));
+        read = omega arith;
+        waits = wait-small (o .wait) (plan .reads .num) (goneOf o gone * plan .reads .den) _ (p .apart) wait (p .spread);
+        differs = place-small (o .differs) (o .held) (not (eqb stamp (o .stamp)) && eqb (o .differs) 0) (omega (arith, k .differs));
         top = omega (arith, k .top);
         deficit = omega (arith, k .deficit);
-        late = lower-small (o .late) (o .held) (ltb (o .held) (readsOf plan o t)) (omega (arith, k .late));
+        late = place-small (o .late) (o .held) (ltb (o .held) (readsOf plan o gone .count) && eqb (o .deficit) 0) (omega (arith, k .late));
       }
 
-  opened-from : (stamp : ℕ) → s .begun ≡ true → Next first last packets t
-      → s .marked ≤ (openedOf (s .current) (plan .period) t stamp) .first
+  opened-first : (stamp : ℕ) → s .begun ≡ true → Next first last packets t
+      → (s .marked ≤ (openedOf plan (s .current) t stamp) .first) × ((openedOf plan (s .current) t stamp) .first ≤ t)
   unfolding openedOf
-  opened-from stamp e next = go (eqb (s .current .held) 0) refl
+  opened-first stamp e next = go (eqb (s .current .held) 0) refl
     where
-      go : (z : Bool) → eqb (s .current .held) 0 ≡ z → s .marked ≤ pick z t (s .current .first)
-      go true q = omega (arith, k .marked-to e, next .order)
-      go false q = let some : ¬ (s .current .held ≡ 0) = eqb-false (s .current .held) 0 q in k .first-from (omega arith)
+      go : (z : Bool) → eqb (s .current .held) 0 ≡ z → (s .marked ≤ pick z t (s .current .first)) × (pick z t (s .current .first) ≤ t)
+      go true q = (omega (arith, k .marked-to e, next .order), omega arith)
+      go false q =
+          let some : ¬ (s .current .held ≡ 0) = eqb-false (s .current .held) 0 q in
+          (k .first-from (omega arith), omega (arith, k .first-to (omega arith), next .order))
 
-  pub pushed : (stamp : ℕ) → s .begun ≡ true → Next first last packets t → Pushed (pushOf plan (s .current) t stamp)
+  pub pushed : (stamp : ℕ) → gone ≤ 16200000000000 → s .begun ≡ true → Next first last packets t
+      → Pushed (pushOf plan (s .current) gone t stamp)
   unfolding openedOf
-  pushed stamp e next =
-      counted (openedOf (s .current) (plan .period) t stamp) stamp refl refl refl refl refl (opened-from stamp e next)
-      (timed plan (s .current) t stamp p (pushable (λ b. next) e))
+  pushed stamp near e next =
+      counted (openedOf plan (s .current) t stamp) stamp refl refl refl refl refl (wait-fits plan p (s .current) t stamp (k .waits))
+      (opened-first stamp e next) (timed plan p (s .current) t stamp gone (pushable near (λ b. next) e))
 
   -- ---- a packet arrives, and closes if it is a marker; first′ is the first arrival with it
 
-  module _ (stamp first′ : ℕ) (next : s .begun ≡ true → Next first last packets t) (order : last ≤ t)
+  module _ (stamp first′ : ℕ) (near : gone ≤ 16200000000000) (next : s .begun ≡ true → Next first last packets t) (order : last ≤ t)
       (same : s .begun ≡ true → first′ ≡ first) (since : first′ ≤ t) where
     -- the lead-in: nothing is pushed
     kept-lead : s .begun ≡ false → Kept plan s first′ t (packets + 1)
@@ -154,6 +151,7 @@ module _ (plan : Plan) (s : Frames) (first last packets t : ℕ) (p : Planned pl
       first-to = λ l. omega (arith, k .first-to l);
       phased = k .phased;
       read = k .read;
+      waits = k .waits;
       differs = k .differs;
       top = k .top;
       deficit = k .deficit;
@@ -166,11 +164,11 @@ module _ (plan : Plan) (s : Frames) (first last packets t : ℕ) (p : Planned pl
           begun = s .begun;
           closed = s .closed;
           marked = s .marked;
-          current = pushOf plan (s .current) t stamp;
+          current = pushOf plan (s .current) gone t stamp;
           buffer = s .buffer;
         }) first′ t (packets + 1)
     kept-pushed e =
-        let f = pushed stamp e (next e) in
+        let f = pushed stamp near e (next e) in
         record {
           begun = λ b. omega arith;
           closed = omega (arith, k .closed);
@@ -181,6 +179,7 @@ module _ (plan : Plan) (s : Frames) (first last packets t : ℕ) (p : Planned pl
           first-to = λ l. f .first-to;
           phased = f .phased;
           read = f .read;
+          waits = f .waits;
           differs = f .differs;
           top = f .top;
           deficit = f .deficit;
@@ -188,7 +187,7 @@ module _ (plan : Plan) (s : Frames) (first last packets t : ℕ) (p : Planned pl
           answered = record { frame = omega (arith, k .answered .frame); place = omega (arith, k .answered .place) };
         }
 
-    pub kept-arrive : Kept plan (arriveOf plan s t stamp) first′ t (packets + 1)
+    pub kept-arrive : Kept plan (arriveOf plan s gone t stamp) first′ t (packets + 1)
     unfolding arriveOf
     kept-arrive = go (s .begun) refl
       where
@@ -198,19 +197,20 @@ module _ (plan : Plan) (s : Frames) (first last packets t : ℕ) (p : Planned pl
               closed = s .closed;
               marked = s .marked;
               current = pick b
-                  (pushOf plan (s .current) t stamp) (s .current);
+                  (pushOf plan (s .current) gone t stamp) (s .current);
               buffer = s .buffer;
             }) first′ t (packets + 1)
         go true e = kept-pushed e
         go false e = kept-lead e
 
     -- a row can be made of what was pushed
-    pub rowable : s .begun ≡ true → FramesRowAsks plan (arriveOf plan s t stamp) (packets + 1)
+    pub rowable : s .begun ≡ true → FramesRowAsks plan (arriveOf plan s gone t stamp) (packets + 1)
     unfolding arriveOf
-    rowable e = record { held = kept-arrive .held; row = rw e (row (pushed stamp e (next e))) }
+    rowable e = record { held = kept-arrive .held; row = rw e (row (pushed stamp near e (next e))) }
       where
-        row : Pushed (pushOf plan (s .current) t stamp)
-            → RowAsks plan (s .closed) (s .marked) (beganOf (pushOf plan (s .current) t stamp) (packets + 1)) (pushOf plan (s .current) t stamp)
+        row : Pushed (pushOf plan (s .current) gone t stamp)
+            → RowAsks plan (s .closed) (s .marked) (beganOf (pushOf plan (s .current) gone t stamp) (packets + 1))
+            (pushOf plan (s .current) gone t stamp)
         row f = record {
           few = omega (arith, f .held, k .held, next e .few);
           counted = omega (arith, k .closed, next e .few);

@@ -1,14 +1,15 @@
 -- A closed frame's row is the row of its stretch of the history, and one row only is so: each number that was kept, packet by packet, is
 -- document 01's number over the frame's arrivals (Duality).
-use Rattle.laws.specs.Kit.{_≡_, refl, sym, ap, _∙_, subst, Bool, true, false, ℕ, suc, pred, _+_, _-_, _≤_, _<_, arith, add-zero}
-use Rattle.laws.specs.Kit.{ltb, eqb, ℤ, pos, subℕ, _-ℤ_, ltb-false, eqb-true, eqb-false}
+use Rattle.laws.specs.Kit.{_≡_, refl, sym, ap, _∙_, subst, Bool, true, false, not, ℕ, suc, pred, _+_, _-_, _≤_, _<_, arith, add-zero}
+use Rattle.laws.specs.Kit.{ltb, eqb, ℤ, pos, subℕ, _-ℤ_, ltb-true, ltb-false, lt-ltb, eq-eqb, eqb-true, eqb-false}
 use Rattle.laws.specs.Choose.{pick}
 use Rattle.laws.specs.Climb.{Climbs}
 use Rattle.laws.proofs.Climb.{climbs-le}
 use Rattle.laws.specs.Most.{most}
 use Rattle.laws.proofs.Most.{most-same}
-use Rattle.laws.specs.Seek.{seek}
-use Rattle.laws.proofs.Seek.{seek-same}
+use Rattle.laws.specs.Seek.{seek, hit}
+use Rattle.laws.proofs.Choose.{false-true}
+use Rattle.laws.proofs.Seek.{seek-is, hit-found, hit-same, hit-tells}
 use Rattle.laws.proofs.Differ.{differ-sub, differ-same, both-ways}
 use Rattle.grain.specs.Paper.{grains, firstPacketTime, LatencyIs, latency, phase}
 use Rattle.grain.proofs.Rounding.{phase-less}
@@ -16,7 +17,7 @@ use Rattle.grain.proofs.EncodedTime.{latency-is, latency-unique, offset-is, mar
 use Rattle.frame.specs.declared.Plan.{Plan}
 use Rattle.frame.specs.declared.Frame.{Frame}
 use Rattle.frame.specs.declared.Row.{Row}
-use Rattle.frame.specs.Paper.{History, closesAt, numberAt, since, heldAt, differsAt, kindAt, arrival, firstRead}
+use Rattle.frame.specs.Paper.{History, closesAt, numberAt, since, heldAt, differsAt, kindAt, detailAt, arrival, firstRead}
 use Rattle.frame.specs.Paper.{readsTo, PeakIs, LeastIs, Times, Levels, RowIs}
 use Rattle.frame.specs.Step.{kindOf, detailOf, wholeRow, rowOf}
 use Rattle.frame.specs.ByPlace.{readsFrom, keptOf, frameFrom, closedAt, markedTime}
@@ -47,14 +48,58 @@ module _ (plan : Plan) (h : History) (i : ℕ) where
   held-is : closedAt plan h i ≡ frameFrom plan h (since h i) (suc (i - since h i))
   held-is = rw (one-more h i)
 
+  -- some timestamp of the frame differs from the first packet's, at place j of it
+  abbrev differs : ℕ → Bool
+  differs j = not (eqb (h .stamp (since h i + j)) (h .stamp (since h i)))
+
+  first-same : differs 0 ≡ false
+  first-same = ap not (eq-eqb (h .stamp (since h i + 0)) (h .stamp (since h i)) (ap (h .stamp) (add-zero (since h i))))
+
+  -- the place that is kept: 0 where none differs
+  differs-is : closedAt plan h i .differs ≡ hit differs (heldAt h i)
+  unfolding keptOf
+  differs-is =
+      ap (λ (f : Frame). f .differs) held-is
+      ∙ hit-same (λ j. not (eqb (h .stamp (since h i + j)) (h .stamp (since h i + 0)))) differs (suc (i - since h i))
+      (λ j l. ap (λ (z : ℕ). not (eqb (h .stamp (since h i + j)) (h .stamp z))) (add-zero (since h i)))
+      ∙ ap (hit differs) (sym (one-more h i))
+
+  count-is : closedAt plan h i .held ≡ heldAt h i
+  unfolding keptOf
+  count-is = rw (one-more h i)
+
+  turned : (t : Bool) → _≡_ {A = ℕ} (pick (not t) 0 3) (pick t 3 0)
+  turned true = refl
+  turned false = refl
+
   -- P6: the kind that the code finds is the frame's
   pub kind-is : kindOf (closedAt plan h i) (plan .packets) ≡ kindAt plan h i
-  unfolding kindOf keptOf
-  kind-is = rw (one-more h i, add-zero (since h i))
+  unfolding kindOf
+  kind-is =
+      rw (count-is, differs-is, hit-tells differs (heldAt h i) first-same)
+      (ap (λ (k : ℕ). pick (ltb (heldAt h i) (plan .packets)) 1 (pick (ltb (plan .packets) (heldAt h i)) 2 k))
+      (turned (ltb (differsAt plan h i) (heldAt h i))))
 
-  pub detail-is : (kind : ℕ) → detailOf (closedAt plan h i) kind ≡ pick (eqb kind 3) (differsAt plan h i) (pick (eqb kind 0) 0 (heldAt h i))
-  unfolding keptOf
-  detail-is kind = rw (one-more h i, add-zero (since h i))
+  -- a frame of kind 3 has a timestamp that differs
+  some-differs : kindAt plan h i ≡ 3 → differsAt plan h i < heldAt h i
+  some-differs = go (ltb (heldAt h i) (plan .packets)) (ltb (plan .packets) (heldAt h i)) (ltb (differsAt plan h i) (heldAt h i)) refl
+    where
+      go : (a b c : Bool) → ltb (differsAt plan h i) (heldAt h i) ≡ c → _≡_ {A = ℕ} (pick a 1 (pick b 2 (pick c 3 0))) 3
+          → differsAt plan h i < heldAt h i
+      go true b c e k = absurd (omega arith)
+      go false true c e k = absurd (omega arith)
+      go false false true e k = ltb-true (differsAt plan h i) (heldAt h i) e
+      go false false false e k = absurd (omega arith)
+
+  -- V2: and its detail is the place of the first
+  pub detail-is : detailOf (closedAt plan h i) (kindAt plan h i) ≡ detailAt plan h i
+  detail-is = rw count-is (go (eqb (kindAt plan h i) 3) refl)
+    where
+      go : (t : Bool) → eqb (kindAt plan h i) 3 ≡ t
+          → pick t (closedAt plan h i .differs) (pick (eqb (kindAt plan h i) 0) 0 (heldAt h i))
+          ≡ pick t (differsAt plan h i) (pick (eqb (kindAt plan h i) 0) 0 (heldAt h i))
+      go true e = differs-is ∙ hit-found differs (heldAt h i) (some-differs (eqb-true (kindAt plan h i) 3 e))
+      go false e = refl
 
   -- a frame of kind 0 has n packets
   pub whole-held : kindAt plan h i ≡ 0 → heldAt h i ≡ plan .packets
@@ -126,10 +171,20 @@ module _ {plan : Plan} {h : History} {i : ℕ} (w : WholeFrame plan h i) where
   pub least-is : LeastIs plan h s (subℕ 0 (kept .deficit))
   least-is = rw deficit-is (record { bound = D.least-bound frame; met = D.least-met frame (w .planned .some) })
 
-  pub late-is : kept .late ≡ seek (λ j. ltb j (readsTo plan h s j)) (plan .packets)
+  -- where there was a lack, some packet is late, and the place that is kept is the first
+  late-there : 0 < kept .deficit → seek (λ j. ltb j (readsTo plan h s j)) (plan .packets) < plan .packets
+  late-there some =
+      let q = D.dry-late frame (omega (arith, deficit-is)) in
+      let no : ¬ (plan .packets ≤ seek (λ j. ltb j (readsTo plan h s j)) (plan .packets)) = λ m. false-true
+      (sym (seek-is (λ j. ltb j (readsTo plan h s j)) (plan .packets) .before (q .0) (omega (arith, q .1)))
+      ∙ lt-ltb (q .0) (readsTo plan h s (q .0)) (q .2)) in
+      omega arith
+
+  pub late-is : 0 < kept .deficit → kept .late ≡ seek (λ j. ltb j (readsTo plan h s j)) (plan .packets)
   unfolding keptOf
-  late-is = ap (λ (f : Frame). f .late) (held-is plan h i) ∙ ap (seek (λ j. ltb j (reads j))) packets-are
-      ∙ seek-same (λ j. ltb j (reads j)) (λ j. ltb j (readsTo plan h s j)) (plan .packets) (λ j l. ap (ltb j) (reads-same j l))
+  late-is some = ap (λ (f : Frame). f .late) (held-is plan h i) ∙ ap (hit (λ j. ltb j (reads j))) packets-are
+      ∙ hit-same (λ j. ltb j (reads j)) (λ j. ltb j (readsTo plan h s j)) (plan .packets) (λ j l. ap (ltb j) (reads-same j l))
+      ∙ hit-found (λ j. ltb j (readsTo plan h s j)) (plan .packets) (late-there some)
 
   -- of the frame's first packet
   first-is : kept .first ≡ h .time (s + 0)
@@ -202,7 +257,7 @@ module _ (plan : Plan) (h : History) (ordered : Climbs (h .time) (h .packets)) (
           (row-broken plan (numberAt h i) (closedAt plan h i) (markedTime plan h i) (since h i) (kindAt plan h i) (sym (kind-is plan h i)) k) (record {
             number = refl;
             kind = refl;
-            detail = ap pos (detail-is plan h i (kindAt plan h i));
+            detail = ap pos (detail-is plan h i);
             began = refl;
             times = λ z. absurd (k z);
             levels = λ z. absurd (k z);

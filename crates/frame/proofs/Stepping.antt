@@ -1,18 +1,21 @@
 -- The code's step, packet by packet, goes through the states that the
 -- whole history declares by place, and writes the rows that it declares.
-use Rattle.laws.specs.Kit.{_≡_, refl, sym, ap, _∙_, Bool, true, false, _&&_, [], _∷_, ℕ, suc, _+_, _-_, arith, add-sub-of-le, sub-self}
+use Rattle.laws.specs.Kit.{_≡_, refl, sym, ap, _∙_, Bool, true, false, _&&_, [], _∷_, ℕ, zero, suc, pred, _+_, _-_, _<_, arith, sub-self}
 use Rattle.laws.specs.Kit.{add-zero}
 use Rattle.laws.specs.Choose.{pick}
+use Rattle.laws.specs.Climb.{Climbs}
+use Rattle.laws.proofs.Climb.{climbs-le}
 use Rattle.laws.specs.Count.{count}
+use Rattle.grain.specs.Paper.{grains}
 use Rattle.frame.specs.declared.Plan.{Plan}
 use Rattle.frame.specs.declared.Frames.{Frames}
 use Rattle.frame.specs.declared.Buffer.{Buffer}
 use Rattle.frame.specs.declared.Buffer.the-variants.{None, Pass, Under, Over}
-use Rattle.frame.specs.Paper.{History, begunAt, numberAt, since}
+use Rattle.frame.specs.Paper.{History, begunAt, numberAt, since, heldAt}
 use Rattle.frame.specs.Step.{emptyOf, pushOf, beganOf, rowOf, answerOf, joined, noFrames, arriveOf, closeOf, stepOf, rowsOf}
-use Rattle.frame.specs.ByPlace.{keptOf, openAt, closedAt, markedTime, bufferAt, framesAt, rowsAt}
+use Rattle.frame.specs.ByPlace.{goneAt, keptOf, openAt, closedAt, markedTime, bufferAt, framesAt, rowsAt}
 use Rattle.frame.proofs.Stretches.{since-is, one-more, begun-next}
-use Rattle.frame.proofs.Keeping.{kept-step}
+use Rattle.frame.proofs.Keeping.{kept-first, kept-next}
 
 pub joined-none : (b : Buffer) → joined b None ≡ b
 unfolding joined
@@ -21,13 +24,40 @@ joined-none Pass = refl
 joined-none (Under p) = refl
 joined-none (Over p) = refl
 
-module _ (plan : Plan) (h : History) (i : ℕ) where
-  -- the frame with packet i pushed
-  pushed : pushOf plan (openAt plan h i) (h .time i) (h .stamp i) ≡ closedAt plan h i
-  pushed =
-      let s = since h i in
-      let here : s + (i - s) ≡ i = add-sub-of-le (since-is h i .within) in
-      rw (one-more h i) (rw here at (kept-step plan (λ j. h .time (s + j)) (λ j. h .stamp (s + j)) (i - s)))
+module _ (plan : Plan) (h : History) (apart : 0 < plan .reads .num) (ordered : Climbs (h .time) (h .packets)) (i : ℕ)
+    (inside : i < h .packets) where
+  -- where the frame of packet i began, and its packets
+  abbrev s : ℕ
+  s = since h i
+
+  abbrev time : ℕ → ℕ
+  time j = h .time (s + j)
+
+  abbrev stamp : ℕ → ℕ
+  stamp j = h .stamp (s + j)
+
+  -- packet k of the frame is packet i
+  at-place : (k : ℕ) → i - s ≡ k → pushOf plan (keptOf plan time stamp k) (goneAt h i) (time k) (stamp k) ≡ keptOf plan time stamp (suc k)
+      → pushOf plan (keptOf plan time stamp k) (goneAt h i) (h .time i) (h .stamp i) ≡ closedAt plan h i
+  at-place k e next =
+      let here : i ≡ s + k = omega (arith, since-is h i .within) in
+      let held : suc k ≡ heldAt h i = omega (arith, one-more h i) in
+      ap (λ (x : ℕ). pushOf plan (keptOf plan time stamp k) (goneAt h i) (h .time x) (h .stamp x)) here ∙ next ∙ ap (keptOf plan time stamp) held
+
+  -- the frame with packet i pushed: its first, or the next after one
+  pushed : pushOf plan (openAt plan h i) (goneAt h i) (h .time i) (h .stamp i) ≡ closedAt plan h i
+  pushed = go (i - s) refl
+    where
+      go : (k : ℕ) → i - s ≡ k → pushOf plan (keptOf plan time stamp k) (goneAt h i) (h .time i) (h .stamp i) ≡ closedAt plan h i
+      go zero e = at-place 0 e (kept-first plan time stamp apart (goneAt h i))
+      go (suc k) e =
+          let here : i ≡ s + suc k = omega (arith, since-is h i .within) in
+          let before : pred i ≡ s + k = omega (arith, since-is h i .within) in
+          let order = climbs-le (h .time) (h .packets) ordered in
+          at-place (suc k) e
+          (kept-next plan time stamp apart k (order (s + 0) (s + k) (omega arith) (omega arith))
+          (order (s + k) (s + suc k) (omega arith) (omega arith)) (goneAt h i)
+          (ap (λ (x : ℕ). grains (h .time x - h .time (pred i))) here ∙ ap (λ (x : ℕ). grains (h .time (s + suc k) - h .time x)) before))
 
   -- a marker empties, any other packet stays in
   open-next : (m : Bool) → h .marked i ≡ m → openAt plan h (suc i) ≡ pick m emptyOf (closedAt plan h i)
@@ -86,14 +116,14 @@ module _ (plan : Plan) (h : History) (i : ℕ) where
     }
 
   -- the code's step from the declared state, by cases on the marker and the lead-in
-  step-next : (m b : Bool) → begunAt h i ≡ b → stepOf plan (framesAt plan h i) (h .time i) (h .stamp i) m ≡ Next m b
+  step-next : (m b : Bool) → begunAt h i ≡ b → stepOf plan (framesAt plan h i) (goneAt h i) (h .time i) (h .stamp i) m ≡ Next m b
   unfolding stepOf framesAt arriveOf closeOf
   step-next true true f = rw (f, pushed)
   step-next true false f = rw f
   step-next false true f = rw (f, pushed, add-zero)
   step-next false false f = rw (f, add-zero)
 
-  pub frames-step : stepOf plan (framesAt plan h i) (h .time i) (h .stamp i) (h .marked i) ≡ framesAt plan h (suc i)
+  pub frames-step : stepOf plan (framesAt plan h i) (goneAt h i) (h .time i) (h .stamp i) (h .marked i) ≡ framesAt plan h (suc i)
   frames-step = step-next (h .marked i) (begunAt h i) refl ∙ sym (declared-next (h .marked i) (begunAt h i) refl refl)
 
   -- V10: of the packets up to i the frame holds the last, so the others come before its first
@@ -104,14 +134,14 @@ module _ (plan : Plan) (h : History) (i : ℕ) where
       omega (arith, held, since-is h i .within)
 
   rows-next : (m b : Bool) → begunAt h i ≡ b
-      → rowsOf plan (framesAt plan h i) (i + 1) (h .time i) (h .stamp i) m
+      → rowsOf plan (framesAt plan h i) (i + 1) (goneAt h i) (h .time i) (h .stamp i) m
       ≡ pick (m && b) (rowOf plan (numberAt h i) (markedTime plan h i) (since h i) (closedAt plan h i) ∷ []) []
   unfolding rowsOf framesAt arriveOf
   rows-next true true f = rw (f, pushed, began-is)
   rows-next true false f = rw f
   rows-next false b f = refl
 
-  pub rows-step : rowsOf plan (framesAt plan h i) (i + 1) (h .time i) (h .stamp i) (h .marked i) ≡ rowsAt plan h i
+  pub rows-step : rowsOf plan (framesAt plan h i) (i + 1) (goneAt h i) (h .time i) (h .stamp i) (h .marked i) ≡ rowsAt plan h i
   rows-step = rows-next (h .marked i) (begunAt h i) refl
 
 -- before the first packet

@@ -1,9 +1,10 @@
 -- What the steps keep, by place: of the open frame after k packets, and of all the frames before packet i of the history.
-use Rattle.laws.specs.Kit.{not, List, [], _∷_, ℕ, zero, suc, _+_, _-_, ltb, eqb}
+use Rattle.laws.specs.Kit.{Bool, not, List, [], _∷_, ℕ, zero, suc, pred, _+_, _-_, ltb, eqb}
 use Rattle.laws.specs.Choose.{pick}
 use Rattle.laws.specs.Most.{most}
-use Rattle.laws.specs.Seek.{seek}
+use Rattle.laws.specs.Seek.{seek, hit}
 use Rattle.grain.specs.Paper.{grains, phase, readsBefore}
+use Rattle.grain.specs.Carry.{waitAt}
 use Rattle.frame.specs.declared.Plan.{Plan}
 use Rattle.frame.specs.declared.Frame.{Frame}
 use Rattle.frame.specs.declared.Frames.{Frames}
@@ -11,14 +12,27 @@ use Rattle.frame.specs.declared.Row.{Row}
 use Rattle.frame.specs.declared.Buffer.{Buffer}
 use Rattle.frame.specs.declared.Buffer.the-variants.{None}
 use Rattle.frame.specs.Paper.{History, begunAt, closesAt, numberAt, since, heldAt}
-use Rattle.frame.specs.Step.{emptyOf, rowOf, answerOf, joined}
+use Rattle.frame.specs.Step.{emptyOf, firstReadOf, rowOf, answerOf, joined}
 
 -- a frame's packets: packet j of it arrives at time j
 module _ (plan : Plan) (time stamp : ℕ → ℕ) where
+  -- from one period before the frame's start to packet j, in grains
+  abbrev pub timeFrom : ℕ → ℕ
+  timeFrom j = grains (time j - time 0) + phase (grains (time 0)) (plan .period)
+
   abbrev pub readsFrom : ℕ → ℕ
-  readsFrom j =
-      readsBefore (plan .packets) (plan .tro + plan .period) (plan .reads .num) (plan .reads .den)
-      (grains (time j - time 0) + phase (grains (time 0)) (plan .period))
+  readsFrom j = readsBefore (plan .packets) (firstReadOf plan) (plan .reads .num) (plan .reads .den) (timeFrom j)
+
+  -- from packet j to the next read, had the reads no end, times den
+  abbrev pub waitFrom : ℕ → ℕ
+  waitFrom j = waitAt (firstReadOf plan) (plan .reads .num) (plan .reads .den) (timeFrom j)
+
+  -- packet j has another timestamp than packet 0; it comes after its read
+  abbrev pub differing : ℕ → Bool
+  differing j = not (eqb (stamp j) (stamp 0))
+
+  abbrev pub lateFrom : ℕ → Bool
+  lateFrom j = ltb j (readsFrom j)
 
   -- what is kept of the first k of them
   unfoldable pub keptOf : ℕ → Frame
@@ -29,12 +43,17 @@ module _ (plan : Plan) (time stamp : ℕ → ℕ) where
     first = time 0;
     stamp = stamp 0;
     phase = phase (grains (time 0)) (plan .period);
-    differs = seek (λ j. not (eqb (stamp j) (stamp 0))) (suc k);
+    differs = hit differing (suc k);
     reads = readsFrom k;
+    wait = waitFrom k;
     top = most (λ j. suc j - readsFrom j) (suc k);
     deficit = most (λ j. readsFrom j - j) (suc k);
-    late = seek (λ j. ltb j (readsFrom j)) (suc k);
+    late = hit lateFrom (suc k);
   }
+
+-- from the packet before packet i of a history to packet i, in grains; 0 for the first
+abbrev pub goneAt : History → ℕ → ℕ
+goneAt h i = grains (h .time i - h .time (pred i))
 
 module _ (plan : Plan) (h : History) where
   -- what is kept of the frame that begins at packet s after k packets of it

@@ -20,12 +20,13 @@ pub record Planned (plan : Plan) : Type 0 where
   -- at most 24F, and a period may be half a frame
   pub near : plan .reads .num ≤ 48 * plan .period
   pub divided : plan .reads .den ≤ 500000
+  -- two reads lie two periods apart at most
+  pub spread : plan .reads .num ≤ 2 * plan .period * plan .reads .den
 
--- before a packet that arrives at t: an open frame that holds packets began at most 600 s before
-pub record PushAsks (plan : Plan) (f : Frame) (t : ℕ) : Type 0 where
+-- before a packet that comes so many grains after the one before: 600 s at most
+pub record PushAsks (plan : Plan) (f : Frame) (gone : ℕ) : Type 0 where
   pub few : f .held < 1000000000
-  pub order : 0 < f .held → f .first ≤ t
-  pub near : 0 < f .held → t ≤ f .first + 600000000000
+  pub near : gone ≤ 16200000000000
   pub phased : f .phase ≤ 2 * plan .period
   pub read : f .reads ≤ plan .packets
 
@@ -64,6 +65,7 @@ module _ (plan : Plan) (s : Frames) (first last packets : ℕ) where
       ∷ entry (s .current .stamp) 4 []
       ∷ entry (s .current .phase) 8 (at-most (s .current .phase) (2 * plan .period) ∷ [])
       ∷ entry (s .current .reads) 8 (at-most (s .current .reads) (plan .packets) ∷ [])
+      ∷ entry (s .current .wait) 8 (at-most (s .current .wait) (2 * plan .period * plan .reads .den) ∷ [])
       ∷ entry (s .current .differs) 8 (at-most (s .current .differs) (s .current .held) ∷ [])
       ∷ entry (s .current .top) 8 (at-most (s .current .top) (s .current .held) ∷ [])
       ∷ entry (s .current .late) 8 (at-most (s .current .late) (s .current .held) ∷ [])
@@ -91,6 +93,7 @@ pub record Kept (plan : Plan) (s : Frames) (first last packets : ℕ) : Type 0 w
   pub first-to : 0 < s .current .held → s .current .first ≤ last
   pub phased : s .current .phase ≤ 2 * plan .period
   pub read : s .current .reads ≤ plan .packets
+  pub waits : s .current .wait ≤ 2 * plan .period * plan .reads .den
   pub differs : s .current .differs ≤ s .current .held
   pub top : s .current .top ≤ s .current .held
   pub deficit : s .current .deficit ≤ plan .packets

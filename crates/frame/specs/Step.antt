@@ -1,8 +1,10 @@
 -- The frames step by step, as the code goes: the open frame by one packet more, its row and its answer, and what a marker closes.
-use Rattle.laws.specs.Kit.{Bool, true, false, not, _&&_, List, [], _∷_, ℕ, _+_, _-_, max, ltb, eqb, ℤ, pos, subℕ}
+use Rattle.laws.specs.Kit.{Bool, true, false, not, _&&_, List, [], _∷_, ℕ, _+_, _*_, _-_, max, ltb, eqb, ℤ, pos, subℕ}
 use Rattle.laws.specs.Kit.{_-ℤ_}
 use Rattle.laws.specs.Choose.{pick}
-use Rattle.grain.specs.Paper.{grains, phase, latency, readsBefore}
+use Rattle.grain.specs.Paper.{grains, phase, latency}
+use Rattle.grain.specs.Carry.{readsOn}
+use Rattle.grain.specs.declared.Reads.{Reads}
 use Rattle.frame.specs.declared.Plan.{Plan}
 use Rattle.frame.specs.declared.Frame.{Frame}
 use Rattle.frame.specs.declared.Frames.{Frames}
@@ -13,52 +15,66 @@ use Rattle.frame.specs.Paper.{hasFailed, isNone}
 
 -- ---- the open frame
 
--- the lowest place that was hit, of those up to `place`; one more where none was
-abbrev pub lower : ℕ → ℕ → Bool → ℕ
-lower known place hit = pick (ltb known place) known (pick hit place (place + 1))
-
+-- P5: nothing of the frame before stays
 abbrev pub emptyOf : Frame
-emptyOf = record { held = 0; first = 0; stamp = 0; phase = 0; differs = 0; reads = 0; top = 0; deficit = 0; late = 0 }
+emptyOf = record { held = 0; first = 0; stamp = 0; phase = 0; differs = 0; reads = 0; wait = 0; top = 0; deficit = 0; late = 0 }
 
-unfoldable pub openedOf : Frame → ℕ → ℕ → ℕ → Frame
-openedOf f period t stamp = record {
+-- P14: read 0, with all times from one period before the frame's start on
+abbrev pub firstReadOf : Plan → ℕ
+firstReadOf plan = plan .tro + plan .period
+
+-- the first packet sets the frame's times; the wait for read 0 begins one period before the frame's start
+unfoldable pub openedOf : Plan → Frame → ℕ → ℕ → Frame
+openedOf plan f t stamp = record {
   held = f .held;
   first = pick (eqb (f .held) 0) t (f .first);
   stamp = pick (eqb (f .held) 0) stamp (f .stamp);
-  phase = pick (eqb (f .held) 0) (phase (grains t) period) (f .phase);
+  phase = pick (eqb (f .held) 0) (phase (grains t) (plan .period)) (f .phase);
   differs = f .differs;
   reads = f .reads;
+  wait = pick (eqb (f .held) 0) (firstReadOf plan * plan .reads .den) (f .wait);
   top = f .top;
   deficit = f .deficit;
   late = f .late;
 }
 
-unfoldable pub countedOf : Frame → ℕ → ℕ → Frame
+-- the first place with another timestamp than place 0: kept from the first hit on, and 0 until then, since place 0 never differs
+abbrev pub differsOf : Frame → ℕ → ℕ
+differsOf f stamp = pick (not (eqb stamp (f .stamp)) && eqb (f .differs) 0) (f .held) (f .differs)
+
+-- one packet more, with the frame's reads before it and the wait for the next. The first late packet is the first with a lack.
+unfoldable pub countedOf : Frame → ℕ → Reads → Frame
 countedOf f stamp reads = record {
   held = f .held + 1;
   first = f .first;
   stamp = f .stamp;
   phase = f .phase;
-  differs = lower (f .differs) (f .held) (not (eqb stamp (f .stamp)));
-  reads = reads;
-  top = max (f .top) (f .held + 1 - reads);
-  deficit = max (f .deficit) (reads - f .held);
-  late = lower (f .late) (f .held) (ltb (f .held) reads);
+  differs = differsOf f stamp;
+  reads = reads .count;
+  wait = reads .wait;
+  top = max (f .top) (f .held + 1 - reads .count);
+  deficit = max (f .deficit) (reads .count - f .held);
+  late = pick (ltb (f .held) (reads .count) && eqb (f .deficit) 0) (f .held) (f .late);
 }
 
--- the frame's reads before an arrival, with all times from one period before the frame's start on
-abbrev pub readsOf : Plan → Frame → ℕ → ℕ
-readsOf plan f t = readsBefore (plan .packets) (plan .tro + plan .period) (plan .reads .num) (plan .reads .den) (grains (t - f .first) + f .phase)
+-- the time that goes by up to a packet, in grains: since the packet before it, which the step is told; for the first of a frame since one
+-- period before the frame's start
+abbrev pub goneOf : Frame → ℕ → ℕ
+goneOf f gone = pick (eqb (f .held) 0) (f .phase) gone
 
-abbrev pub pushOf : Plan → Frame → ℕ → ℕ → Frame
-pushOf plan f t stamp = countedOf (openedOf f (plan .period) t stamp) stamp (readsOf plan (openedOf f (plan .period) t stamp) t)
+-- the frame's reads before it, and the wait
+abbrev pub readsOf : Plan → Frame → ℕ → Reads
+readsOf plan f gone = readsOn (f .reads) (f .wait) (plan .packets) (plan .reads .num) (goneOf f gone * plan .reads .den)
+
+abbrev pub pushOf : Plan → Frame → ℕ → ℕ → ℕ → Frame
+pushOf plan f gone t stamp = countedOf (openedOf plan f t stamp) stamp (readsOf plan (openedOf plan f t stamp) gone)
 
 -- ---- its kind, row and answer
 
 -- P6: "Kinds, tried in this order: 1 short (fewer than n), 2 long (more than
 -- n), 3 stamp (some timestamp differs from the first packet's), 0 whole."
 unfoldable pub kindOf : Frame → ℕ → ℕ
-kindOf f n = pick (ltb (f .held) n) 1 (pick (ltb n (f .held)) 2 (pick (ltb (f .differs) (f .held)) 3 0))
+kindOf f n = pick (ltb (f .held) n) 1 (pick (ltb n (f .held)) 2 (pick (eqb (f .differs) 0) 0 3))
 
 -- V2: "detail (count for 1 and 2, place in the frame, from 0, of the first differing timestamp for 3, else 0)"
 abbrev pub detailOf : Frame → ℕ → ℕ
@@ -142,12 +158,12 @@ abbrev pub noFrames : Frames
 noFrames = record { begun = false; closed = 0; marked = 0; current = emptyOf; buffer = None }
 
 -- P4: in the lead-in a packet is in no frame
-unfoldable pub arriveOf : Plan → Frames → ℕ → ℕ → Frames
-arriveOf plan s t stamp = record {
+unfoldable pub arriveOf : Plan → Frames → ℕ → ℕ → ℕ → Frames
+arriveOf plan s gone t stamp = record {
   begun = s .begun;
   closed = s .closed;
   marked = s .marked;
-  current = pick (s .begun) (pushOf plan (s .current) t stamp) (s .current);
+  current = pick (s .begun) (pushOf plan (s .current) gone t stamp) (s .current);
   buffer = s .buffer;
 }
 
@@ -162,9 +178,9 @@ closeOf plan s t = record {
   buffer = pick (s .begun) (joined (s .buffer) (answerOf plan (s .closed) (s .current))) (s .buffer);
 }
 
-unfoldable pub stepOf : Plan → Frames → ℕ → ℕ → Bool → Frames
+unfoldable pub stepOf : Plan → Frames → ℕ → ℕ → ℕ → Bool → Frames
 unfolding arriveOf closeOf
-stepOf plan s t stamp marker = pick marker (closeOf plan (arriveOf plan s t stamp) t) (arriveOf plan s t stamp)
+stepOf plan s gone t stamp marker = pick marker (closeOf plan (arriveOf plan s gone t stamp) t) (arriveOf plan s gone t stamp)
 
 -- V10: where the open frame began, which holds the last of so many packets since set-up
 abbrev pub beganOf : Frame → ℕ → ℕ
@@ -175,6 +191,6 @@ abbrev pub closedRow : Plan → Frames → ℕ → Row
 closedRow plan s packets = rowOf plan (s .closed) (s .marked) (beganOf (s .current) packets) (s .current)
 
 -- the row that a packet writes, with which so many have come: none, or that of the frame it closes
-unfoldable pub rowsOf : Plan → Frames → ℕ → ℕ → ℕ → Bool → List Row
+unfoldable pub rowsOf : Plan → Frames → ℕ → ℕ → ℕ → ℕ → Bool → List Row
 unfolding arriveOf rowOf
-rowsOf plan s packets t stamp marker = pick (marker && s .begun) (closedRow plan (arriveOf plan s t stamp) packets ∷ []) []
+rowsOf plan s packets gone t stamp marker = pick (marker && s .begun) (closedRow plan (arriveOf plan s gone t stamp) packets ∷ []) []

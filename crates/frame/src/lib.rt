@@ -3,12 +3,13 @@
 // It knows `grain`. It must never know a rate code, a class or a schedule: the period, the packets of a
 // period, the offset and the spacing of the reads and the limit come in a plan.
 ghost use Rattle.laws.specs.Kit.{_≡_, true, _+_, _-_, _≤_, _<_, length, sets};
+ghost use Rattle.laws.specs.Choose.{pick};
 ghost use Rattle.laws.specs.Every.{every};
-ghost use Rattle.grain.specs.Paper.{nanosecond};
 ghost use Rattle.frame.specs.Paper.{bufferNumber, bufferFrame, bufferPlace, hasFailed, isNone};
-ghost use Rattle.frame.specs.Step.{lower, emptyOf, openedOf, countedOf, pushOf, kindOf, detailOf, wholeRow, brokenRow, rowOf};
-ghost use Rattle.frame.specs.Step.{numbersOf, rowWidth, closedRow, answerOf, joined, noFrames, arriveOf, closeOf};
+ghost use Rattle.frame.specs.Step.{emptyOf, openedOf, goneOf, differsOf, countedOf, pushOf, kindOf, detailOf, wholeRow};
+ghost use Rattle.frame.specs.Step.{brokenRow, rowOf, numbersOf, rowWidth, closedRow, answerOf, joined, noFrames, arriveOf, closeOf};
 ghost use Rattle.frame.specs.Range.{Planned, PushAsks, RowAsks, FramesRowAsks, ranges};
+use grain::Reads;
 use grain::Spacing;
 
 // How many numbers a row has: `rowWidth`.
@@ -25,9 +26,9 @@ pub struct Plan {
 }
 
 // The open frame: how many packets it holds; of the first its arrival, timestamp and phase; the place of
-// the first timestamp that differs; the reads before the last packet; the greatest level; the greatest
-// lack of packets at an arrival; the place of the first late packet. A place that is not there yet is the
-// number of packets held.
+// the first timestamp that differs, 0 where none does; the reads before the last packet, and the wait from it
+// to the next, times den; the greatest level; the greatest lack of packets at an arrival; the place of the
+// first late packet, 0 where no packet lacks.
 pub struct Frame {
     pub held: u64,
     pub first: u64,
@@ -35,6 +36,7 @@ pub struct Frame {
     pub phase: u64,
     pub differs: u64,
     pub reads: u64,
+    pub wait: u64,
     pub top: u64,
     pub deficit: u64,
     pub late: u64,
@@ -78,15 +80,11 @@ pub struct Frames {
     pub buffer: Buffer,
 }
 
-// The lowest place that was hit, where `place` is tried next; one more than `place` where none was.
-fn lowest(known: u64, place: u64, hit: bool) -> u64
-    requires { ⌜ place < 1000000000 ⌝ }
-    ensures { λ r. ⌜ r ≡ lower known place hit ⌝ }
+// The place that was hit first: this one, where none was before it.
+fn first_hit(none: bool, place: u64, known: u64) -> u64
+    ensures { λ r. ⌜ r ≡ pick none place known ⌝ }
 {
-    if known < place {
-        return known;
-    }
-    if hit { place } else { place + 1 }
+    if none { place } else { known }
 }
 
 impl Frame {
@@ -100,57 +98,75 @@ impl Frame {
             phase: 0,
             differs: 0,
             reads: 0,
+            wait: 0,
             top: 0,
             deficit: 0,
             late: 0,
         }
     }
 
-    // The first packet sets the frame's times.
-    fn opened(mut self, period: u64, t: u64, stamp: u32) -> Frame
-        requires { ⌜ (nanosecond ≤ period) × (period ≤ 2147483648) ⌝ }
-        ensures { λ r. ⌜ r ≡ openedOf self period t stamp ⌝ }
+    // The first packet sets the frame's times, and the wait for read 0 from one period before the frame's start.
+    fn opened(mut self, plan: Plan, t: u64, stamp: u32) -> Frame
+        requires { ⌜ Planned plan ⌝ }
+        ensures { λ r. ⌜ r ≡ openedOf plan self t stamp ⌝ }
     {
         if self.held == 0 {
             self.first = t;
             self.stamp = stamp;
-            self.phase = grain::frame_phase(t, period);
+            self.phase = grain::frame_phase(t, plan.period);
+            self.wait = (plan.tro + plan.period) * plan.reads.den;
         }
         self
     }
 
-    // One packet more, in a frame whose times are set; `reads` of the frame's reads come before it.
-    fn counted(mut self, stamp: u32, reads: u64) -> Frame
+    // The grains that go by up to the next packet: `gone` since the packet before, or for the first those since a period before the start.
+    fn gone_by(self, gone: u64) -> u64
+        ensures { λ r. ⌜ r ≡ goneOf self gone ⌝ }
+    {
+        if self.held == 0 { self.phase } else { gone }
+    }
+
+    // The place of the first timestamp that differs, the next packet's included.
+    fn differing(self, stamp: u32) -> u64
+        ensures { λ r. ⌜ r ≡ differsOf self stamp ⌝ }
+    {
+        if stamp != self.stamp {
+            return first_hit(self.differs == 0, self.held, self.differs);
+        }
+        self.differs
+    }
+
+    // One packet more, in a frame whose times are set, with the reads before it and the wait for the next. It lacks packets or it
+    // has a level above 0, never both; the first that lacks is the first late one.
+    fn counted(self, stamp: u32, reads: Reads) -> Frame
         requires { ⌜ self .held < 1000000000 ⌝ }
         ensures { λ r. ⌜ r ≡ countedOf self stamp reads ⌝ }
     {
         let place = self.held;
-        let count = place + 1;
-        self.differs = lowest(self.differs, place, stamp != self.stamp);
-        self.late = lowest(self.late, place, place < reads);
-        self.top = laws::greater(self.top, laws::less(count, reads));
-        self.deficit = laws::greater(self.deficit, laws::less(reads, place));
-        self.reads = reads;
-        self.held = count;
-        self
+        let held = place + 1;
+        let count = reads.count;
+        let mut f = self;
+        f.differs = self.differing(stamp);
+        f.reads = count;
+        f.wait = reads.wait;
+        f.held = held;
+        if count <= place {
+            f.top = laws::greater(f.top, held - count);
+            return f;
+        }
+        f.late = first_hit(f.deficit == 0, place, f.late);
+        f.deficit = laws::greater(f.deficit, count - place);
+        f
     }
 
-    // One packet more. Its time is taken from the frame's first packet on, so that nothing is long.
-    pub fn push(self, plan: Plan, t: u64, stamp: u32) -> Frame
-        requires { ⌜ Planned plan × PushAsks plan self t ⌝ }
-        ensures { λ r. ⌜ r ≡ pushOf plan self t stamp ⌝ }
+    // One packet more, `gone` grains after the one before. What goes by is taken off the wait, so that nothing is long.
+    pub fn push(self, plan: Plan, gone: u64, t: u64, stamp: u32) -> Frame
+        requires { ⌜ Planned plan × PushAsks plan self gone ⌝ }
+        ensures { λ r. ⌜ r ≡ pushOf plan self gone t stamp ⌝ }
     {
-        let f = self.opened(plan.period, t, stamp);
-        let x = grain::GRAINS_PER_NANOSECOND * (t - f.first) + f.phase;
-        let base = plan.tro + plan.period;
-        let reads = grain::reads_before(
-            f.reads,
-            plan.packets,
-            base,
-            plan.reads.num,
-            plan.reads.den,
-            x,
-        );
+        let f = self.opened(plan, t, stamp);
+        let by = f.gone_by(gone) * plan.reads.den;
+        let reads = grain::reads_on(f.reads, f.wait, plan.packets, plan.reads.num, by);
         f.counted(stamp, reads)
     }
 
@@ -164,10 +180,7 @@ impl Frame {
         if n < self.held {
             return 2;
         }
-        if self.differs < self.held {
-            return 3;
-        }
-        0
+        if self.differs == 0 { 0 } else { 3 }
     }
 
     // The place of the first differing timestamp for kind 3, the count for 1 and 2, else 0.
@@ -380,6 +393,8 @@ impl Frames {
         requires { ⌜ Planned plan ⌝ }
         ensures { λ r. ⌜ r ≡ every (ranges plan self first last packets) ⌝ }
     {
+        let periods = 2 * plan.period;
+        let longest = periods * plan.reads.den;
         let open = self.current;
         let answer = self.buffer;
         let lead_in = !self.begun;
@@ -391,8 +406,9 @@ impl Frames {
             & (open.held <= packets)
             & (none | (self.marked <= open.first))
             & (none | (open.first <= last))
-            & (open.phase <= 2 * plan.period)
+            & (open.phase <= periods)
             & (open.reads <= plan.packets)
+            & (open.wait <= longest)
             & (open.differs <= open.held)
             & (open.top <= open.held)
             & (open.late <= open.held)
@@ -402,13 +418,13 @@ impl Frames {
     }
 
     // A packet arrives: it is in the open frame, or in the lead-in and in none.
-    pub fn arrive(mut self, plan: Plan, t: u64, stamp: u32) -> Frames
-        requires { ⌜ Planned plan × (self .begun ≡ true → PushAsks plan (self .current) t) ⌝ }
-        ensures { λ r. ⌜ r ≡ arriveOf plan self t stamp ⌝ }
+    pub fn arrive(mut self, plan: Plan, gone: u64, t: u64, stamp: u32) -> Frames
+        requires { ⌜ Planned plan × (self .begun ≡ true → PushAsks plan (self .current) gone) ⌝ }
+        ensures { λ r. ⌜ r ≡ arriveOf plan self gone t stamp ⌝ }
     {
         if self.begun {
             let frame = self.current;
-            let next = frame.push(plan, t, stamp);
+            let next = frame.push(plan, gone, t, stamp);
             self.current = next;
         }
         self

@@ -2,6 +2,7 @@
 -- apart, F being one period or two.
 use Rattle.laws.specs.Kit.{ℕ, _+_, _*_, _≤_, _<_, arith, mul-le-mul}
 
--- x lies at most one history and two frames after the first read
-pub reads-fit : (x den num : ℕ) → x ≤ 16204294967296 → den ≤ 500000 → num ≤ 103079215104 → x * den + num < 18446744073709551616
-reads-fit x den num h k l = omega (arith, mul-le-mul h k)
+-- what goes by up to a packet is at most one history, or two frames
+pub reads-fit : (count gone den num : ℕ) → count ≤ 20000 → gone ≤ 16204294967296 → den ≤ 500000 → num ≤ 103079215104
+    → count + gone * den + num < 18446744073709551616
+reads-fit count gone den num c h k l = omega (arith, mul-le-mul h k)

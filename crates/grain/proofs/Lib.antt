@@ -4,6 +4,8 @@ pub mod Rounding
 pub mod EncodedTime
 pub mod InstantCount
 pub mod ReadCount
+pub mod Carried
+pub mod Onward
 pub mod SignedRange
 pub mod Extremes
 pub mod Examples

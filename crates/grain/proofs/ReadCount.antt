@@ -1,8 +1,9 @@
 -- Reads before a time, counted one by one, are the closed form: read j is before x exactly when j·num is below the reach (x − base)·den.
-use Rattle.laws.specs.Kit.{ℕ, suc, _+_, _*_, _-_, _/_, _≤_, _<_, min, _≡_, sym, ap, _∙_, arith, le-div-iff-mul-le, mul-le-mul-right}
+use Rattle.laws.specs.Kit.{ℕ, suc, _+_, _*_, _-_, _≤_, _<_, min, _≡_, sym, ap, _∙_, arith, le-div-iff-mul-le, mul-le-mul-right}
 use Rattle.laws.specs.Kit.{add-sub-of-le, add-mul, suc-mul, zero-mul, sub-eq-zero-of-le, decLe, ltb-true, lt-ltb}
 use Rattle.laws.proofs.Count.{count-up-to}
 use Rattle.grain.specs.Paper.{readBefore, readsBefore}
+use Rattle.grain.specs.Carry.{nextRead}
 
 module _ (n base num den : ℕ) (p : 0 < num) (x : ℕ) where
   reach : ℕ
@@ -15,17 +16,17 @@ module _ (n base num den : ℕ) (p : 0 < num) (x : ℕ) where
   no-reach l = ap (λ (z : ℕ). z * den) (sub-eq-zero-of-le {n = x} {m = base} l) ∙ zero-mul den
 
   -- the closed form: the whole spacings in the reach, a begun one counted
-  abbrev pub closed : ℕ
-  closed = ((x - base) * den + (num - 1)) / num
+  abbrev closed : ℕ
+  closed = nextRead base num den x
 
-  before-below : (j : ℕ) → base * den + j * num < x * den → j < closed
+  pub before-below : (j : ℕ) → base * den + j * num < x * den → j < closed
   before-below j h = le-div-iff-mul-le p .1 (go (decLe base x))
     where
       go : Dec (base ≤ x) → suc j * num ≤ (x - base) * den + (num - 1)
       go (yes l) = omega (arith, from-base l, suc-mul j num)
       go (no g) = let l : x ≤ base = omega arith in absurd (omega (arith, mul-le-mul-right den l))
 
-  below-before : (j : ℕ) → j < closed → base * den + j * num < x * den
+  pub below-before : (j : ℕ) → j < closed → base * den + j * num < x * den
   below-before j h = go (decLe base x) (le-div-iff-mul-le p .0 h)
     where
       go : Dec (base ≤ x) → suc j * num ≤ (x - base) * den + (num - 1) → base * den + j * num < x * den

@@ -1,1 +1,2 @@
 pub mod Paper
+pub mod Carry

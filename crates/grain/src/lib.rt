@@ -5,7 +5,8 @@
 ghost use Rattle.laws.specs.Kit.{_≡_, _+_, _*_, _-_, _/_, _%_, _≤_, _<_, subℕ};
 ghost use mir.Syntax.{w64};
 ghost use mir.Val.{ofZ};
-ghost use Rattle.grain.specs.Paper.{nanosecond, grains, phase, wrap, sinceEncoded, latency, instants as instantsOf, readsBefore};
+ghost use Rattle.grain.specs.Paper.{nanosecond, grains, phase, wrap, sinceEncoded, latency};
+ghost use Rattle.grain.specs.Carry.{dividedOf, readsOn};
 
 // The one home of both numbers: every crate that needs them takes them from here.
 pub const GRAINS_PER_NANOSECOND: u64 = 27;
@@ -96,43 +97,75 @@ pub fn bits(x: i64) -> u64
     }
 }
 
-// x / num, where `known` may be it already or one less. A division is the costly part, and from one packet
-// to the next the quotient mostly stays or grows by one: those are tried first. Any `known` gives the
-// same answer.
-pub fn divide_near(known: u64, x: u64, num: u64) -> u64
-    requires { ⌜ (0 < num) × (known * num < 18446744073709551616) ⌝ }
-    ensures { λ r. ⌜ r ≡ x / num ⌝ }
-{
-    let low = known * num;
-    if low <= x {
-        let past = x - low;
-        if past < num {
-            return known;
-        }
-        if past - num < num {
-            return known + 1;
-        }
-    }
-    x / num
+// x in whole num's, and what is left.
+pub struct Division {
+    pub whole: u64,
+    pub rest: u64,
 }
 
-// How many of the instants k·num/den, k = 1, 2, .., are at most e; `known` is a guess.
-pub fn instants(known: u64, e: u64, num: u64, den: u64) -> u64
-    requires { ⌜ (0 < num) × (known * num < 18446744073709551616) × (e * den < 18446744073709551616) ⌝ }
-    ensures { λ r. ⌜ r ≡ instantsOf e num den ⌝ }
+// A division is the costly part, and from one packet to the next there are mostly no whole num's, one or two: those are tried first.
+pub fn divided(x: u64, num: u64) -> Division
+    requires { ⌜ 0 < num ⌝ }
+    ensures { λ r. ⌜ r ≡ dividedOf x num ⌝ }
 {
-    divide_near(known, e * den, num)
+    if x < num {
+        return Division { whole: 0, rest: x };
+    }
+    let once = x - num;
+    if once < num {
+        return Division {
+            whole: 1,
+            rest: once,
+        };
+    }
+    let twice = once - num;
+    if twice < num {
+        return Division {
+            whole: 2,
+            rest: twice,
+        };
+    }
+    Division {
+        whole: x / num,
+        rest: x % num,
+    }
 }
 
-// How many of the reads base + j·num/den, j = 0 .. n - 1, are strictly before x; `known` is a guess.
-pub fn reads_before(known: u64, n: u64, base: u64, num: u64, den: u64, x: u64) -> u64
-    requires { ⌜ (0 < num) × (known * num < 18446744073709551616) × ((x - base) * den + num < 18446744073709551616) ⌝ }
-    ensures { λ r. ⌜ r ≡ readsBefore n base num den x ⌝ }
+// Reads that are over, and how long it is to the next, times den.
+pub struct Reads {
+    pub count: u64,
+    pub wait: u64,
+}
+
+// Of n reads `count` are over, and the next is `wait` away: `gone` goes by, told times den as `wait` is. Mostly no read comes by then, one
+// or two: those cost no division.
+pub fn reads_on(count: u64, wait: u64, n: u64, num: u64, gone: u64) -> Reads
+    requires { ⌜ (0 < num) × (count ≤ n) × (count + gone + num < 18446744073709551616) ⌝ }
+    ensures { λ r. ⌜ r ≡ readsOn count wait n num gone ⌝ }
 {
-    if x <= base {
-        return 0;
+    if gone <= wait {
+        return Reads {
+            count: count,
+            wait: wait - gone,
+        };
     }
-    let reach = (x - base) * den;
-    let begun = divide_near(known, reach + (num - 1), num);
-    if begun < n { begun } else { n }
+    let over = gone - wait;
+    if over <= num {
+        return Reads {
+            count: laws::lesser(n, count + 1),
+            wait: num - over,
+        };
+    }
+    let more = over - num;
+    if more <= num {
+        return Reads {
+            count: laws::lesser(n, count + 2),
+            wait: num - more,
+        };
+    }
+    let passed = (over + (num - 1)) / num;
+    Reads {
+        count: laws::lesser(n, count + passed),
+        wait: passed * num - over,
+    }
 }

@@ -1,10 +1,11 @@
 -- A past passes its tests exactly where it is in range, fact by fact; that of no packets is, and an accepted packet keeps it so.
-use Rattle.laws.specs.Kit.{_≡_, refl, true, ℕ, _≤_, arith, eqb}
+use Rattle.laws.specs.Kit.{_≡_, refl, Bool, true, false, ℕ, _-_, _≤_, arith, eqb}
+use Rattle.laws.specs.Choose.{pick}
 use Rattle.laws.proofs.Choose.{pick-either}
 use Rattle.laws.specs.Every.{every, All}
 use Rattle.laws.proofs.Every.{facts, of-facts, _and_}
 use Rattle.packet.specs.declared.Past.{Past}
-use Rattle.packet.specs.Step.{nothing, firstOf, nextOf}
+use Rattle.packet.specs.Step.{nothing, firstOf, sinceOf, nextOf}
 use Rattle.packet.specs.Range.{ranges, Ranged}
 use Rattle.packet.proofs.Refusals.{Accepted}
 
@@ -33,3 +34,11 @@ ranged-next past t marker x a = record {
   order = first-order past t marker x a;
   near = a .in-time;
 }
+
+-- 600 s lie between the first packet and this one, so no more between this one and the one before
+pub since-near : (past : Past) (t marker : ℕ) → Ranged past → Accepted past t marker → sinceOf past t ≤ 600000000000
+since-near past t marker x a = go (eqb (past .packets) 0) (a .in-time)
+  where
+    go : (z : Bool) → t - pick z t (past .first) ≤ 600000000000 → pick z 0 (t - past .last) ≤ 600000000000
+    go true h = omega arith
+    go false h = omega (arith, x .order)

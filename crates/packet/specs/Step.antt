@@ -21,6 +21,10 @@ firstOf past t = pick (eqb (past .packets) 0) t (past .first)
 abbrev pub elapsedOf : Past → ℕ → ℕ
 elapsedOf past t = t - firstOf past t
 
+-- nanoseconds from the packet before to one at t; 0 for the first
+abbrev pub sinceOf : Past → ℕ → ℕ
+sinceOf past t = pick (eqb (past .packets) 0) 0 (t - past .last)
+
 -- N7: the number by which a packet is refused, 0 where it is not
 unfoldable pub refusalOf : Past → ℕ → ℕ → ℕ
 refusalOf past t marker =

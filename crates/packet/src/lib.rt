@@ -6,7 +6,7 @@ ghost use Rattle.laws.specs.Every.{every};
 ghost use Rattle.packet.specs.Paper.{OneLength, lent, packets};
 ghost use Rattle.packet.specs.Quick.{startOf, takesOf, runsOf, ranOf, admitsOf, closedBy};
 ghost use Rattle.packet.specs.Range.{ranges};
-ghost use Rattle.packet.specs.Step.{nothing, firstOf, elapsedOf, numberOf, nextOf, noPackets, tallied, Countable, scanOf, scannedOf};
+ghost use Rattle.packet.specs.Step.{nothing, firstOf, elapsedOf, sinceOf, numberOf, nextOf, noPackets, tallied, Countable, scanOf, scannedOf};
 
 // A packet: its arrival in nanoseconds since the SMPTE epoch, its RTP timestamp, and its marker, which is 0 or 1 where it is accepted.
 pub struct Packet {
@@ -92,6 +92,17 @@ impl Past {
         ensures { λ r. ⌜ r ≡ elapsedOf self t ⌝ }
     {
         laws::less(t, self.first_with(t))
+    }
+
+    // Nanoseconds from the packet before to one at `t`, which is no earlier; 0 for the first.
+    pub fn since(self, t: u64) -> u64
+        requires { ⌜ self .last ≤ t ⌝ }
+        ensures { λ r. ⌜ r ≡ sinceOf self t ⌝ }
+    {
+        if self.packets == 0 {
+            return 0;
+        }
+        t - self.last
     }
 
     // Whether each number is in its range: docs/STATE.md.

@@ -18,7 +18,7 @@ use Rattle.timing.specs.Feed.{Outcome, refusedBy, acceptedAs, byScan, feedOf}
 use Rattle.probe.specs.declared.Answer.{Answer}
 use Rattle.probe.specs.declared.Held.{Held}
 use Rattle.probe.specs.declared.Held.the-variants.{Known, Nothing}
-use Rattle.probe.specs.Words.{heldBy}
+use Rattle.probe.specs.Words.{stateWords, heldBy}
 use Rattle.probe.specs.Calls.{refused, accepted, byFed, byHeld, callOf, answer, asked, askedOf}
 
 -- ---- by what is found
@@ -43,9 +43,9 @@ module _ (ts ss ms : List ℕ) where
   fed words rows out s o = asked (byFed words rows out s (o .answer) (o .rows))
 
   told-by : (words : List ℕ) (rows : List ℤ) (out : List ℕ) → asked (callOf words rows out ts ss ms)
-      ≡ answered (length rows) (length out) (heldBy (take 32 words))
+      ≡ answered (length rows) (length out) (heldBy (take stateWords words))
   unfolding callOf feedOf
-  told-by words rows out = go (heldBy (take 32 words))
+  told-by words rows out = go (heldBy (take stateWords words))
     where
       room : (place : ℕ) (t : State) (after : List ℤ) (b : Bool)
           → asked (pick b (accepted words rows out t after) (refused words rows out 15 place)) ≡ pick b (answer 0 0) (answer 15 place)
@@ -70,7 +70,7 @@ module _ (ts ss ms : List ℕ) where
       go Nothing = refl
       go (Known s) = found s (inRange s) (scanned s)
 
-  asked-by : (words : List ℕ) (room space : ℕ) → askedOf words ts ss ms room space ≡ answered room space (heldBy (take 32 words))
+  asked-by : (words : List ℕ) (room space : ℕ) → askedOf words ts ss ms room space ≡ answered room space (heldBy (take stateWords words))
   unfolding askedOf
   asked-by words room space =
       told-by words (replicate room (pos 0)) (replicate space 0)
@@ -84,13 +84,13 @@ module _ (ts ss ms : List ℕ) where
   -- ---- one law for each way out
 
   module _ (words : List ℕ) (room space : ℕ) where
-    by-held : {h : Held} → h ≡ heldBy (take 32 words) → answered room space h ≡ askedOf words ts ss ms room space
+    by-held : {h : Held} → h ≡ heldBy (take stateWords words) → answered room space h ≡ askedOf words ts ss ms room space
     by-held e = ap (answered room space) e ∙ sym (asked-by words room space)
 
-    pub asked-nothing : {h : Held} → h ≡ heldBy (take 32 words) → h ≡ Nothing → answer 9 0 ≡ askedOf words ts ss ms room space
+    pub asked-nothing : {h : Held} → h ≡ heldBy (take stateWords words) → h ≡ Nothing → answer 9 0 ≡ askedOf words ts ss ms room space
     asked-nothing e f = by-held (sym f ∙ e)
 
-    module _ {h : Held} {s : State} (e : h ≡ heldBy (take 32 words)) (f : h ≡ Known s) where
+    module _ {h : Held} {s : State} (e : h ≡ heldBy (take stateWords words)) (f : h ≡ Known s) where
       known : answered room space (Known s) ≡ askedOf words ts ss ms room space
       known = by-held (sym f ∙ e)
 

@@ -12,7 +12,7 @@ use Rattle.timing.proofs.Feeding.{refused-stays}
 use Rattle.probe.specs.declared.Answer.{Answer}
 use Rattle.probe.specs.declared.Held.{Held}
 use Rattle.probe.specs.declared.Held.the-variants.{Known, Nothing}
-use Rattle.probe.specs.Words.{wordsOf, heldBy}
+use Rattle.probe.specs.Words.{stateWords, wordsOf, heldBy}
 use Rattle.probe.specs.Calls.{wordsNumber, setUpLeft, SetUpGives, CallOutcome, refused, accepted, byFed, byHeld, callOf, CallGives, askedOf}
 use Rattle.probe.proofs.RoundTrip.{length-words, only-words-hold}
 use Rattle.probe.proofs.Asking.{by-lengths}
@@ -26,17 +26,17 @@ module _ (x : StreamNumbers) (words : List ℕ) where
 
   pub not-set-up : (n : ℕ) → setUpOf x ≡ n → 0 < n → SetUpGives x words n words
   unfolding wordsNumber
-  not-set-up n e p = by-number n (set-up-first x 32 (length words) e p) p
+  not-set-up n e p = by-number n (set-up-first x stateWords (length words) e p) p
 
-  pub no-room : setUpOf x ≡ 0 → length words < 32 → SetUpGives x words 15 words
+  pub no-room : setUpOf x ≡ 0 → length words < stateWords → SetUpGives x words 15 words
   unfolding wordsNumber
-  no-room e h = by-number 15 (room-short x 32 (length words) e h) (omega arith)
+  no-room e h = by-number 15 (room-short x stateWords (length words) e h) (omega arith)
 
-  pub set-up : {s : State} {after : List ℕ} → setUpOf x ≡ 0 → 32 ≤ length words → s ≡ freshOf x → after ≡ sets words 0 (wordsOf s)
+  pub set-up : {s : State} {after : List ℕ} → setUpOf x ≡ 0 → stateWords ≤ length words → s ≡ freshOf x → after ≡ sets words 0 (wordsOf s)
       → SetUpGives x words 0 after
   unfolding wordsNumber setUpLeft
   set-up e h f g =
-      let fine : wordsNumber x (length words) ≡ 0 = room-there x 32 (length words) e h in
+      let fine : wordsNumber x (length words) ≡ 0 = room-there x stateWords (length words) e h in
       record { number-is = sym fine; words-are = g ∙ ap (λ (t : State). sets words 0 (wordsOf t)) f ∙ sym (rw fine) }
 
 -- ---- a call
@@ -49,24 +49,24 @@ is t e = record {
   out-is = ap (λ (x : CallOutcome). x .out) e;
 }
 
-pub enough-words : (words : List ℕ) {h : Held} {s : State} → h ≡ heldBy (take 32 words) → h ≡ Known s → 32 ≤ length words
+pub enough-words : (words : List ℕ) {h : Held} {s : State} → h ≡ heldBy (take stateWords words) → h ≡ Known s → stateWords ≤ length words
 enough-words words {s = s} e f =
-    let w = ap length (only-words-hold (take 32 words) s (sym e ∙ f)) in
-    omega (arith, w, length-words s, length-take 32 words)
+    let w = ap length (only-words-hold (take stateWords words) s (sym e ∙ f)) in
+    omega (arith, w, length-words s, length-take stateWords words)
 
 module _ (words : List ℕ) (rows : List ℤ) (out ts ss ms : List ℕ) where
-  by-held : {h : Held} → h ≡ heldBy (take 32 words) → byHeld words rows out ts ss ms h ≡ callOf words rows out ts ss ms
+  by-held : {h : Held} → h ≡ heldBy (take stateWords words) → byHeld words rows out ts ss ms h ≡ callOf words rows out ts ss ms
   unfolding callOf
   by-held e = ap (byHeld words rows out ts ss ms) e
 
-  pub no-state : {h : Held} → h ≡ heldBy (take 32 words) → h ≡ Nothing → CallGives (callOf words rows out ts ss ms) 9 words rows out
+  pub no-state : {h : Held} → h ≡ heldBy (take stateWords words) → h ≡ Nothing → CallGives (callOf words rows out ts ss ms) 9 words rows out
   no-state e f = is (refused words rows out 9 0) (by-held (sym f ∙ e))
 
   -- where there is no room for the summary the call is refused, whatever the words hold
   short : length out < summaryWidth → callOf words rows out ts ss ms
       ≡ refused words rows out (callOf words rows out ts ss ms .number) (callOf words rows out ts ss ms .place)
   unfolding callOf
-  short h = go (heldBy (take 32 words))
+  short h = go (heldBy (take stateWords words))
     where
       fed : (s : State) (b : Fed) (after : List ℤ) → byFed words rows out s b after
           ≡ refused words rows out (byFed words rows out s b after .number) (byFed words rows out s b after .place)
@@ -90,7 +90,7 @@ module _ (words : List ℕ) (rows : List ℤ) (out ts ss ms : List ℕ) where
         out-is = r .out-is;
       }
 
-  module _ {h : Held} {s : State} {b : Fed} {after : List ℤ} (e : h ≡ heldBy (take 32 words)) (f : h ≡ Known s)
+  module _ {h : Held} {s : State} {b : Fed} {after : List ℤ} (e : h ≡ heldBy (take stateWords words)) (f : h ≡ Known s)
       (g : FeedGives (feedOf s rows ts ss ms) b after) where
     by-fed : byFed words rows out s b (feedOf s rows ts ss ms .rows) ≡ callOf words rows out ts ss ms
     by-fed = ap (λ (z : Fed). byFed words rows out s z (feedOf s rows ts ss ms .rows)) (g .answer-is) ∙ by-held (sym f ∙ e)

@@ -12,10 +12,10 @@ use Rattle.timing.specs.declared.StreamNumbers.{StreamNumbers}
 use Rattle.limits.specs.Steps.{ParametersHeld}
 use Rattle.timing.specs.declared.Rules.{Rules}
 use Rattle.timing.specs.declared.State.{State}
-use Rattle.timing.specs.Step.{arriveOf, markOf, stepOf, stateAfter}
+use Rattle.timing.specs.Step.{goneOf, arriveOf, markOf, stepOf, stateAfter}
 use Rattle.timing.proofs.Running.{step-numbers}
 use Rattle.probe.specs.declared.Held.the-variants.{Known}
-use Rattle.probe.specs.Words.{wordsOf, heldBy}
+use Rattle.probe.specs.Words.{stateWords, wordsOf, heldBy}
 use Rattle.probe.specs.Dealt.{Stamped}
 use Rattle.probe.proofs.RoundTrip.{Narrow, length-words, words-hold}
 
@@ -30,7 +30,9 @@ stamp-step rules s p h k = go (marked p)
     opened true = h
     opened false = k
 
-    pushed : (b : Bool) → pick b (F.pushOf (rules .plan) (s .frames .current) (p .time) (p .stamp)) (s .frames .current) .stamp < 4294967296
+    pushed : (b : Bool)
+        → pick b (F.pushOf (rules .plan) (s .frames .current) (goneOf s (p .time)) (p .time) (p .stamp)) (s .frames .current) .stamp
+        < 4294967296
     pushed true = opened (eqb (s .frames .current .held) 0)
     pushed false = k
 
@@ -52,9 +54,9 @@ narrow-after (p ∷ l) rules s h f = narrow-after l rules (stepOf rules s p) (h 
 
 -- ---- words that were laid in front are read again
 
-pub laid-hold : (words : List ℕ) (s : State) → 32 ≤ length words → Narrow s → heldBy (take 32 (sets words 0 (wordsOf s))) ≡ Known s
+pub laid-hold : (words : List ℕ) (s : State) → stateWords ≤ length words → Narrow s → heldBy (take stateWords (sets words 0 (wordsOf s))) ≡ Known s
 laid-hold words s h f =
     let long = length-words s in
-    ap (λ (l : List ℕ). heldBy (take 32 l)) (sets-front (wordsOf s) words (omega arith))
-    ∙ ap heldBy (take-at (wordsOf s) (drop (length (wordsOf s)) words) 32 long)
+    ap (λ (l : List ℕ). heldBy (take stateWords l)) (sets-front (wordsOf s) words (omega arith))
+    ∙ ap heldBy (take-at (wordsOf s) (drop (length (wordsOf s)) words) stateWords long)
     ∙ words-hold s f

@@ -17,7 +17,7 @@ use Rattle.timing.proofs.Feeding.{accepted-from, feed-slices}
 use Rattle.timing.proofs.Accepting.{dealt}
 use Rattle.probe.specs.declared.Held.{Held}
 use Rattle.probe.specs.declared.Held.the-variants.{Known, Nothing}
-use Rattle.probe.specs.Words.{heldBy, Holds, HoldNone}
+use Rattle.probe.specs.Words.{stateWords, heldBy, Holds, HoldNone}
 use Rattle.probe.specs.Calls.{wordsNumber, setUpLeft, CallOutcome, refused, accepted, byFed, byHeld, callOf, Unchanged}
 use Rattle.probe.specs.Dealt.{Lent, lentPackets, asCall, AllWhole, told, Dealt, no-call, one-call}
 use Rattle.probe.proofs.RoundTrip.{Narrow}
@@ -27,11 +27,11 @@ use Rattle.probe.proofs.Carrying.{narrow-after, laid-hold}
 -- ---- set-up
 
 -- the words that set-up leaves hold the fresh state
-pub set-up-holds : (x : StreamNumbers) (words : List ℕ) → ParametersHeld (x .parameters) → setUpOf x ≡ 0 → 32 ≤ length words
+pub set-up-holds : (x : StreamNumbers) (words : List ℕ) → ParametersHeld (x .parameters) → setUpOf x ≡ 0 → stateWords ≤ length words
     → (wordsNumber x (length words) ≡ 0) × Holds (setUpLeft x words) (freshOf x)
 unfolding wordsNumber setUpLeft
 set-up-holds x words f e h =
-    let fine : wordsNumber x (length words) ≡ 0 = room-there x 32 (length words) e h in
+    let fine : wordsNumber x (length words) ≡ 0 = room-there x stateWords (length words) e h in
     let fresh = laid-hold words (freshOf x) h (record { numbers = f; stamp = omega arith }) in
     (fine, rw fine fresh)
 
@@ -41,7 +41,7 @@ module _ (words : List ℕ) (rows : List ℤ) (out ts ss ms : List ℕ) where
   -- "A refused call [..] state and rows unchanged": whatever number but 0 is returned
   pub refused-changes-nothing : (callOf words rows out ts ss ms .number ≡ 0 → ⊥) → Unchanged words rows out (callOf words rows out ts ss ms)
   unfolding callOf
-  refused-changes-nothing = go (heldBy (take 32 words))
+  refused-changes-nothing = go (heldBy (take stateWords words))
     where
       room : (place : ℕ) (t : State) (after : List ℤ) (b : Bool)
           → (pick b (accepted words rows out t after) (refused words rows out 15 place) .number ≡ 0 → ⊥)
@@ -97,14 +97,14 @@ carried (c ∷ cs) s t words written (call {t = mid} {more = more} g rest) w f e
     let after = sets (c .rows) 0 (writes s (asCall c)) in
     let now = as-accepted words (c .rows) (c .out) (c .ts) (c .ss) (c .ms) s e (w .0 .nine) mid after fed in
     let left = ap (λ (x : CallOutcome). x .words) now in
-    let holds = ap (λ (l : List ℕ). heldBy (take 32 l)) left ∙ laid-hold words mid (enough-words words refl e) narrow in
+    let holds = ap (λ (l : List ℕ). heldBy (take stateWords l)) left ∙ laid-hold words mid (enough-words words refl e) narrow in
     let on = carried cs mid t (told words c .words) more rest (w .1) narrow holds in
     (on .0, one-call s e (ap (λ (x : CallOutcome). x .number) now) (ap (λ (x : CallOutcome). x .rows) now) (on .1), on .2)
 
 -- "An accepted list of packets dealt out in order over any calls gives the rows, end state and verdicts of one call with the whole list.":
 -- from the words that set-up leaves, each call is accepted, what they write to the rows is the one call's, and the words at the end hold
 -- its state
-pub dealt-over-c-calls : (h : AcceptedHistory) → ParametersHeld (h .stream .parameters) → (words : List ℕ) → 32 ≤ length words
+pub dealt-over-c-calls : (h : AcceptedHistory) → ParametersHeld (h .stream .parameters) → (words : List ℕ) → stateWords ≤ length words
     → (cs : List Lent) → AllWhole cs → allOf (map asCall cs) ≡ h .packets → Rooms (freshOf (h .stream)) (map asCall cs)
     → (end : List ℕ) × Dealt (setUpLeft (h .stream) words) cs end (numbers (rowsOfAll h)) × Holds end (reached h)
 dealt-over-c-calls h f words enough cs w all room =

@@ -14,7 +14,7 @@ use Rattle.limits.specs.declared.Parameters.{Parameters}
 use Rattle.limits.specs.Paper.{given}
 use Rattle.limits.specs.Steps.{ParametersHeld}
 use Rattle.probe.specs.declared.Held.the-variants.{Known, Nothing}
-use Rattle.probe.specs.Words.{wordsOf, networkIn, bufferIn, stateIn, same, heldBy}
+use Rattle.probe.specs.Words.{stateWords, wordsOf, networkIn, bufferIn, stateIn, same, heldBy}
 use Rattle.probe.proofs.Alike.{alike, alike-only, unequal}
 
 -- ---- what the comparison says of the words
@@ -34,14 +34,14 @@ module _ (w : List ℕ) {s : State} {again : List ℕ} {t : Bool} (r : s ≡ sta
   pub held-nothing : t ≡ false → Nothing ≡ heldBy w
   held-nothing e = sym (held-by w (compared ∙ e))
 
-pub length-words : (s : State) → length (wordsOf s) ≡ 32
+pub length-words : (s : State) → length (wordsOf s) ≡ stateWords
 unfolding wordsOf
 length-words s = refl
 
-pub too-few : (words : List ℕ) → length words < 32 → heldBy (take 32 words) ≡ Nothing
+pub too-few : (words : List ℕ) → length words < stateWords → heldBy (take stateWords words) ≡ Nothing
 too-few words h =
-    let w = take 32 words in
-    held-by w (unequal (wordsOf (stateIn w)) w (λ e. omega (arith, length-words (stateIn w), length-take 32 words)))
+    let w = take stateWords words in
+    held-by w (unequal (wordsOf (stateIn w)) w (λ e. omega (arith, length-words (stateIn w), length-take stateWords words)))
 
 -- ---- reading undoes writing
 

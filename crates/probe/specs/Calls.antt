@@ -11,13 +11,13 @@ use Rattle.timing.specs.Feed.{feedOf}
 use Rattle.probe.specs.declared.Answer.{Answer}
 use Rattle.probe.specs.declared.Held.{Held}
 use Rattle.probe.specs.declared.Held.the-variants.{Known, Nothing}
-use Rattle.probe.specs.Words.{wordsOf, heldBy}
+use Rattle.probe.specs.Words.{stateWords, wordsOf, heldBy}
 
 -- ---- set-up
 
 -- X8: 1 to 7; then 15 where fewer words are lent than a state is
 unfoldable pub wordsNumber : StreamNumbers → ℕ → ℕ
-wordsNumber x room = orElse (setUpNumber (setUpAs x)) (pick (leb 32 room) 0 15)
+wordsNumber x room = orElse (setUpNumber (setUpAs x)) (pick (leb stateWords room) 0 15)
 
 -- accepted, the fresh state's words in front
 unfoldable pub setUpLeft : StreamNumbers → List ℕ → List ℕ
@@ -60,7 +60,7 @@ module _ (words : List ℕ) (rows : List ℤ) (out : List ℕ) where
 
     unfoldable pub callOf : CallOutcome
     unfolding heldBy feedOf wordsOf summaryWith
-    callOf = byHeld (heldBy (take 32 words))
+    callOf = byHeld (heldBy (take stateWords words))
 
 -- the lent slices are as they were
 abbrev pub Unchanged : List ℕ → List ℤ → List ℕ → CallOutcome → Type 0

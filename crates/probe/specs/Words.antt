@@ -1,4 +1,4 @@
--- A state as 32 words, one for each of its numbers in the order of docs/STATE.md, and the state that lent words hold.
+-- A state as words, one for each of its numbers in the order of docs/STATE.md, and the state that lent words hold.
 use Rattle.laws.specs.Kit.{_≡_, Bool, true, false, _&&_, List, [], _∷_, ℕ, _%_, eqb, getD, take}
 use Rattle.laws.specs.Choose.{pick}
 use Rattle.laws.specs.Every.{values}
@@ -36,6 +36,10 @@ verdictWords s =
 unfoldable pub wordsOf : State → List ℕ
 wordsOf s = values (table s)
 
+-- how many they are, for every state: `length-words` in proofs/RoundTrip.antt
+abbrev pub stateWords : ℕ
+stateWords = 33
+
 -- ---- words read as a state, whatever they are: what a field has no room for is left out, and a number that no answer has counts
 -- as the last one's
 
@@ -66,11 +70,12 @@ module _ (w : List ℕ) where
     first = word 21;
     stamp = word 22 % 4294967296;
     phase = word 23;
-    differs = word 25;
+    differs = word 26;
     reads = word 24;
-    top = word 26;
-    deficit = word 28;
-    late = word 27;
+    wait = word 25;
+    top = word 27;
+    deficit = word 29;
+    late = word 28;
   }
 
   abbrev pub framesIn : Frames
@@ -79,14 +84,14 @@ module _ (w : List ℕ) where
     closed = word 17;
     marked = word 19;
     current = openIn;
-    buffer = bufferIn (word 29) (word 30) (word 31);
+    buffer = bufferIn (word 30) (word 31) (word 32);
   }
 
   unfoldable pub stateIn : State
   stateIn = record {
     numbers = numbersIn;
     past = record { packets = word 7; first = word 8; last = word 9 };
-    drained = word 16;
+    rest = word 16;
     bucket = bucketIn;
     frames = framesIn;
   }
@@ -104,10 +109,10 @@ unfoldable pub heldBy : List ℕ → Held
 unfolding wordsOf stateIn same
 heldBy w = pick (same (wordsOf (stateIn w)) w) (Known (stateIn w)) Nothing
 
--- lent words hold a state: the first 32 of them
+-- lent words hold a state: the first of them, as many as a state has
 abbrev pub Holds : List ℕ → State → Type 0
-Holds words s = heldBy (take 32 words) ≡ Known s
+Holds words s = heldBy (take stateWords words) ≡ Known s
 
 -- or none
 abbrev pub HoldNone : List ℕ → Type 0
-HoldNone words = heldBy (take 32 words) ≡ Nothing
+HoldNone words = heldBy (take stateWords words) ≡ Nothing

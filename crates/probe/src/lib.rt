@@ -7,7 +7,7 @@ ghost use Rattle.limits.specs.Paper.{given};
 ghost use Rattle.timing.specs.Step.{ofParameters};
 ghost use Rattle.timing.specs.Answers.{summaryOf};
 ghost use Rattle.timing.specs.Range.{inRange};
-ghost use Rattle.probe.specs.Words.{verdictWords, wordsOf, same as sameOf, heldBy};
+ghost use Rattle.probe.specs.Words.{stateWords, verdictWords, wordsOf, same as sameOf, heldBy};
 ghost use Rattle.probe.specs.Words.{numbersIn, networkIn, bucketIn, openIn, bufferIn, framesIn, stateIn};
 ghost use Rattle.probe.specs.Calls.{SetUpGives, callOf, CallGives, answer, askedOf};
 use bucket::Bucket;
@@ -27,7 +27,7 @@ use timing::State;
 use timing::StreamNumbers;
 
 // How many words a state is.
-const WORDS: usize = 32;
+const WORDS: usize = 33;
 
 // What lent words hold: a state, or nothing that is one.
 enum Held {
@@ -94,7 +94,7 @@ fn words_of(s: State) -> [u64; WORDS]
         verdict[0],
         verdict[1],
         verdict[2],
-        s.drained,
+        s.rest,
         s.frames.closed,
         flag(s.frames.begun),
         s.frames.marked,
@@ -103,6 +103,7 @@ fn words_of(s: State) -> [u64; WORDS]
         s.frames.current.stamp as u64,
         s.frames.current.phase,
         s.frames.current.reads,
+        s.frames.current.wait,
         s.frames.current.differs,
         s.frames.current.top,
         s.frames.current.late,
@@ -114,7 +115,7 @@ fn words_of(s: State) -> [u64; WORDS]
 }
 
 fn numbers_in(words: &[u64]) -> StreamNumbers
-    requires { ⌜ 32 ≤ length (now words) ⌝ }
+    requires { ⌜ stateWords ≤ length (now words) ⌝ }
     ensures { λ r. ⌜ r ≡ numbersIn (now (words .entry)) ⌝ }
 {
     let told = Parameters {
@@ -139,7 +140,7 @@ fn network_in(number: u64, first: u64, last: u64) -> Network
 }
 
 fn bucket_in(words: &[u64]) -> Bucket
-    requires { ⌜ 32 ≤ length (now words) ⌝ }
+    requires { ⌜ stateWords ≤ length (now words) ⌝ }
     ensures { λ r. ⌜ r ≡ bucketIn (now (words .entry)) ⌝ }
 {
     let network = network_in(words[13], words[14], words[15]);
@@ -152,7 +153,7 @@ fn bucket_in(words: &[u64]) -> Bucket
 }
 
 fn open_in(words: &[u64]) -> Frame
-    requires { ⌜ 32 ≤ length (now words) ⌝ }
+    requires { ⌜ stateWords ≤ length (now words) ⌝ }
     ensures { λ r. ⌜ r ≡ openIn (now (words .entry)) ⌝ }
 {
     Frame {
@@ -160,11 +161,12 @@ fn open_in(words: &[u64]) -> Frame
         first: words[21],
         stamp: (words[22] % 4294967296) as u32,
         phase: words[23],
-        differs: words[25],
+        differs: words[26],
         reads: words[24],
-        top: words[26],
-        deficit: words[28],
-        late: words[27],
+        wait: words[25],
+        top: words[27],
+        deficit: words[29],
+        late: words[28],
     }
 }
 
@@ -185,11 +187,11 @@ fn buffer_in(number: u64, frame: u64, place: u64) -> Buffer
 }
 
 fn frames_in(words: &[u64]) -> Frames
-    requires { ⌜ 32 ≤ length (now words) ⌝ }
+    requires { ⌜ stateWords ≤ length (now words) ⌝ }
     ensures { λ r. ⌜ r ≡ framesIn (now (words .entry)) ⌝ }
 {
     let current = open_in(words);
-    let buffer = buffer_in(words[29], words[30], words[31]);
+    let buffer = buffer_in(words[30], words[31], words[32]);
     Frames {
         begun: words[18] == 1,
         closed: words[17],
@@ -201,7 +203,7 @@ fn frames_in(words: &[u64]) -> Frames
 
 // What so many words are read as, whatever they are; `read` says whether they are a state's.
 fn state_in(words: &[u64]) -> State
-    requires { ⌜ 32 ≤ length (now words) ⌝ }
+    requires { ⌜ stateWords ≤ length (now words) ⌝ }
     ensures { λ r. ⌜ r ≡ stateIn (now (words .entry)) ⌝ }
 {
     let past = Past {
@@ -212,7 +214,7 @@ fn state_in(words: &[u64]) -> State
     State {
         numbers: numbers_in(words),
         past,
-        drained: words[16],
+        rest: words[16],
         bucket: bucket_in(words),
         frames: frames_in(words),
     }
@@ -237,7 +239,7 @@ fn same(a: &[u64], b: &[u64]) -> bool
 // The state whose words stand in front. They are read, written again and compared, so that each range of a field, each flag and
 // each answer is tested in one place.
 fn read(words: &[u64]) -> Held
-    ensures { λ r. ⌜ r ≡ heldBy (take 32 (now (words .entry))) ⌝ }
+    ensures { λ r. ⌜ r ≡ heldBy (take stateWords (now (words .entry))) ⌝ }
 {
     if words.len() < WORDS {
         return Held::Nothing;
@@ -264,7 +266,7 @@ fn lay(from: &[u64], to: &mut [u64])
 }
 
 fn lay_words(s: State, words: &mut [u64])
-    requires { ⌜ 32 ≤ length (now words) ⌝ }
+    requires { ⌜ stateWords ≤ length (now words) ⌝ }
     ensures { λ r. ⌜ now (words .exit) ≡ sets (now (words .entry)) 0 (wordsOf s) ⌝ }
 {
     let all = words_of(s);

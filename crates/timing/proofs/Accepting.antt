@@ -30,7 +30,7 @@ use Rattle.timing.specs.declared.Judged.the-variants.{Given}
 use Rattle.timing.specs.Step.{frameOf, rulesOf, freshOf, stateAfter, rowsAfter, numbers}
 use Rattle.timing.specs.Answers.{answersOf, verdictOf}
 use Rattle.timing.specs.Feed.{Call, allOf, Accepts, Deals, Rooms}
-use Rattle.timing.specs.History.{stateAt, AcceptedHistory, reached, rowsOfAll, plan, frames, arrivals, size, limit}
+use Rattle.timing.specs.History.{rowsTo, stateAt, AcceptedHistory, reached, rowsOfAll, plan, frames, arrivals, size, limit}
 use Rattle.timing.proofs.Planning.{planned, frame-long}
 use Rattle.timing.proofs.InRange.{sound-fresh, of-sound}
 use Rattle.timing.proofs.Scanning.{numbers-length}
@@ -40,9 +40,20 @@ use Rattle.timing.proofs.Stopping.{passes, sound-reached}
 use Rattle.timing.proofs.Numbered.{numbers-of-frame}
 
 module _ (h : AcceptedHistory) where
+  -- its arrivals never fall
+  in-order : Climbs (λ i. at (h .packets) i .time) (size h)
+  in-order = arrivals-climb (h .packets) (h .closed) (h .fine)
+
+  -- the state reached is the declared one, and so are the rows
+  pub state-reached : reached h ≡ stateAt (h .stream) (h .packets) (size h)
+  state-reached = state-declared (h .stream) (h .set-up) (h .packets) in-order
+
+  pub rows-reached : rowsOfAll h ≡ rowsTo (h .stream) (h .packets) (size h)
+  rows-reached = rows-declared (h .stream) (h .set-up) (h .packets) in-order
+
   -- what holds of the declared state holds of the state reached
   pub as-declared : (P : State → Type 0) → P (stateAt (h .stream) (h .packets) (size h)) → P (reached h)
-  as-declared P = subst P (sym (state-declared (h .stream) (h .packets)))
+  as-declared P = subst P (sym state-reached)
 
   -- ---- its stream numbers
 
@@ -78,15 +89,10 @@ module _ (h : AcceptedHistory) where
   unfolding rulesOf
   spacing-exact = let p = h .stream .parameters in spacing (p .schedule) (frameOf (h .stream)) (p .n)
 
-  -- ---- its arrivals never fall
-
-  in-order : Climbs (λ i. at (h .packets) i .time) (size h)
-  in-order = arrivals-climb (h .packets) (h .closed) (h .fine)
+  -- ---- its bucket
 
   in-grains : proved-bucket.Ordered (arrivals h)
   in-grains i b = let o = in-order i b in omega arith
-
-  -- ---- its bucket
 
   pub drains-are : (k i : ℕ) → k ≤ bucket.drains (arrivals h) i
       ↔ InstantBy (10 * frameOf (h .stream)) (11 * h .stream .parameters .n) k (bucket.elapsed (arrivals h) i)
@@ -141,7 +147,7 @@ module _ (h : AcceptedHistory) where
   numbers-at i r lent =
       let There : List Row → Type 0 = λ rows. i < size h → rowsAt (plan h) (frames h) i ≡ r ∷ [] → length (numbers rows) ≤ length lent
       → take rowWidth (drop (rowWidth * numberAt (frames h) i) (sets lent 0 (numbers rows))) ≡ numbersOf r in
-      subst There (sym (rows-declared (h .stream) (h .packets))) (numbers-of-frame (h .stream) (h .packets) i (size h) r lent)
+      subst There (sym rows-reached) (numbers-of-frame (h .stream) (h .packets) i (size h) r lent)
 
   -- ---- where its frames began
 

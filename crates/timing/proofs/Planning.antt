@@ -1,12 +1,12 @@
 -- The rules of accepted stream numbers keep to what the frames and the bucket
 -- demand, for every rate at once: by the table's greatest and least length.
-use Rattle.laws.specs.Kit.{_≡_, ℕ, zero, suc, _*_, _≤_, _<_, arith, mul-le-mul, mul-le-mul-left, div-mul-le-self}
+use Rattle.laws.specs.Kit.{_≡_, ℕ, zero, suc, _+_, _*_, _≤_, _<_, arith, mul-le-mul, mul-le-mul-left, mul-le-mul-right}
 use Rattle.limits.specs.Paper.{second, activeRatio, readNum, readDen}
 use Rattle.limits.specs.Accepted.{Accepted}
 use Rattle.limits.proofs.Accepting.{accepted}
 use Rattle.limits.proofs.Rates.{frame-most, frame-least}
 use Rattle.limits.proofs.Facts.{tro-below}
-use Rattle.grain.specs.Paper.{grains, instants}
+use Rattle.grain.specs.Paper.{grains}
 use Rattle.frame.specs.declared.Plan.{Plan}
 use Rattle.frame.specs.Range.{Planned}
 use Rattle.timing.specs.declared.StreamNumbers.{StreamNumbers}
@@ -28,12 +28,25 @@ unfolding activeRatio
 den-most zero n h = omega arith
 den-most (suc schedule) n h = omega arith
 
+-- two reads lie no more than a frame apart
+num-spread : (schedule F n : ℕ) → 0 < n → readNum schedule F ≤ F * readDen schedule n
+unfolding activeRatio
+num-spread zero F n p = omega (arith, mul-le-mul-left F (let l : 25 ≤ 25 * n = omega arith in l))
+num-spread (suc schedule) F n p = omega (arith, mul-le-mul-left F (let l : 1 ≤ 1 * n = omega arith in l))
+
 module _ (x : StreamNumbers) (e : setUpOf x ≡ 0) where
   fine : Accepted (x .parameters)
   fine = accepted (x .parameters) e
 
   pub frame-long : second ≤ 60 * frameOf x
   frame-long = frame-least (fine .rate-known)
+
+  -- in any period that is, so many times, a frame at least
+  spread : (period times : ℕ) → frameOf x ≤ times * period
+      → readNum (x .parameters .schedule) (frameOf x) ≤ times * period * readDen (x .parameters .schedule) (x .parameters .n)
+  spread period times l =
+      let den = readDen (x .parameters .schedule) (x .parameters .n) in
+      omega (arith, num-spread (x .parameters .schedule) (frameOf x) (x .parameters .n) (fine .n-fits .0), mul-le-mul-right den l)
 
   pub planned : Planned (rulesOf x .plan)
   unfolding rulesOf
@@ -46,6 +59,7 @@ module _ (x : StreamNumbers) (e : setUpOf x ≡ 0) where
     apart = num-some (x .parameters .schedule) (frameOf x) (omega (arith, frame-long));
     near = omega (arith, num-most (x .parameters .schedule) (frameOf x));
     divided = den-most (x .parameters .schedule) (x .parameters .n) (fine .n-fits .1);
+    spread = spread (frameOf x) 2 (omega arith);
   }
 
   -- and so does any plan of half the period, with some of the packets and the frame's own spacing of the reads
@@ -61,28 +75,18 @@ module _ (x : StreamNumbers) (e : setUpOf x ≡ 0) where
     apart = rw reads (num-some (x .parameters .schedule) (frameOf x) (omega (arith, frame-long)));
     near = rw reads (omega (arith, num-most (x .parameters .schedule) (frameOf x)));
     divided = rw reads (den-most (x .parameters .schedule) (x .parameters .n) (fine .n-fits .1));
+    spread = rw reads (spread (half .period) 2 (omega arith));
   }
 
-  -- the drain instants of 600 s are fewer than a billion, and their products fit
-  module _ (ns : ℕ) (h : ns ≤ 600000000000) where
-    pub reach-fits : grains ns * (rulesOf x .drains .den) ≤ 3564000000000000000
-    unfolding rulesOf
-    reach-fits =
-        let long : grains ns ≤ 16200000000000 = omega arith in
-        let many : 11 * x .parameters .n ≤ 220000 = omega (arith, fine .n-fits .1) in
-        omega (arith, mul-le-mul long many)
-
-    pub drains-few : instants (grains ns) (rulesOf x .drains .num) (rulesOf x .drains .den) ≤ 1000000000
-    unfolding rulesOf
-    drains-few =
-        let d = instants (grains ns) (rulesOf x .drains .num) (rulesOf x .drains .den) in
-        omega (arith, div-mul-le-self (grains ns * (11 * x .parameters .n)) (10 * frameOf x), mul-le-mul-left d frame-long, reach-fits)
+  -- the drain instants of 600 s, and what is left before them: the products fit
+  pub reach-fits : (ns rest : ℕ) → ns ≤ 600000000000 → rest < rulesOf x .drains .num
+      → rest + grains ns * (rulesOf x .drains .den) < 18446744073709551616
+  unfolding rulesOf
+  reach-fits ns rest h l =
+      let long : grains ns ≤ 16200000000000 = omega arith in
+      let many : 11 * x .parameters .n ≤ 220000 = omega (arith, fine .n-fits .1) in
+      omega (arith, mul-le-mul long many, frame-most (x .parameters .rate))
 
   pub spacing-some : 0 < rulesOf x .drains .num
   unfolding rulesOf
   spacing-some = omega (arith, frame-long)
-
-  -- a count of drains that is in range, times the spacing, fits
-  pub guess-fits : (d : ℕ) → d ≤ 1000000000 → d * rulesOf x .drains .num < 18446744073709551616
-  unfolding rulesOf
-  guess-fits d h = omega (arith, mul-le-mul h (frame-most (x .parameters .rate)))

@@ -1,10 +1,10 @@
 -- An accepted packet keeps a state in range: each part by its own step. So
 -- accepted calls stay in range, and no demand of the code is ever missed.
-use Rattle.laws.specs.Kit.{_≡_, true, _+_, _≤_, _<_, arith, ne-eqb}
+use Rattle.laws.specs.Kit.{_≡_, true, _+_, _≤_, _<_, arith, mod-lt, ne-eqb}
 use Rattle.laws.proofs.Choose.{pick-either}
 use Rattle.packet.specs.declared.Packet.{Packet}
 use Rattle.packet.specs.Paper.{marked}
-use Rattle.packet.specs.Step.{firstOf, elapsedOf, numberOf}
+use Rattle.packet.specs.Step.{firstOf, sinceOf, numberOf}
 use Rattle.packet.proofs.Refusals as P
 use Rattle.packet.proofs.Ranging as PR
 use Rattle.bucket.proofs.Ranging as B
@@ -12,10 +12,10 @@ use Rattle.frame.specs.Step as F
 use Rattle.frame.specs.Range.{FramesRowAsks, Kept}
 use Rattle.frame.proofs.Ranges as R
 use Rattle.timing.specs.declared.State.{State}
-use Rattle.timing.specs.Step.{rulesOf, arriveOf, markOf, stepOf}
+use Rattle.timing.specs.Step.{rulesOf, goneOf, leftOf, arriveOf, markOf, stepOf}
 use Rattle.timing.specs.Range.{Sound}
 use Rattle.timing.specs.Feed.{ArriveAsks}
-use Rattle.timing.proofs.Planning.{planned, spacing-some, reach-fits, drains-few, guess-fits}
+use Rattle.timing.proofs.Planning.{planned, spacing-some, reach-fits}
 
 module _ (s : State) (p : Packet) (x : Sound s) (e : numberOf (s .past) p ≡ 0) where
   accepted : P.Accepted (s .past) (p .time) (p .marker)
@@ -39,23 +39,32 @@ module _ (s : State) (p : Packet) (x : Sound s) (e : numberOf (s .past) p ≡ 0)
   same : s .frames .begun ≡ true → firstOf (s .past) (p .time) ≡ s .past .first
   same b = first-same (x .frames .begun b)
 
+  -- nor are the packets farther apart than the history is long
+  since-near : sinceOf (s .past) (p .time) ≤ 600000000000
+  since-near = PR.since-near (s .past) (p .time) (p .marker) (x .past) accepted
+
+  gone-near : goneOf s (p .time) ≤ 16200000000000
+  gone-near = omega (arith, since-near)
+
   pub arrives : ArriveAsks (rulesOf (s .numbers)) s (p .time)
   arrives = record {
     few = accepted .few;
+    order = accepted .in-order;
     apart = spacing-some (s .numbers) (x .accepted);
-    guess = guess-fits (s .numbers) (x .accepted) (s .drained) (x .drained);
-    since = accepted .in-time;
-    reach = omega (arith, reach-fits (s .numbers) (x .accepted) (elapsedOf (s .past) (p .time)) (accepted .in-time));
+    since = since-near;
+    reach = reach-fits (s .numbers) (x .accepted) (sinceOf (s .past) (p .time)) (s .rest) since-near (x .rest);
     level = x .bucket .level;
     planned = planned (s .numbers) (x .accepted);
-    push = R.pushable (rulesOf (s .numbers) .plan) (s .frames) (s .past .first) (s .past .last) (s .past .packets) (p .time)
-        (planned (s .numbers) (x .accepted)) (x .frames) next;
+    push = R.pushable (rulesOf (s .numbers) .plan) (s .frames) (s .past .first) (s .past .last) (s .past .packets)
+        (goneOf s (p .time)) (p .time)
+        (planned (s .numbers) (x .accepted)) (x .frames) gone-near next;
   }
 
-  kept-arrived : Kept (rulesOf (s .numbers) .plan) (F.arriveOf (rulesOf (s .numbers) .plan) (s .frames) (p .time) (p .stamp))
+  kept-arrived : Kept (rulesOf (s .numbers) .plan) (F.arriveOf (rulesOf (s .numbers) .plan) (s .frames) (goneOf s (p .time)) (p .time) (p .stamp))
       (firstOf (s .past) (p .time)) (p .time) (s .past .packets + 1)
-  kept-arrived = R.kept-arrive (rulesOf (s .numbers) .plan) (s .frames) (s .past .first) (s .past .last) (s .past .packets) (p .time)
-      (planned (s .numbers) (x .accepted)) (x .frames) (p .stamp) (firstOf (s .past) (p .time)) next (accepted .in-order) same first-order
+  kept-arrived = R.kept-arrive (rulesOf (s .numbers) .plan) (s .frames) (s .past .first) (s .past .last) (s .past .packets)
+      (goneOf s (p .time)) (p .time)
+      (planned (s .numbers) (x .accepted)) (x .frames) (p .stamp) (firstOf (s .past) (p .time)) gone-near next (accepted .in-order) same first-order
 
   pub sound-arrived : Sound (arriveOf (rulesOf (s .numbers)) s (p .time) (p .stamp))
   unfolding arriveOf
@@ -63,7 +72,7 @@ module _ (s : State) (p : Packet) (x : Sound s) (e : numberOf (s .past) p ≡ 0)
     accepted = x .accepted;
     past = PR.ranged-next (s .past) (p .time) (p .marker) (x .past) accepted;
     bucket = B.ranged-step (s .bucket) (s .past .packets) _ _ (x .bucket);
-    drained = drains-few (s .numbers) (x .accepted) (elapsedOf (s .past) (p .time)) (accepted .in-time);
+    rest = mod-lt (leftOf (rulesOf (s .numbers)) s (p .time)) (spacing-some (s .numbers) (x .accepted));
     frames = kept-arrived;
   }
 
@@ -72,7 +81,7 @@ module _ (s : State) (p : Packet) (x : Sound s) (e : numberOf (s .past) p ≡ 0)
   few-closed = omega (arith, x .frames .closed, accepted .few)
 
   -- the frame that a marker closes leaves room for one more
-  one-more : (F.arriveOf (rulesOf (s .numbers) .plan) (s .frames) (p .time) (p .stamp)) .closed + 1 ≤ s .past .packets + 1
+  one-more : (F.arriveOf (rulesOf (s .numbers) .plan) (s .frames) (goneOf s (p .time)) (p .time) (p .stamp)) .closed + 1 ≤ s .past .packets + 1
   unfolding F.arriveOf
   one-more = omega (arith, x .frames .closed)
 
@@ -84,8 +93,9 @@ module _ (s : State) (p : Packet) (x : Sound s) (e : numberOf (s .past) p ≡ 0)
         accepted = a .accepted;
         past = a .past;
         bucket = a .bucket;
-        drained = a .drained;
-        frames = R.kept-close (rulesOf (s .numbers) .plan) (F.arriveOf (rulesOf (s .numbers) .plan) (s .frames) (p .time) (p .stamp))
+        rest = a .rest;
+        frames = R.kept-close (rulesOf (s .numbers) .plan)
+            (F.arriveOf (rulesOf (s .numbers) .plan) (s .frames) (goneOf s (p .time)) (p .time) (p .stamp))
             (firstOf (s .past) (p .time)) (p .time) (s .past .packets + 1) kept-arrived one-more first-order;
       }
 
@@ -98,5 +108,6 @@ module _ (s : State) (p : Packet) (x : Sound s) (e : numberOf (s .past) p ≡ 0)
       → FramesRowAsks (rulesOf (s .numbers) .plan) ((arriveOf (rulesOf (s .numbers)) s (p .time) (p .stamp)) .frames)
       ((arriveOf (rulesOf (s .numbers)) s (p .time) (p .stamp)) .past .packets)
   unfolding arriveOf F.arriveOf
-  rows-made b = R.rowable (rulesOf (s .numbers) .plan) (s .frames) (s .past .first) (s .past .last) (s .past .packets) (p .time)
-      (planned (s .numbers) (x .accepted)) (x .frames) (p .stamp) (firstOf (s .past) (p .time)) next (accepted .in-order) same first-order b
+  rows-made b = R.rowable (rulesOf (s .numbers) .plan) (s .frames) (s .past .first) (s .past .last) (s .past .packets)
+      (goneOf s (p .time)) (p .time)
+      (planned (s .numbers) (x .accepted)) (x .frames) (p .stamp) (firstOf (s .past) (p .time)) gone-near next (accepted .in-order) same first-order b

@@ -23,7 +23,7 @@ use Rattle.timing.specs.Feed.{Passes, Call, allOf, Rooms, Stops, here, l
 use Rattle.timing.proofs.InRange.{sound-fresh, of-sound}
 use Rattle.timing.proofs.Scanning.{scan-runs}
 use Rattle.timing.proofs.Feeding.{refused-call}
-use Rattle.timing.proofs.Declared.{scan-of-call}
+use Rattle.timing.proofs.Declared.{arrivals-climb, scan-of-call}
 use Rattle.timing.proofs.Dealing.{sound-after, accepts, passes-cut, numbers-after}
 
 -- what a front part is refused by, the whole is
@@ -75,7 +75,7 @@ module _ (x : StreamNumbers) (set-up : setUpOf x ≡ 0) where
       go (Refused w) q ih =
           let same-one : Refused w ≡ Refused r = sym (refused-on (h ++ c .packets) (allOf cs) w q) ∙ whole in
           here (refused-call (reached h) (c .rows) (c .packets) r (of-sound (reached h) (sound-reached h closed e))
-          (scan-of-call x h (c .packets) closed r e (q ∙ same-one)))
+          (scan-of-call x set-up h (arrivals-climb h closed e) (c .packets) closed r e (q ∙ same-one)))
 
   -- from set-up on
   pub all-stop : (l : List Packet) (r : Refusal) → declared l ≡ Refused r → (calls : List Call) → allOf calls ≡ l

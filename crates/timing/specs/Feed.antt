@@ -1,14 +1,13 @@
 -- Feeding a call's packets: what each part of the code asks and gives, and the whole call, refusals included.
 use Rattle.laws.specs.Kit.{_≡_, true, List, [], _∷_, _++_, ℕ, _+_, _*_, _≤_, _<_, eqb, leb, ℤ, length, sets}
 use Rattle.laws.specs.Choose.{pick}
-use Rattle.grain.specs.Paper.{grains}
 use Rattle.packet.specs.declared.Past.{Past}
 use Rattle.packet.specs.declared.Scanned.{Scanned}
 use Rattle.packet.specs.declared.Scanned.the-variants.{Fine, Refused as Scan-Refused}
 use Rattle.packet.specs.declared.Refusal.{Refusal}
 use Rattle.packet.specs.declared.Packet.{Packet}
 use Rattle.packet.specs.Paper.{packets}
-use Rattle.packet.specs.Step.{elapsedOf, nextOf, numberOf, scanOf, scannedOf, scannedNumber, scannedPlace, scannedClosed}
+use Rattle.packet.specs.Step.{sinceOf, nextOf, numberOf, scanOf, scannedOf, scannedNumber, scannedPlace, scannedClosed}
 use Rattle.frame.specs.declared.Row.{Row}
 use Rattle.frame.specs.Step as F
 use Rattle.frame.specs.Step.{rowWidth}
@@ -17,7 +16,7 @@ use Rattle.timing.specs.declared.Rules.{Rules}
 use Rattle.timing.specs.declared.State.{State}
 use Rattle.timing.specs.declared.Fed.{Fed}
 use Rattle.timing.specs.declared.Fed.the-variants.{Accepted, Refused}
-use Rattle.timing.specs.Step.{rulesOf, stateAfter, rowsAfter, numbers}
+use Rattle.timing.specs.Step.{rulesOf, goneOf, leftOf, stateAfter, rowsAfter, numbers}
 use Rattle.timing.specs.Range.{inRange, Sound}
 
 -- ---- what the parts ask and give
@@ -25,13 +24,13 @@ use Rattle.timing.specs.Range.{inRange, Sound}
 -- before a packet that arrives at t
 pub record ArriveAsks (rules : Rules) (s : State) (t : ℕ) : Type 0 where
   pub few : s .past .packets < 1000000000
+  pub order : s .past .last ≤ t
   pub apart : 0 < rules .drains .num
-  pub guess : s .drained * rules .drains .num < 18446744073709551616
-  pub since : elapsedOf (s .past) t ≤ 600000000000
-  pub reach : grains (elapsedOf (s .past) t) * rules .drains .den < 18446744073709551616
+  pub since : sinceOf (s .past) t ≤ 600000000000
+  pub reach : leftOf rules s t < 18446744073709551616
   pub level : s .bucket .level ≤ s .past .packets
   pub planned : Planned (rules .plan)
-  pub push : s .frames .begun ≡ true → PushAsks (rules .plan) (s .frames .current) t
+  pub push : s .frames .begun ≡ true → PushAsks (rules .plan) (s .frames .current) (goneOf s t)
 
 -- V10: the row of the open frame, which the last packet closes; packets are counted since set-up
 abbrev pub closedRow : Rules → State → Row

@@ -1,7 +1,8 @@
 -- The declared state: what the measurement is before packet i of a history, in the words of the crates below, over the whole list by place;
 -- and an accepted history, with the state that feeding it reaches.
-use Rattle.laws.specs.Kit.{_≡_, List, [], _++_, ℕ, zero, suc, length}
+use Rattle.laws.specs.Kit.{_≡_, List, [], _++_, ℕ, zero, suc, _*_, length}
 use Rattle.grain.specs.Paper.{grains}
+use Rattle.grain.specs.Carry.{sinceInstant}
 use Rattle.packet.specs.declared.Packet.{Packet}
 use Rattle.packet.specs.declared.Scanned.the-variants.{Fine}
 use Rattle.packet.specs.Paper.{marked, at, pastAt, declared}
@@ -23,16 +24,16 @@ module _ (x : StreamNumbers) (l : List Packet) where
   abbrev pub frameHistory : FP.History
   frameHistory = record { packets = length l; time = λ i. at l i .time; stamp = λ i. at l i .stamp; marked = λ i. marked (at l i) }
 
-  -- the drain instants up to the last arrival before packet i
-  abbrev pub drainedAt : ℕ → ℕ
-  drainedAt zero = 0
-  drainedAt (suc i) = BP.drains bucketHistory i
+  -- B1: from the last drain instant to the last arrival before packet i, times 11n
+  abbrev pub restAt : ℕ → ℕ
+  restAt zero = 0
+  restAt (suc i) = sinceInstant (BP.elapsed bucketHistory i) (10 * frameOf x) (11 * x .parameters .n)
 
   unfoldable pub stateAt : ℕ → State
   stateAt i = record {
     numbers = x;
     past = pastAt l i;
-    drained = drainedAt i;
+    rest = restAt i;
     bucket = B.bucketAt (BP.drains bucketHistory) (rulesOf x .limit) i;
     frames = F.framesAt (rulesOf x .plan) frameHistory i;
   }

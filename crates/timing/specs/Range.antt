@@ -1,7 +1,7 @@
 -- The table of a state's numbers, as docs/STATE.md gives it: the stream numbers, and each part of what is kept by the table of its own
 -- type. `inRange`: refusal 9 is for a state where it is false.
-use Rattle.laws.specs.Kit.{Bool, List, [], _∷_, _++_, _≡_, _≤_}
-use Rattle.laws.specs.Every.{at-most, same, after, every, Entry, entry, tests}
+use Rattle.laws.specs.Kit.{Bool, List, [], _∷_, _++_, _≡_, _<_}
+use Rattle.laws.specs.Every.{below, same, after, every, Entry, entry, tests}
 use Rattle.packet.specs.Range as P
 use Rattle.bucket.specs.Range as B
 use Rattle.frame.specs.Range as F
@@ -22,14 +22,14 @@ module _ (s : State) where
       ∷ entry (s .numbers .parameters .tro) 4 []
       ∷ []
 
-  abbrev pub drainedTable : List Entry
-  drainedTable = entry (s .drained) 8 (at-most (s .drained) 1000000000 ∷ []) ∷ []
+  abbrev pub restTable : List Entry
+  restTable = entry (s .rest) 8 (below (s .rest) (rulesOf (s .numbers) .drains .num) ∷ []) ∷ []
 
   abbrev pub framesTable : List Entry
   framesTable = F.table (rulesOf (s .numbers) .plan) (s .frames) (s .past .first) (s .past .last) (s .past .packets)
 
   abbrev pub table : List Entry
-  table = streamTable ++ (P.table (s .past) ++ (B.table (s .bucket) (s .past .packets) ++ (drainedTable ++ framesTable)))
+  table = streamTable ++ (P.table (s .past) ++ (B.table (s .bucket) (s .past .packets) ++ (restTable ++ framesTable)))
 
   -- N1, N4: "9 exactly a state whose stream numbers set-up refuses or with a number outside its range in docs/"
   unfoldable pub inRange : Bool
@@ -41,5 +41,5 @@ pub record Sound (s : State) : Type 0 where
   pub accepted : setUpOf (s .numbers) ≡ 0
   pub past : P.Ranged (s .past)
   pub bucket : B.Ranged (s .bucket) (s .past .packets)
-  pub drained : s .drained ≤ 1000000000
+  pub rest : s .rest < rulesOf (s .numbers) .drains .num
   pub frames : F.Kept (rulesOf (s .numbers) .plan) (s .frames) (s .past .first) (s .past .last) (s .past .packets)

@@ -1,14 +1,13 @@
 -- The measurement step by step: what follows from the stream numbers, one packet more, and the rows that it writes.
-use Rattle.laws.specs.Kit.{List, [], _∷_, _++_, ℕ, _+_, _-_, _*_, ℤ}
+use Rattle.laws.specs.Kit.{List, [], _∷_, _++_, ℕ, _+_, _*_, _/_, _%_, ℤ}
 use Rattle.laws.specs.Choose.{pick}
 use Rattle.laws.specs.Fold.{fold}
-use Rattle.grain.specs.Paper.{grains, instants}
+use Rattle.grain.specs.Paper.{grains}
 use Rattle.limits.specs.Paper.{frameLength, classOf, cMax, vrxFull, troGrains, readNum, readDen, setUpRefusal}
 use Rattle.limits.specs.declared.Parameters.{Parameters}
-use Rattle.packet.specs.declared.Past.{Past}
 use Rattle.packet.specs.declared.Packet.{Packet}
 use Rattle.packet.specs.Paper.{marked}
-use Rattle.packet.specs.Step.{nothing, elapsedOf, nextOf}
+use Rattle.packet.specs.Step.{nothing, sinceOf, nextOf}
 use Rattle.bucket.specs.Step as B
 use Rattle.frame.specs.declared.Row.{Row}
 use Rattle.frame.specs.Step as F
@@ -44,22 +43,26 @@ rulesOf x = record {
 
 -- B7: the state before the first packet
 abbrev pub freshOf : StreamNumbers → State
-freshOf x = record { numbers = x; past = nothing; drained = 0; bucket = B.emptyOf; frames = F.noFrames }
+freshOf x = record { numbers = x; past = nothing; rest = 0; bucket = B.emptyOf; frames = F.noFrames }
 
 -- ---- one packet more
 
--- the drain instants up to a packet's arrival
-abbrev pub drainedOf : Rules → Past → ℕ → ℕ
-drainedOf rules past t = instants (grains (elapsedOf past t)) (rules .drains .num) (rules .drains .den)
+-- the grains from the packet before to one at t
+abbrev pub goneOf : State → ℕ → ℕ
+goneOf s t = grains (sinceOf (s .past) t)
+
+-- B1: since the last drain instant up to the packet before, times den: its whole spacings are the drain instants from there to t
+abbrev pub leftOf : Rules → State → ℕ → ℕ
+leftOf rules s t = s .rest + goneOf s t * rules .drains .den
 
 -- P4: the packet arrives: it is in the bucket, and in the open frame if there is one
 unfoldable pub arriveOf : Rules → State → ℕ → ℕ → State
 arriveOf rules s t stamp = record {
   numbers = s .numbers;
   past = nextOf (s .past) t;
-  drained = drainedOf rules (s .past) t;
-  bucket = B.stepOf (s .bucket) (s .past .packets) (drainedOf rules (s .past) t - s .drained) (rules .limit);
-  frames = F.arriveOf (rules .plan) (s .frames) t stamp;
+  rest = leftOf rules s t % rules .drains .num;
+  bucket = B.stepOf (s .bucket) (s .past .packets) (leftOf rules s t / rules .drains .num) (rules .limit);
+  frames = F.arriveOf (rules .plan) (s .frames) (goneOf s t) t stamp;
 }
 
 -- B5: and is a marker, which leaves the bucket as it is
@@ -67,7 +70,7 @@ unfoldable pub markOf : Rules → State → ℕ → State
 markOf rules s t = record {
   numbers = s .numbers;
   past = s .past;
-  drained = s .drained;
+  rest = s .rest;
   bucket = s .bucket;
   frames = F.closeOf
       (rules .plan) (s .frames) t;
@@ -78,7 +81,7 @@ unfolding arriveOf markOf
 stepOf rules s p = pick (marked p) (markOf rules (arriveOf rules s (p .time) (p .stamp)) (p .time)) (arriveOf rules s (p .time) (p .stamp))
 
 abbrev pub rowsOf : Rules → State → Packet → List Row
-rowsOf rules s p = F.rowsOf (rules .plan) (s .frames) (nextOf (s .past) (p .time) .packets) (p .time) (p .stamp) (marked p)
+rowsOf rules s p = F.rowsOf (rules .plan) (s .frames) (nextOf (s .past) (p .time) .packets) (goneOf s (p .time)) (p .time) (p .stamp) (marked p)
 
 -- ---- a list of packets
 

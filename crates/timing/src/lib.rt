@@ -39,12 +39,12 @@ pub struct Rules {
     pub limit: u64,
 }
 
-// Everything that is known of a history: what came before the next packet, the drain instants up to the
-// last arrival, the bucket and the frames. docs/STATE.md gives each number's range.
+// Everything that is known of a history: what came before the next packet, what is left since the last drain
+// instant, times 11n, the bucket and the frames. docs/STATE.md gives each number's range.
 pub struct State {
     pub numbers: StreamNumbers,
     pub past: Past,
-    pub drained: u64,
+    pub rest: u64,
     pub bucket: Bucket,
     pub frames: Frames,
 }
@@ -162,7 +162,7 @@ impl StreamNumbers {
         State {
             numbers,
             past: Past::none(),
-            drained: 0,
+            rest: 0,
             bucket: Bucket::empty(),
             frames: Frames::none(),
         }
@@ -185,7 +185,7 @@ impl State {
         let plan = rules.plan;
         past.in_range()
             & bucket.in_range(past.packets)
-            & (self.drained <= 1000000000)
+            & (self.rest < rules.drains.num)
             & frames.in_range(plan, past.first, past.last, past.packets)
     }
 }
@@ -201,15 +201,14 @@ impl State {
         let frames = self.frames;
         let numbers = self.numbers;
         let plan = rules.plan;
-        let since = past.elapsed(t);
-        let elapsed = StreamNumbers::grains(since);
-        let drained = grain::instants(self.drained, elapsed, rules.drains.num, rules.drains.den);
+        let gone = StreamNumbers::grains(past.since(t));
+        let drains = grain::divided(self.rest + gone * rules.drains.den, rules.drains.num);
         State {
             numbers,
             past: past.next(t),
-            drained,
-            bucket: bucket.step(past.packets, laws::less(drained, self.drained), rules.limit),
-            frames: frames.arrive(plan, t, stamp),
+            rest: drains.rest,
+            bucket: bucket.step(past.packets, drains.whole, rules.limit),
+            frames: frames.arrive(plan, gone, t, stamp),
         }
     }
 
@@ -272,9 +271,8 @@ impl State {
         let mut i = 0;
         while i < arrivals.len() {
             let t = arrivals[i];
-            let marker = markers[i];
             s = s.arrive(rules, t, stamps[i]);
-            if marker == 1 {
+            if markers[i] == 1 {
                 at = s.lay_row(rules, rows, at);
                 s = s.mark(rules, t);
             }

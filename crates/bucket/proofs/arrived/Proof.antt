@@ -1,5 +1,5 @@
--- The peak is the greater of the peak and the level; the answer is `judge`'s.
-use Rattle.laws.specs.Kit.{max, _≡_, arith}
+-- A level above the peak is the new peak, and the answer is `judge`'s; any other leaves both as they were.
+use Rattle.laws.specs.Kit.{max, _≡_, arith, lt-ltb, le-ltb}
 use borrow.Author.Needs.{needs}
 use Rattle.bucket.proofs.arrived.Statement.{statement}
 use Rattle.bucket.proofs.arrived.Tie as tie
@@ -10,12 +10,12 @@ judge-requires c κs = search needs
 returns : tie.Need-returns
 returns c = let a = c .before .before .args in
     let peak : max (a .peak) (a .level) ≡ a .level = omega arith in
-    rw (c .before .judge .ensures, peak)
+    rw (lt-ltb (a .peak) (a .level) (omega arith), c .judge .ensures, peak)
 
 returns-2 : tie.Need-returns-2
-returns-2 c = let a = c .before .before .args in
+returns-2 c = let a = c .before .args in
     let peak : max (a .peak) (a .level) ≡ a .peak = omega arith in
-    rw (c .before .judge .ensures, peak)
+    rw (le-ltb (a .peak) (a .level) (omega arith), peak)
 
 pub arrived-spec : {M : Type 1} → statement M
 arrived-spec = tie.close (tie.spec judge-requires returns returns-2)

@@ -1,57 +1,56 @@
--- Each number of the frame by the function that makes it.
-use Rattle.laws.specs.Kit.{_+_, max, _∙_, ap}
+-- A packet that lacks none leaves lack and late place, one that lacks some the greatest level: of two differences one is 0.
+use Rattle.laws.specs.Kit.{_≡_, _+_, _-_, max, arith, lt-ltb, le-ltb}
 use Rattle.frame.specs.Step.{countedOf}
 use borrow.Author.Needs.{needs}
 use Rattle.frame.proofs.Frame.counted.Statement.{statement}
 use Rattle.frame.proofs.Frame.counted.Tie as tie
 
-add-count : tie.Need-add-count
-add-count c = search needs
+add-held : tie.Need-add-held
+add-held c = search needs
 
-lowest-requires : tie.Need-lowest-requires
-lowest-requires c κs = search needs
+differing-requires : tie.Need-differing-requires
+differing-requires c κs = search needs
 
-lowest-requires-2 : tie.Need-lowest-requires-2
-lowest-requires-2 c κs = search needs
+sub-level : tie.Need-sub-greater
+sub-level c = search needs
 
-less-requires : tie.Need-less-requires
-less-requires c κs = search needs
-
-greater-requires : tie.Need-greater-requires
-greater-requires c κs = search needs
-
-less-requires-2 : tie.Need-less-requires-2
-less-requires-2 c κs = search needs
-
-greater-requires-2 : tie.Need-greater-requires-2
-greater-requires-2 c κs = search needs
+greater-top : tie.Need-greater-requires
+greater-top c κs = search needs
 
 returns : tie.Need-returns
 unfolding countedOf
-returns c = let g = c .before .before in
-    let l = g .before .before in
-    let a = l .before .before .before .args in
-    λ j. record {
-      held = a .self .held + 1;
-      first = a .self .first;
-      stamp = a .self .stamp;
-      phase = a .self .phase;
-      differs = (l .before .lowest .ensures) j;
-      reads = a .reads;
-      top = (g .greater .ensures ∙ ap (max (a .self .top)) (g .before .less .ensures)) j;
-      deficit = (c .greater2 .ensures ∙ ap (max (a .self .deficit)) (c .before .less2 .ensures)) j;
-      late = (l .lowest2 .ensures) j;
-    }
+returns c = let d = c .before .before in
+    let a = d .before .args in
+    let none : max (a .self .deficit) (a .reads .count - a .self .held) ≡ a .self .deficit = omega arith in
+    rw (le-ltb (a .self .held) (a .reads .count) (omega arith), d .differing .ensures, c .greater .ensures, none)
+
+first-hit-requires : tie.Need-first-hit-requires
+first-hit-requires c κs = search needs
+
+sub-lack : tie.Need-sub-greater-2
+sub-lack c = search needs
+
+greater-lack : tie.Need-greater-requires-2
+greater-lack c κs = search needs
+
+returns-2 : tie.Need-returns-2
+unfolding countedOf
+returns-2 c = let f = c .before in
+    let d = f .before .before .before in
+    let a = d .before .args in
+    let none : max (a .self .top) (a .self .held + 1 - a .reads .count) ≡ a .self .top = omega arith in
+    rw (lt-ltb (a .self .held) (a .reads .count) (omega arith), d .differing .ensures, f .first-hit .ensures, c .greater2 .ensures, none)
 
 pub counted-spec : {M : Type 1} → statement M
 counted-spec =
     tie.close
     (tie.spec
-    add-count
-    lowest-requires
-    lowest-requires-2
-    less-requires
-    greater-requires
-    less-requires-2
-    greater-requires-2
-    returns)
+    add-held
+    differing-requires
+    sub-level
+    greater-top
+    returns
+    first-hit-requires
+    sub-lack
+    greater-lack
+    returns-2)

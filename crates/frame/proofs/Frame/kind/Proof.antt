@@ -11,10 +11,10 @@ returns-2 : tie.Need-returns-2
 returns-2 c = kind-long _ _ (omega arith)
 
 returns-3 : tie.Need-returns-3
-returns-3 c = kind-stamp _ _ (omega arith) (omega arith) (omega arith)
+returns-3 c = kind-whole _ _ (omega arith) (omega arith) (c .if3 .taken)
 
 returns-4 : tie.Need-returns-4
-returns-4 c = kind-whole _ _ (omega arith) (omega arith) (omega arith)
+returns-4 c = kind-stamp _ _ (omega arith) (omega arith) (c .if3 .left)
 
 pub kind-spec : {M : Type 1} → statement M
 kind-spec = tie.close (tie.spec returns returns-2 returns-3 returns-4)

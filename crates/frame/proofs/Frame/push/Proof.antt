@@ -1,8 +1,9 @@
--- The frame opened, its reads counted from its first packet on, one packet more: the products fit by Opening.
-use Rattle.laws.specs.Kit.{arith, ap, _∙_}
+-- The frame opened, what goes by taken off the wait, one packet more: the products fit by Opening.
+use Rattle.laws.specs.Kit.{ℕ, _*_, arith, ap, _∙_}
+use Rattle.grain.specs.Carry.{readsOn}
 use Rattle.frame.specs.declared.Frame.{Frame}
 use Rattle.frame.specs.Step.{countedOf, readsOf}
-use Rattle.frame.proofs.Opening.{opened-timed, time-fits, guess-fits, reach-fits}
+use Rattle.frame.proofs.Opening.{opened-timed, reach-fits}
 use borrow.Author.Needs.{needs}
 use Rattle.frame.proofs.Frame.push.Statement.{statement}
 use Rattle.frame.proofs.Frame.push.Tie as tie
@@ -10,42 +11,47 @@ use Rattle.frame.proofs.Frame.push.Tie as tie
 opened-requires : tie.Need-opened-requires
 opened-requires c κs = search needs
 
-sub-x : tie.Need-sub-x
-sub-x c = let s = c .before .before in opened-timed _ (c .before .opened .ensures) (s .pre .0) (s .pre .1) .order
+gone-by-requires : tie.Need-gone-by-requires
+gone-by-requires c κs = search needs
 
-mul-x : tie.Need-mul-x
-mul-x c = let s = c .before .before in omega (arith, time-fits _ (c .before .opened .ensures) (s .pre .0) (s .pre .1))
+mul-by : tie.Need-mul-by
+mul-by c = let o = c .before .before in
+    let s = o .before in
+    record { fits = rw (c .before .gone-by .ensures) (omega (arith, reach-fits _ _ (o .opened .ensures) (s .pre .0) (s .pre .1))) }
 
-add-x : tie.Need-add-x
-add-x c = let s = c .before .before .before in omega (arith, time-fits _ (c .before .before .opened .ensures) (s .pre .0) (s .pre .1))
-
-add-base : tie.Need-add-base
-add-base c = search needs
-
-reads-before-requires : tie.Need-reads-before-requires
-reads-before-requires c κs = let s = c .before .before .before .before in
-    let e = c .before .before .before .opened .ensures in
-    (s .pre .0 .apart, guess-fits _ e (s .pre .0) (s .pre .1), reach-fits _ e (s .pre .0) (s .pre .1) _)
+reads-on-requires : tie.Need-reads-on-requires
+reads-on-requires c κs = let o = c .before .before in
+    let s = o .before in
+    let e = o .opened .ensures in (
+      s .pre .0 .apart,
+      opened-timed _ _ e (s .pre .0) (s .pre .1) .read,
+      rw (c .before .gone-by .ensures)
+          (reach-fits _ _ e (s .pre .0) (s .pre .1)),
+    )
 
 counted-requires : tie.Need-counted-requires
-counted-requires c κs = let s = c .before .before .before .before .before in
-    opened-timed _ (c .before .before .before .before .opened .ensures) (s .pre .0) (s .pre .1) .few
+counted-requires c κs = let o = c .before .before .before in
+    let s = o .before in
+    opened-timed _ _ (o .opened .ensures) (s .pre .0) (s .pre .1) .few
 
 returns : tie.Need-returns
-returns c = let a = c .before .before .before .before .before .before .args in
-    let e = c .before .before .before .before .before .opened .ensures in
-    c .counted .ensures ∙ ap (countedOf _ (a .stamp)) (c .before .reads-before .ensures)
-    ∙ ap (λ (f : Frame). countedOf f (a .stamp) (readsOf (a .plan) f (a .t))) e
+returns c = let r = c .before in
+    let g = r .before .before in
+    let o = g .before in
+    let a = o .before .args in
+    c .counted .ensures
+    ∙ ap (countedOf _ (a .stamp)) (r .reads-on .ensures
+    ∙ ap (λ (x : ℕ). readsOn (o .opened .result .reads) (o .opened .result .wait) (a .plan .packets) (a .plan .reads .num)
+    (x * a .plan .reads .den)) (g .gone-by .ensures))
+    ∙ ap (λ (f : Frame). countedOf f (a .stamp) (readsOf (a .plan) f (a .gone))) (o .opened .ensures)
 
 pub push-spec : {M : Type 1} → statement M
 push-spec =
     tie.close
     (tie.spec
     opened-requires
-    sub-x
-    mul-x
-    add-x
-    add-base
-    reads-before-requires
+    gone-by-requires
+    mul-by
+    reads-on-requires
     counted-requires
     returns)

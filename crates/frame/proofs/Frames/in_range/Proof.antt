@@ -1,11 +1,16 @@
--- Each range by its test; twice the period fits.
+-- Each range by its test; twice the period fits, and so does its product with den.
+use Rattle.laws.specs.Kit.{arith}
 use Rattle.laws.specs.Every.{after}
+use Rattle.frame.proofs.Opening.{bound-fits}
 use borrow.Author.Needs.{needs}
 use Rattle.frame.proofs.Frames.in_range.Statement.{statement}
 use Rattle.frame.proofs.Frames.in_range.Tie as tie
 
-mul-result : tie.Need-mul-result
-mul-result c = search needs
+mul-periods : tie.Need-mul-periods
+mul-periods c = search needs
+
+mul-longest : tie.Need-mul-longest
+mul-longest c = record { fits = omega (arith, bound-fits _ (c .before .before .pre)) }
 
 frame-requires : tie.Need-frame-requires
 frame-requires c κs = search needs
@@ -18,4 +23,4 @@ unfolding after
 returns c = rw (c .before .frame .ensures, c .place .ensures)
 
 pub in-range-spec : {M : Type 1} → statement M
-in-range-spec = tie.close (tie.spec mul-result frame-requires place-requires returns)
+in-range-spec = tie.close (tie.spec mul-periods mul-longest frame-requires place-requires returns)

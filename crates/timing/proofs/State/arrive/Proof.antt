@@ -1,66 +1,83 @@
--- Each part by the crate below that makes it.
-use Rattle.laws.specs.Kit.{ℕ, _-_, arith, _≡_, ap, _∙_}
-use Rattle.grain.specs.Paper.{grains as grainsOf, instants}
+-- Each part by the crate below that makes it: what goes by since the packet before, and the drain instants in it.
+use Rattle.laws.specs.Kit.{ℕ, _+_, _*_, _≡_, ap, _∙_, arith}
+use Rattle.grain.specs.Paper.{grains as grainsOf}
+use Rattle.grain.specs.Carry.{dividedOf}
+use Rattle.grain.specs.declared.Division.{Division}
 use Rattle.bucket.specs.Step as B
-use Rattle.packet.specs.Step.{elapsedOf}
-use Rattle.timing.specs.Step.{arriveOf, drainedOf}
+use Rattle.frame.specs.Step as F
+use Rattle.timing.specs.Step.{arriveOf, goneOf, leftOf}
 use borrow.Author.Needs.{needs}
 use Rattle.timing.proofs.State.arrive.Statement.{statement}
 use Rattle.timing.proofs.State.arrive.Tie as tie
 
-elapsed-requires : tie.Need-elapsed-requires
-elapsed-requires c κs = search needs
+since-requires : tie.Need-since-requires
+since-requires c κs = search needs
 
 grains-requires : tie.Need-grains-requires
-grains-requires c κs = let s = c .before .before .before .before .before .before in omega (arith, c .elapsed .ensures, s .pre .since)
+grains-requires c κs = let s = c .before .before .before .before .before .before in omega (arith, c .since .ensures, s .pre .since)
 
-instants-requires : tie.Need-instants-requires
-instants-requires c κs = let e = c .before in
-    let s = e .before .before .before .before .before .before in
-    let p = s .pre in
-    (p .apart, p .guess, rw (c .grains .ensures, e .elapsed .ensures) (p .reach))
+module _ (c : tie.After-grains) where
+  abbrev start : tie.Start
+  start = c .before .before .before .before .before .before .before
+
+  -- what goes by, in grains, and what is left with it
+  gone : c .grains .result ≡ goneOf (start .args .self) (start .args .t)
+  gone = c .grains .ensures ∙ ap grainsOf (c .before .since .ensures)
+
+  moved : c .grains .result * start .args .rules .drains .den ≡ goneOf (start .args .self) (start .args .t) * start .args .rules .drains .den
+  moved = ap (λ (g : ℕ). g * start .args .rules .drains .den) gone
+
+  left : start .args .self .rest + c .grains .result * start .args .rules .drains .den
+      ≡ leftOf (start .args .rules) (start .args .self) (start .args .t)
+  left = ap (λ (g : ℕ). start .args .self .rest + g) moved
+
+mul-divided : tie.Need-mul-divided
+mul-divided c = record { fits = omega (arith, moved (c .before), start (c .before) .pre .reach) }
+
+add-divided : tie.Need-add-divided
+add-divided c = record { fits = omega (arith, moved (c .before .before), start (c .before .before) .pre .reach) }
+
+divided-requires : tie.Need-divided-requires
+divided-requires c κs = start (c .before .before) .pre .apart
 
 next-requires : tie.Need-next-requires
 next-requires c κs = search needs
-
-less-requires : tie.Need-less-requires
-less-requires c κs = search needs
 
 step-requires : tie.Need-step-requires
 step-requires c κs = search needs
 
 arrive-requires : tie.Need-arrive-requires
-arrive-requires c κs = search needs
+arrive-requires c κs = let g = c .before .before .before .before .before in
+    (start g .pre .planned, λ b. rw (gone g) (start g .pre .push b))
 
 returns : tie.Need-returns
 unfolding arriveOf
-returns c = let n = c .before .before .before in
-    let i = n .before in
-    let a = i .before .before .before .before .before .before .before .before .args in
-    let grains : i .before .grains .result ≡ grainsOf (elapsedOf (a .self .past) (a .t)) = i .before .grains .ensures
-    ∙ ap grainsOf (i .before .before .elapsed .ensures) in
-    let drained : i .instants .result ≡ drainedOf (a .rules) (a .self .past) (a .t) =
-    i .instants .ensures ∙ ap (λ (n : ℕ). instants n (a .rules .drains .num) (a .rules .drains .den)) grains in
-    let drains : c .before .before .less .result ≡ drainedOf (a .rules) (a .self .past) (a .t) - a .self .drained =
-    c .before .before .less .ensures ∙ ap (λ (d : ℕ). d - a .self .drained) drained in
+returns c = let n = c .before .before in
+    let d = n .before in
+    let g = d .before .before .before in
+    let a = start g .args in
+    let drains : d .divided .result ≡ dividedOf (leftOf (a .rules) (a .self) (a .t)) (a .rules .drains .num) =
+    d .divided .ensures ∙ ap (λ (x : ℕ). dividedOf x (a .rules .drains .num)) (left g) in
     λ j. record {
       numbers = a .self .numbers;
       past = (n .next .ensures) j;
-      drained = drained j;
+      rest = (ap (λ (q : Division). q .rest) drains) j;
       bucket = (c .before .step .ensures
-          ∙ ap (λ (d : ℕ). B.stepOf (a .self .bucket) (a .self .past .packets) d (a .rules .limit)) drains) j;
-      frames = (c .arrive .ensures) j;
+          ∙ ap (λ (q : Division). B.stepOf (a .self .bucket) (a .self .past .packets) (q .whole) (a .rules .limit)) drains) j;
+      frames = (c .arrive .ensures
+          ∙ ap (λ (x : ℕ). F.arriveOf (a .rules .plan) (a .self .frames) x (a .t) (a .stamp)) (gone g)) j;
     }
 
 pub arrive-spec : {M : Type 1} → statement M
 arrive-spec =
     tie.close
     (tie.spec
-    elapsed-requires
+    since-requires
     grains-requires
-    instants-requires
+    mul-divided
+    add-divided
+    divided-requires
     next-requires
-    less-requires
     step-requires
     arrive-requires
     returns)

@@ -26,20 +26,21 @@ bucket-in-range-requires : tie.Need-in-range-requires-2
 bucket-in-range-requires c κs = search needs
 
 frames-in-range-requires : tie.Need-in-range-requires-3
-frames-in-range-requires c κs = let r = c .before .before .before .before in
+frames-in-range-requires c κs = let r = c .before .before .before .before .before in
     let start = r .before .before .before .before in
     subst (λ (q : Rules). Planned (q .plan)) (sym (r .rules .ensures)) (planned _ (sym (start .before .refusal .ensures) ∙ start .if1 .left))
 
 returns-2 : tie.Need-returns-2
 unfolding after
 returns-2 c =
-    let r = c .before .before .before .before .before in
+    let tests = c .before .before .before in
+    let r = tests .before .before .before in
     let start = r .before .before .before .before in
     rw (
       by-parts (start .before .before .before .args .self),
       c .in-range3 .ensures,
-      c .before .before .in-range2 .ensures,
-      c .before .before .before .in-range .ensures,
+      tests .in-range2 .ensures,
+      tests .before .in-range .ensures,
       r .rules .ensures,
       eq-eqb _ 0 (sym (start .before .refusal .ensures) ∙ start .if1 .left),
     )

@@ -27,9 +27,6 @@ mul-t c = search needs
 shared-slice-read-t : tie.Need-shared-slice-read-t Inv-loop μ-loop
 shared-slice-read-t c = search needs
 
-shared-slice-read-marker : tie.Need-shared-slice-read-marker Inv-loop μ-loop
-shared-slice-read-marker c = search needs
-
 mul-arrive : tie.Need-mul-arrive Inv-loop μ-loop
 mul-arrive c = search needs
 
@@ -47,18 +44,21 @@ first k = packets-cons (start k .pre .0) (k .before .loop .i) (k .loop-test .tak
 
 arrive-requires : tie.Need-arrive-requires Inv-loop μ-loop
 arrive-requires c κs =
-    let k = c .before .before .before in
+    let k = c .before .before in
     loop-arrives as-numbers (first k) (k .before .loop .inv .0)
+
+shared-slice-read-marker : tie.Need-shared-slice-read-if1 Inv-loop μ-loop
+shared-slice-read-marker c = search needs
 
 lay-row-requires : tie.Need-lay-row-requires Inv-loop μ-loop
 lay-row-requires c κs =
     let k = c .before .before .before .before .before .before in
-    rw (c .before .before .arrive .ensures) (loop-lays as-numbers (first k) (k .before .loop .inv .0) (c .before .if1 .taken))
+    rw (c .before .before .before .arrive .ensures) (loop-lays as-numbers (first k) (k .before .loop .inv .0) (c .before .if1 .taken))
 
 mark-requires : tie.Need-mark-requires Inv-loop μ-loop
 mark-requires c κs =
     let k = c .before .before .before .before .before .before .before .before in
-    rw (c .before .before .before .before .arrive .ensures) (loop-closed as-numbers (first k) (k .before .loop .inv .0))
+    rw (c .before .before .before .before .before .arrive .ensures) (loop-closed as-numbers (first k) (k .before .loop .inv .0))
 
 add-i : tie.Need-add-i Inv-loop μ-loop
 add-i c =
@@ -72,7 +72,7 @@ loop-again : tie.Need-loop-again Inv-loop μ-loop
 loop-again c =
     let k = c .before .before .before .before .before in
     let l = k .before .loop in
-    let a = c .before .arrive .ensures in (
+    let a = c .before .before .arrive .ensures in (
       loop-next as-numbers (first k) (l .inv .0)
           (⊎-elim
           (λ w. rw (w .6, w .7, w .5)
@@ -100,10 +100,10 @@ run-spec =
     loop-holds
     mul-t
     shared-slice-read-t
-    shared-slice-read-marker
     mul-arrive
     shared-slice-read-arrive
     arrive-requires
+    shared-slice-read-marker
     lay-row-requires
     mark-requires
     add-i
