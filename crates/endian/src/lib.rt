@@ -94,6 +94,29 @@ pub fn read32_by(order: Order, s: &[u8], at: usize) -> u32
     }
 }
 
+// And of eight.
+fn turned64(x: u64) -> u64
+    ensures { λ r. ⌜ r ≡ numberOf (reverse (bytesOf 8 x)) ⌝ }
+{
+    let high = turned((x / 4294967296) as u32);
+    let low = turned((x % 4294967296) as u32);
+    (low as u64) * 4294967296 + (high as u64)
+}
+
+// Four bytes of a number that is told in 64 bits, the lowest first. In this form the compiler sees one store of them, and of eight bytes,
+// however many numbers are written in a row. A number that was turned stands there the highest byte first.
+fn put_lowest_first(d: &mut [u8], at: usize, y: u64)
+    requires { ⌜ Room 4 (now d) at × (y < 4294967296) ⌝ }
+    ensures { λ _. ⌜ now (d .exit) ≡ sets (now (d .entry)) at (reverse (bytesOf 4 y)) ⌝ }
+{
+    let below = y % 16777216;
+    let low = below % 65536;
+    d[at] = (low % 256) as u8;
+    d[at + 1] = (low / 256) as u8;
+    d[at + 2] = (below / 65536) as u8;
+    d[at + 3] = (y / 16777216) as u8;
+}
+
 // And written, the highest byte first; the bytes around it stay.
 pub fn write16(d: &mut [u8], at: usize, x: u16)
     requires { ⌜ Room 2 (now d) at ⌝ }
@@ -107,14 +130,14 @@ pub fn write32(d: &mut [u8], at: usize, x: u32)
     requires { ⌜ Room 4 (now d) at ⌝ }
     ensures { λ _. ⌜ now (d .exit) ≡ sets (now (d .entry)) at (bytesOf 4 x) ⌝ }
 {
-    write16(d, at, (x / 65536) as u16);
-    write16(d, at + 2, (x % 65536) as u16);
+    put_lowest_first(d, at, turned(x) as u64);
 }
 
 pub fn write64(d: &mut [u8], at: usize, x: u64)
     requires { ⌜ Room 8 (now d) at ⌝ }
     ensures { λ _. ⌜ now (d .exit) ≡ sets (now (d .entry)) at (bytesOf 8 x) ⌝ }
 {
-    write32(d, at, (x / 4294967296) as u32);
-    write32(d, at + 4, (x % 4294967296) as u32);
+    let y = turned64(x);
+    put_lowest_first(d, at, y % 4294967296);
+    put_lowest_first(d, at + 4, y / 4294967296);
 }

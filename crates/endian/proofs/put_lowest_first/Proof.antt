@@ -1,0 +1,63 @@
+-- Four bytes, the lowest first, are the number's bytes the other way round.
+use Rattle.laws.specs.Kit.{arith, length-set}
+use borrow.Author.Needs.{needs}
+use Rattle.endian.proofs.Turning.{lowest-first}
+use Rattle.endian.proofs.put_lowest_first.Statement.{statement}
+use Rattle.endian.proofs.put_lowest_first.Tie as tie
+
+cast-d : tie.Need-cast-d
+cast-d c = search needs
+
+slice-write-d : tie.Need-slice-write-d
+slice-write-d c = search needs
+
+cast-d-2 : tie.Need-cast-d-2
+cast-d-2 c = search needs
+
+add-d : tie.Need-add-d
+add-d c = search needs
+
+slice-write-d-2 : tie.Need-slice-write-d-2
+slice-write-d-2 c = simp length-set (omega arith)
+
+cast-d-3 : tie.Need-cast-d-3
+cast-d-3 c = search needs
+
+add-d-2 : tie.Need-add-d-2
+add-d-2 c = search needs
+
+slice-write-d-3 : tie.Need-slice-write-d-3
+slice-write-d-3 c = simp length-set (omega arith)
+
+cast-d-4 : tie.Need-cast-d-4
+cast-d-4 c = search needs
+
+add-d-3 : tie.Need-add-d-3
+add-d-3 c = search needs
+
+slice-write-d-4 : tie.Need-slice-write-d-4
+slice-write-d-4 c = simp length-set (omega arith)
+
+same-length : tie.Need-same-length
+same-length c = search needs
+
+returns : tie.Need-returns
+returns c = lowest-first _ _ _
+
+pub put-lowest-first-spec : {M : Type 1} → statement M
+put-lowest-first-spec =
+    tie.close
+    (tie.spec
+    cast-d
+    slice-write-d
+    cast-d-2
+    add-d
+    slice-write-d-2
+    cast-d-3
+    add-d-2
+    slice-write-d-3
+    cast-d-4
+    add-d-3
+    slice-write-d-4
+    same-length
+    returns)
