@@ -56,6 +56,17 @@ impl Network {
             Network::Burst(run) => run.last,
         }
     }
+
+    // The same answer, put together anew. Copied whole it would take along the bytes between its tag and its numbers, which the compiler
+    // keeps in memory and not in a register: each packet would wait until the one before has stored them.
+    fn anew(self) -> Network
+        ensures { λ r. ⌜ r ≡ self ⌝ }
+    {
+        match self {
+            Network::Pass => Network::Pass,
+            Network::Burst(run) => Network::Burst(run),
+        }
+    }
 }
 
 impl Bucket {
@@ -123,11 +134,12 @@ fn arrived(level: u64, start: u64, peak: u64, network: Network, place: u64, limi
             network: answer,
         };
     }
+    let answer = network.anew();
     Bucket {
         level,
         start,
         peak,
-        network,
+        network: answer,
     }
 }
 

@@ -364,14 +364,30 @@ impl Buffer {
         }
     }
 
+    // The same answer, put together anew, as the bucket does with its own: no byte between tag and numbers is copied.
+    fn anew(self) -> Buffer
+        ensures { λ r. ⌜ r ≡ self ⌝ }
+    {
+        match self {
+            Buffer::None => Buffer::None,
+            Buffer::Pass => Buffer::Pass,
+            Buffer::Under(p) => Buffer::Under(p),
+            Buffer::Over(p) => Buffer::Over(p),
+        }
+    }
+
     // The answer so far, and then the next frame's: the first that fails decides.
     pub fn then(self, next: Buffer) -> Buffer
         ensures { λ r. ⌜ r ≡ joined self next ⌝ }
     {
         if self.has_failed() {
-            return self;
+            return self.anew();
         }
-        if next.is_none() { self } else { next }
+        if next.is_none() {
+            self.anew()
+        } else {
+            next.anew()
+        }
     }
 }
 

@@ -12,10 +12,13 @@ returns c = let a = c .before .before .args in
     let peak : max (a .peak) (a .level) ≡ a .level = omega arith in
     rw (lt-ltb (a .peak) (a .level) (omega arith), c .judge .ensures, peak)
 
+anew-requires : tie.Need-anew-requires
+anew-requires c κs = search needs
+
 returns-2 : tie.Need-returns-2
-returns-2 c = let a = c .before .args in
+returns-2 c = let a = c .before .before .args in
     let peak : max (a .peak) (a .level) ≡ a .peak = omega arith in
-    rw (le-ltb (a .peak) (a .level) (omega arith), peak)
+    rw (le-ltb (a .peak) (a .level) (omega arith), c .anew .ensures, peak)
 
 pub arrived-spec : {M : Type 1} → statement M
-arrived-spec = tie.close (tie.spec judge-requires returns returns-2)
+arrived-spec = tie.close (tie.spec judge-requires returns anew-requires returns-2)
