@@ -2,6 +2,7 @@
 use Rattle.laws.specs.Kit.{_≡_, sym, subst, ℕ, _+_, _*_, _≤_, _<_, arith, mul-le-mul, mul-le-mul-right, eqb}
 use Rattle.laws.proofs.Choose.{pick-either}
 use Rattle.grain.specs.Paper.{grains, phase}
+use Rattle.grain.specs.Carry.{ReadsAsks}
 use Rattle.grain.proofs.Rounding.{phase-small}
 use Rattle.grain.proofs.Extremes.{reads-fit}
 use Rattle.frame.specs.declared.Plan.{Plan}
@@ -14,6 +15,7 @@ pub record Timed (plan : Plan) (f : Frame) (gone : ℕ) : Type 0 where
   pub near : gone ≤ 16200000000000
   pub phased : f .phase ≤ 2 * plan .period
   pub read : f .reads ≤ plan .packets
+  pub waits : f .wait ≤ 2 * plan .period * plan .reads .den
 
 module _ (plan : Plan) (p : Planned plan) where
   -- read 0 lies two periods after its period's start at most
@@ -38,7 +40,13 @@ module _ (plan : Plan) (p : Planned plan) where
 
     pub timed : (gone : ℕ) → PushAsks plan f gone → Timed plan (openedOf plan f t stamp) gone
     unfolding openedOf
-    timed gone h = record { few = h .few; near = h .near; phased = phase-fits (h .phased); read = h .read }
+    timed gone h = record {
+      few = h .few;
+      near = h .near;
+      phased = phase-fits (h .phased);
+      read = h .read;
+      waits = wait-fits (h .waits);
+    }
 
 module _ {plan : Plan} {f g : Frame} {gone : ℕ} (t stamp : ℕ) (e : g ≡ openedOf plan f t stamp) (p : Planned plan)
     (h : PushAsks plan f gone) where
@@ -51,7 +59,11 @@ module _ {plan : Plan} {f g : Frame} {gone : ℕ} (t stamp : ℕ) (e : g ≡ ope
       pick-either (λ x. x ≤ 16204294967296) (eqb (g .held) 0) (λ z. omega (arith, opened-timed .phased, p .short))
       (λ z. omega (arith, opened-timed .near))
 
-  pub reach-fits : g .reads + goneOf g gone * plan .reads .den + plan .reads .num < 18446744073709551616
-  reach-fits =
-      reads-fit (g .reads) (goneOf g gone) (plan .reads .den) (plan .reads .num) (omega (arith, opened-timed .read, p .few)) gone-fits
-      (p .divided) (omega (arith, p .near, p .short))
+  pub reach-fits : ReadsAsks (g .reads) (g .wait) (plan .packets) (plan .reads .num) (goneOf g gone * plan .reads .den)
+  reach-fits = record {
+    apart = p .apart;
+    among = opened-timed .read;
+    goes = reads-fit (g .reads) (goneOf g gone) (plan .reads .den) (plan .reads .num) (omega (arith, opened-timed .read, p .few)) gone-fits
+        (p .divided) (omega (arith, p .near, p .short));
+    waits = omega (arith, opened-timed .waits, bound-fits plan p, p .near, p .short);
+  }

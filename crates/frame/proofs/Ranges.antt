@@ -84,7 +84,13 @@ place-small known place hit l = pick-either (λ k. k ≤ place + 1) hit (λ e. o
 
 module _ (plan : Plan) (s : Frames) (first last packets gone t : ℕ) (p : Planned plan) (k : Kept plan s first last packets) where
   pub pushable : gone ≤ 16200000000000 → (s .begun ≡ true → Next first last packets t) → s .begun ≡ true → PushAsks plan (s .current) gone
-  pushable near next e = record { few = omega (arith, k .held, next e .few); near = near; phased = omega (arith, k .phased); read = k .read }
+  pushable near next e = record {
+    few = omega (arith, k .held, next e .few);
+    near = near;
+    phased = omega (arith, k .phased);
+    read = k .read;
+    waits = k .waits;
+  }
 
   -- what is pushed
   pub record Pushed (f : Frame) : Type 0 where

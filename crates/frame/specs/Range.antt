@@ -29,6 +29,7 @@ pub record PushAsks (plan : Plan) (f : Frame) (gone : ℕ) : Type 0 where
   pub near : gone ≤ 16200000000000
   pub phased : f .phase ≤ 2 * plan .period
   pub read : f .reads ≤ plan .packets
+  pub waits : f .wait ≤ 2 * plan .period * plan .reads .den
 
 -- before a row is made: the frame's first packet comes after the marker before it, at most 600 s
 pub record RowAsks (plan : Plan) (number marked began : ℕ) (f : Frame) : Type 0 where

@@ -1,6 +1,7 @@
 -- What a step carries from one packet to the next in place of the product and the quotient of a whole time: what is left after the last
 -- instant, and how far it is to the next read. Both are told of the whole time; that a step keeps them so: proofs/Onward.antt.
-use Rattle.laws.specs.Kit.{_≡_, ℕ, _+_, _*_, _-_, _/_, _%_, _<_, min}
+use Rattle.laws.specs.Kit.{_≡_, ℕ, _+_, _*_, _-_, _/_, _%_, _≤_, _<_, min, leb}
+use Rattle.laws.specs.Choose.{pick}
 use Rattle.grain.specs.declared.Division.{Division}
 use Rattle.grain.specs.declared.Reads.{Reads}
 
@@ -13,6 +14,10 @@ sinceInstant e num den = e * den % num
 -- x in whole num's, and what is left of it
 abbrev pub dividedOf : ℕ → ℕ → Division
 dividedOf x num = record { whole = x / num; rest = x % num }
+
+-- one num taken off x, where it is in it
+unfoldable pub takenOf : ℕ → ℕ → Division
+takenOf x num = record { whole = pick (leb num x) 1 0; rest = pick (leb num x) (x - num) x }
 
 -- ---- reads
 
@@ -39,3 +44,10 @@ readsOn count wait n num gone = record {
   count = min n (count + passedBy wait num gone);
   wait = wait + passedBy wait num gone * num - gone;
 }
+
+-- before so much goes by: nothing leaves 64 bits on the way to the second read after the next, nor where the time is divided
+pub record ReadsAsks (count wait n num gone : ℕ) : Type 0 where
+  pub apart : 0 < num
+  pub among : count ≤ n
+  pub goes : count + gone + 2 * num < 18446744073709551616
+  pub waits : wait + 2 * num < 18446744073709551616

@@ -6,7 +6,7 @@ ghost use Rattle.laws.specs.Kit.{_≡_, _+_, _*_, _-_, _/_, _%_, _≤_, _<_, su
 ghost use mir.Syntax.{w64};
 ghost use mir.Val.{ofZ};
 ghost use Rattle.grain.specs.Paper.{nanosecond, grains, phase, wrap, sinceEncoded, latency};
-ghost use Rattle.grain.specs.Carry.{dividedOf, readsOn};
+ghost use Rattle.grain.specs.Carry.{takenOf, dividedOf, ReadsAsks, readsOn};
 
 // The one home of both numbers: every crate that needs them takes them from here.
 pub const GRAINS_PER_NANOSECOND: u64 = 27;
@@ -103,26 +103,32 @@ pub struct Division {
     pub rest: u64,
 }
 
-// A division is the costly part, and from one packet to the next there are mostly no whole num's, one or two: those are tried first.
+// One num taken off x, where it is in it. It is compiled without a branch: from packet to packet nobody can tell whether an instant comes by,
+// and a processor that guesses wrong loses more than both ways cost.
+fn taken(x: u64, num: u64) -> Division
+    ensures { λ r. ⌜ r ≡ takenOf x num ⌝ }
+{
+    if num <= x {
+        Division {
+            whole: 1,
+            rest: x - num,
+        }
+    } else {
+        Division { whole: 0, rest: x }
+    }
+}
+
+// A division is the costly part, and from one packet to the next there are mostly no whole num's, one or two: those are taken off.
 pub fn divided(x: u64, num: u64) -> Division
     requires { ⌜ 0 < num ⌝ }
     ensures { λ r. ⌜ r ≡ dividedOf x num ⌝ }
 {
-    if x < num {
-        return Division { whole: 0, rest: x };
-    }
-    let once = x - num;
-    if once < num {
+    let once = taken(x, num);
+    let twice = taken(once.rest, num);
+    if twice.rest < num {
         return Division {
-            whole: 1,
-            rest: once,
-        };
-    }
-    let twice = once - num;
-    if twice < num {
-        return Division {
-            whole: 2,
-            rest: twice,
+            whole: once.whole + twice.whole,
+            rest: twice.rest,
         };
     }
     Division {
@@ -137,32 +143,29 @@ pub struct Reads {
     pub wait: u64,
 }
 
-// Of n reads `count` are over, and the next is `wait` away: `gone` goes by, told times den as `wait` is. Mostly no read comes by then, one
-// or two: those cost no division.
+// Of n reads `count` are over, and the next is `wait` away: `gone` goes by, told times den as `wait` is. Up to read 0 that is seen at
+// once. Then mostly no read comes by, one or two: of the time that is left to the second read after the next, the spacings that are
+// whole are those of reads that have not come.
 pub fn reads_on(count: u64, wait: u64, n: u64, num: u64, gone: u64) -> Reads
-    requires { ⌜ (0 < num) × (count ≤ n) × (count + gone + num < 18446744073709551616) ⌝ }
+    requires { ⌜ ReadsAsks count wait n num gone ⌝ }
     ensures { λ r. ⌜ r ≡ readsOn count wait n num gone ⌝ }
 {
-    if gone <= wait {
+    if count == 0 && gone <= wait {
         return Reads {
             count: count,
             wait: wait - gone,
         };
     }
+    let second = wait + 2 * num;
+    if gone <= second {
+        let once = taken(second - gone, num);
+        let twice = taken(once.rest, num);
+        return Reads {
+            count: laws::lesser(n, count + (2 - once.whole - twice.whole)),
+            wait: twice.rest,
+        };
+    }
     let over = gone - wait;
-    if over <= num {
-        return Reads {
-            count: laws::lesser(n, count + 1),
-            wait: num - over,
-        };
-    }
-    let more = over - num;
-    if more <= num {
-        return Reads {
-            count: laws::lesser(n, count + 2),
-            wait: num - more,
-        };
-    }
     let passed = (over + (num - 1)) / num;
     Reads {
         count: laws::lesser(n, count + passed),

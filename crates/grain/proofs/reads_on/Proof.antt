@@ -1,37 +1,53 @@
--- No read comes by, one, two, or so many as are divided out.
-use Rattle.laws.specs.Kit.{_-_, arith}
+-- No read comes by before read 0; else so many as are not left of two, or as are divided out.
+use Rattle.laws.specs.Kit.{_-_, arith, leb-true}
 use borrow.Author.Needs.{needs}
-use Rattle.grain.proofs.Carried.{reads-are, up-low, up-high, up-small}
+use Rattle.grain.proofs.Carried.{taken-off, twice-off, reads-are, reads-near, up-low, up-high, up-small}
 use Rattle.grain.proofs.reads_on.Statement.{statement}
 use Rattle.grain.proofs.reads_on.Tie as tie
 
+sub-soon : tie.Need-sub-t13
+sub-soon c = search needs
+
 returns : tie.Need-returns
-returns c = reads-are _ _ _ _ _ 0 (c .before .pre .0) _ _ (omega arith) (omega arith) (omega arith) (omega arith)
+returns c =
+    let start = c .before .before in
+    let soon = leb-true (start .args .gone) (start .args .wait) (c .if2 .taken) in
+    reads-are _ _ _ _ _ 0 (start .pre .apart) _ _ (omega (arith, start .pre .apart)) (omega (arith, soon))
+    (omega (arith, start .pre .among)) (omega (arith, soon))
+
+mul-second : tie.Need-mul-second
+mul-second c = search needs
+
+add-second : tie.Need-add-second
+add-second c = search needs
+
+taken-requires : tie.Need-taken-requires
+taken-requires c κs = search needs
+
+taken-requires-2 : tie.Need-taken-requires-2
+taken-requires-2 c κs = search needs
+
+sub-once : tie.Need-sub-lesser
+sub-once c = omega (arith, taken-off (c .before .before .taken .ensures) .few)
+
+sub-twice : tie.Need-sub-lesser-2
+sub-twice c = let off = c .before .before in omega (arith, twice-off (off .before .taken .ensures) (off .taken2 .ensures) .few)
+
+add-few : tie.Need-add-lesser
+add-few c = search needs
+
+lesser-few : tie.Need-lesser-requires
+lesser-few c κs = search needs
+
+returns-2 : tie.Need-returns-2
+returns-2 c =
+    let off = c .before .before .before in
+    let near = off .before .before in
+    reads-near _ _ _ _ _ _ _ _ (near .before .before .pre .apart) (near .if3 .taken)
+    (twice-off (off .before .taken .ensures) (off .taken2 .ensures)) (omega (arith, c .lesser .ensures))
 
 sub-over : tie.Need-sub-over
 sub-over c = search needs
-
-add-one : tie.Need-add-lesser
-add-one c = search needs
-
-lesser-one : tie.Need-lesser-requires
-lesser-one c κs = search needs
-
-returns-2 : tie.Need-returns-2
-returns-2 c = reads-are _ _ _ _ _ 1 (c .before .before .before .pre .0) _ _ (omega arith) (omega arith) (c .lesser .ensures) (omega arith)
-
-sub-more : tie.Need-sub-more
-sub-more c = search needs
-
-add-two : tie.Need-add-lesser-2
-add-two c = search needs
-
-lesser-two : tie.Need-lesser-requires-2
-lesser-two c κs = search needs
-
-returns-3 : tie.Need-returns-3
-returns-3 c =
-    reads-are _ _ _ _ _ 2 (c .before .before .before .before .pre .0) _ _ (omega arith) (omega arith) (c .lesser2 .ensures) (omega arith)
 
 sub-passed : tie.Need-sub-passed
 sub-passed c = search needs
@@ -42,42 +58,45 @@ add-passed c = search needs
 div-passed : tie.Need-div-passed
 div-passed c = search needs
 
-add-many : tie.Need-add-lesser-3
-add-many c = let start = c .before .before .before in
-    let a = start .args in omega (arith, up-small (a .gone - a .wait) (a .num) (start .pre .0))
+add-many : tie.Need-add-lesser-2
+add-many c = let start = c .before .before in
+    let a = start .args in omega (arith, up-small (a .gone - a .wait) (a .num) (start .pre .apart))
 
-lesser-many : tie.Need-lesser-requires-3
+lesser-many : tie.Need-lesser-requires-2
 lesser-many c κs = search needs
 
-mul-passed : tie.Need-mul-t19
-mul-passed c = let start = c .before .before .before .before in
-    let a = start .args in record { fits = omega (arith, up-high (a .gone - a .wait) (a .num) (start .pre .0)) }
+mul-passed : tie.Need-mul-t21
+mul-passed c = let start = c .before .before .before in
+    let a = start .args in record { fits = omega (arith, up-high (a .gone - a .wait) (a .num) (start .pre .apart)) }
 
-sub-wait : tie.Need-sub-t20
-sub-wait c = let start = c .before .before .before .before in
-    let a = start .args in up-low (a .gone - a .wait) (a .num) (start .pre .0)
+sub-wait : tie.Need-sub-t22
+sub-wait c = let start = c .before .before .before in
+    let a = start .args in up-low (a .gone - a .wait) (a .num) (start .pre .apart)
 
-returns-4 : tie.Need-returns-4
-returns-4 c =
-    let start = c .before .before .before .before in
+returns-3 : tie.Need-returns-3
+returns-3 c =
+    let start = c .before .before .before in
     let a = start .args in
-    let low = up-low (a .gone - a .wait) (a .num) (start .pre .0) in
-    reads-are _ _ _ _ _ _ (start .pre .0) _ _ (up-high (a .gone - a .wait) (a .num) (start .pre .0)) low (c .lesser3 .ensures)
+    let low = up-low (a .gone - a .wait) (a .num) (start .pre .apart) in
+    reads-are _ _ _ _ _ _ (start .pre .apart) _ _ (up-high (a .gone - a .wait) (a .num) (start .pre .apart)) low (c .lesser2 .ensures)
     (omega (arith, low))
 
 pub reads-on-spec : {M : Type 1} → statement M
 reads-on-spec =
     tie.close
     (tie.spec
+    sub-soon
     returns
-    sub-over
-    add-one
-    lesser-one
+    mul-second
+    add-second
+    taken-requires
+    taken-requires-2
+    sub-once
+    sub-twice
+    add-few
+    lesser-few
     returns-2
-    sub-more
-    add-two
-    lesser-two
-    returns-3
+    sub-over
     sub-passed
     add-passed
     div-passed
@@ -85,4 +104,4 @@ reads-on-spec =
     lesser-many
     mul-passed
     sub-wait
-    returns-4)
+    returns-3)

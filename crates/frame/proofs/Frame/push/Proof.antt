@@ -17,17 +17,12 @@ gone-by-requires c κs = search needs
 mul-by : tie.Need-mul-by
 mul-by c = let o = c .before .before in
     let s = o .before in
-    record { fits = rw (c .before .gone-by .ensures) (omega (arith, reach-fits _ _ (o .opened .ensures) (s .pre .0) (s .pre .1))) }
+    record { fits = rw (c .before .gone-by .ensures) (omega (arith, reach-fits _ _ (o .opened .ensures) (s .pre .0) (s .pre .1) .goes)) }
 
 reads-on-requires : tie.Need-reads-on-requires
 reads-on-requires c κs = let o = c .before .before in
     let s = o .before in
-    let e = o .opened .ensures in (
-      s .pre .0 .apart,
-      opened-timed _ _ e (s .pre .0) (s .pre .1) .read,
-      rw (c .before .gone-by .ensures)
-          (reach-fits _ _ e (s .pre .0) (s .pre .1)),
-    )
+    rw (c .before .gone-by .ensures) (reach-fits _ _ (o .opened .ensures) (s .pre .0) (s .pre .1))
 
 counted-requires : tie.Need-counted-requires
 counted-requires c κs = let o = c .before .before .before in
