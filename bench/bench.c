@@ -223,10 +223,12 @@ static void keep_least(double *least, double x)
     if (*least == 0 || x < *least) *least = x;
 }
 
-/* Nanoseconds for so many calls. */
+/* Nanoseconds for so many calls. One goes before them untimed, here and for files and captures: so each finds in the cache what it has
+   left there itself, and not what the function before it in the turn has. */
 static double timed(feed_function *feed, size_t calls, struct stream s, struct list l, int64_t *rows, size_t row_count)
 {
     uint64_t out[SUMMARY];
+    fed(feed, s, l, rows, row_count, out);
     double start = now();
     for (size_t k = 0; k < calls; k++) fed(feed, s, l, rows, row_count, out);
     return now() - start;
@@ -315,12 +317,13 @@ static struct file file_of(struct stream s, struct list l)
 
 static double timed_file(measure_function *measure, size_t calls, struct file f, uint8_t *out, size_t size)
 {
-    double start = now();
-    for (size_t k = 0; k < calls; k++)
-        if (measure(f.bytes, f.size, out, size) != 0) {
-            printf("DIFFERENT: the file is refused\n");
-            exit(1);
-        }
+    double start = 0;
+    for (size_t k = 0; k <= calls; k++) {
+        if (k == 1) start = now();
+        if (measure(f.bytes, f.size, out, size) == 0) continue;
+        printf("DIFFERENT: the file is refused\n");
+        exit(1);
+    }
     return now() - start;
 }
 
@@ -430,15 +433,21 @@ static void must_accept(const char *what, uint32_t refused)
 
 static double timed_capture(capture_function *measure, struct stream s, struct file f, uint8_t *out, size_t size)
 {
-    double start = now();
-    must_accept("one of them", captured_by(measure, s, f, out, size));
+    double start = 0;
+    for (int k = 0; k < 2; k++) {
+        start = now();
+        must_accept("one of them", captured_by(measure, s, f, out, size));
+    }
     return now() - start;
 }
 
 static double timed_libpcap(const char *name, struct stream s, uint8_t *out, size_t size)
 {
-    double start = now();
-    must_accept("libpcap", captured_by_libpcap(name, s, out, size));
+    double start = 0;
+    for (int k = 0; k < 2; k++) {
+        start = now();
+        must_accept("libpcap", captured_by_libpcap(name, s, out, size));
+    }
     return now() - start;
 }
 
@@ -531,10 +540,11 @@ static void time_capture(uint32_t n, size_t count, size_t captured, const char *
     uint8_t *out = room(size);
     int libpcap = agree_on_capture(s, f, name, out, size);
     double times[COLUMNS] = {0};
-    for (int round = 0; round < ROUNDS; round++) {
-        keep_least(times + PROVED, timed_capture(vtiming_capture, s, f, out, size));
-        keep_least(times + KIT, timed_capture(kit_walker_capture, s, f, out, size));
-        keep_least(times + SYSTEM, timed_capture(walker_capture, s, f, out, size));
+    capture_function *const walks[] = {vtiming_capture, kit_walker_capture, walker_capture};
+    static const int columns[] = {PROVED, KIT, SYSTEM};
+    /* A capture may be larger than the cache, and who comes later in a round finds more of it there: so each comes once at each place. */
+    for (int round = 0; round < 3; round++) {
+        for (int k = round; k < round + 3; k++) keep_least(times + columns[k % 3], timed_capture(walks[k % 3], s, f, out, size));
         if (libpcap) keep_least(times + PART, timed_libpcap(name, s, out, size));
     }
     char kind[32];

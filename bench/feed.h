@@ -6,7 +6,7 @@
 #include <stddef.h>
 #include <stdint.h>
 
-/* The proved code, from libprobe.a. A state is 32 words, one for each number of docs/STATE.md in its order, a flag as 0 or 1
+/* The proved code, from libprobe.a. A state is 33 words, one for each number of docs/STATE.md in its order, a flag as 0 or 1
    and an answer as document 01's three numbers for it. Whoever calls keeps them between the calls. */
 #define STATE_WORDS 33
 
