@@ -1,7 +1,8 @@
--- A quotient and what is left, where the multiples around x are known; and from them the reads that come by in a time, and the wait after it.
-use Rattle.laws.specs.Kit.{_≡_, refl, sym, ap, _∙_, subst, Bool, true, false, ℕ, _+_, _*_, _-_, _/_, _%_, _≤_, _<_, min, arith, div-eq-of-lt-le, div-add-mod'}
-use Rattle.laws.specs.Kit.{div-mul-le-self, lt-div-mul-add, suc-mul, add-mul, mul-le-mul-left, decLe, decLt, leb}
-use Rattle.laws.specs.Kit.{leb-true, leb-false}
+-- A quotient and what is left, where the multiples around x are known or taken off one by one; and from them the reads that come by in a
+-- time, and the wait after it.
+use Rattle.laws.specs.Kit.{_≡_, refl, sym, ap, _∙_, subst, Bool, true, false, ℕ, _+_, _*_, _-_, _/_, _%_, _≤_, _<_, min, arith, decLe, decLt}
+use Rattle.laws.specs.Kit.{div-eq-of-lt-le, div-add-mod', div-mul-le-self, lt-div-mul-add, suc-mul, add-mul, mul-le-mul-left}
+use Rattle.laws.specs.Kit.{leb, leb-true, leb-false}
 use Rattle.laws.specs.Choose.{pick}
 use Rattle.grain.specs.declared.Division.{Division}
 use Rattle.grain.specs.declared.Reads.{Reads}
