@@ -8,6 +8,7 @@ use Rattle.laws.specs.Count.{count, UpTo}
 use Rattle.laws.proofs.Count.{count-le, falls-up-to}
 use Rattle.laws.proofs.Differ.{differ-sub, differ-le, differ-same}
 use Rattle.grain.specs.Paper.{readBefore, readsBefore}
+use Rattle.grain.proofs.ReadCount.{reads-first}
 
 -- n packets that come in order, packet i at a i; read j is num / den times j after base
 pub record Arrivals : Type 0 where
@@ -35,11 +36,6 @@ module _ (f : Arrivals) where
   abbrev A : ℕ → ℕ
   A j = count (λ i. leb (came i) (due j)) n
 
-  reads-first : (x : ℕ) → UpTo (readBefore base num den x) n (readsBefore n base num den x)
-  reads-first x = falls-up-to (readBefore base num den x) n (record {
-    down = λ i j l k q. lt-ltb (due i) (x * den) (omega (arith, ltb-true (due j) (x * den) q, mul-le-mul-right num l));
-  })
-
   arrived-first : (j : ℕ) → UpTo (λ i. leb (came i) (due j)) n (A j)
   arrived-first j = falls-up-to (λ i. leb (came i) (due j)) n (record {
     down = λ i k l g q. le-leb (came i) (due j) (omega (arith, leb-true (came k) (due j) q, mul-le-mul-right den (up i k l g)));
@@ -48,12 +44,12 @@ module _ (f : Arrivals) where
   pub there-after : (i j : ℕ) → i < n → j < n → i < A j → R i ≤ j
   there-after i j hi hj l =
       let there = leb-true (came i) (due j) (arrived-first j .passes i hi l) in
-      let late : ¬ (j < R i) = λ q. omega (arith, ltb-true (due j) (came i) (reads-first (a i) .passes j hj q)) in
+      let late : ¬ (j < R i) = λ q. omega (arith, ltb-true (due j) (came i) (reads-first n base num den (a i) .passes j hj q)) in
       omega arith
 
   pub after-there : (i j : ℕ) → i < n → j < n → R i ≤ j → i < A j
   after-there i j hi hj l =
-      let late : ¬ (due j < came i) = λ q. omega (arith, reads-first (a i) .inside j hj (lt-ltb (due j) (came i) q)) in
+      let late : ¬ (due j < came i) = λ q. omega (arith, reads-first n base num den (a i) .inside j hj (lt-ltb (due j) (came i) q)) in
       arrived-first j .inside i hi (le-leb (came i) (due j) (omega arith))
 
   -- packet j is late exactly when more than j reads come before it
@@ -61,11 +57,11 @@ module _ (f : Arrivals) where
   late-is j l = go (ltb j (R j)) refl
     where
       go : (t : Bool) → ltb j (R j) ≡ t → ltb (due j) (came j) ≡ t
-      go true e = reads-first (a j) .passes j l (ltb-true j (R j) e)
+      go true e = reads-first n base num den (a j) .passes j l (ltb-true j (R j) e)
       go false e = at (ltb (due j) (came j)) refl
         where
           at : (t : Bool) → ltb (due j) (came j) ≡ t → t ≡ false
-          at true q = sym (lt-ltb j (R j) (reads-first (a j) .inside j l q)) ∙ e
+          at true q = sym (lt-ltb j (R j) (reads-first n base num den (a j) .inside j l q)) ∙ e
           at false q = refl
 
   -- the greatest lack of packets at an arrival

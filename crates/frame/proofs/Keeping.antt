@@ -1,20 +1,21 @@
 -- What the open frame keeps, packet by packet, is what its packets say: one step goes from what k
 -- packets say to what k + 1 say. And its times, taken from the first packet on, are those of document 01.
-use Rattle.laws.specs.Kit.{_≡_, refl, sym, ap, _∙_, Bool, true, false, not, ℕ, suc, _+_, _-_, _*_, _≤_, _<_, arith, add-mul, zero-mul}
+use Rattle.laws.specs.Kit.{_≡_, refl, sym, ap, _∙_, Bool, true, false, not, ℕ, suc, _+_, _-_, _*_, _≤_, _<_, arith, add-mul}
 use Rattle.laws.specs.Kit.{decLt, ltb, eqb, eqb·suc-zero, ltb-true, ltb-false, lt-ltb, le-ltb, eq-eqb, eqb-true, eqb-false}
 use native.Mathlib.Numerals.{add-one}
+use Rattle.laws.specs.Choose.{pick}
 use Rattle.laws.specs.Most.{most}
 use Rattle.laws.specs.Seek.{seek, hit}
 use Rattle.laws.proofs.Choose.{false-true}
 use Rattle.laws.proofs.Count.{count-same}
 use Rattle.laws.proofs.Most.{most-is}
 use Rattle.laws.proofs.Seek.{seek-is, hit-next, hit-on}
-use Rattle.grain.specs.Paper.{grains, frameTime, phase, readBefore, readsBefore}
-use Rattle.grain.specs.Carry.{waitAt, readsOn}
+use Rattle.grain.specs.Paper.{grains, frameTime, phase, readBefore, readsBefore, nextRead}
+use Rattle.grain.specs.Carry.{readsAt, readsOn}
 use Rattle.grain.specs.declared.Reads.{Reads}
+use Rattle.grain.specs.declared.NextRead.the-variants.{In, NoneLeft}
 use Rattle.grain.proofs.Rounding.{phase-from}
-use Rattle.grain.proofs.ReadCount.{reads-none}
-use Rattle.grain.proofs.Onward.{reads-on, wait-on, none-yet}
+use Rattle.grain.proofs.Onward.{known-on, known-from-start}
 use Rattle.frame.specs.declared.Plan.{Plan}
 use Rattle.frame.specs.declared.Frame.{Frame}
 use Rattle.frame.specs.Step.{firstReadOf, openedOf, countedOf, pushOf}
@@ -64,7 +65,7 @@ module _ (plan : Plan) (time stamp : ℕ → ℕ) where
   }
 
   abbrev told : ℕ → Reads
-  told k = record { count = readsFrom plan time stamp k; wait = waitFrom plan time stamp k }
+  told k = readsAt (plan .packets) (firstReadOf plan) (plan .reads .num) (plan .reads .den) (timeFrom plan time stamp k)
 
   -- packet k counted, with the reads before it and the wait that the paper has
   counted-on : (k reads wait : ℕ) → countedOf (timed k reads wait) (stamp k) (told k) ≡ keptOf plan time stamp (suc k)
@@ -85,29 +86,13 @@ module _ (plan : Plan) (time stamp : ℕ → ℕ) where
       })
 
   module _ (apart : 0 < plan .reads .num) where
-    -- m grains after x, both from one period before the frame's start on
-    read-on : (x m : ℕ)
-        → readsOn (readsBefore (plan .packets) (firstReadOf plan) (plan .reads .num) (plan .reads .den) x)
-        (waitAt (firstReadOf plan) (plan .reads .num) (plan .reads .den) x) (plan .packets) (plan .reads .num) (m * plan .reads .den)
-        ≡ record {
-          count = readsBefore (plan .packets) (firstReadOf plan) (plan .reads .num) (plan .reads .den) (x + m);
-          wait = waitAt (firstReadOf plan) (plan .reads .num) (plan .reads .den) (x + m);
-        }
-    read-on x m = λ j. record {
-      count = sym (reads-on (firstReadOf plan) (plan .reads .num) (plan .reads .den) apart x m (plan .packets)) j;
-      wait = sym (wait-on (firstReadOf plan) (plan .reads .num) (plan .reads .den) apart x m) j;
-    }
-
-    -- at 0 no read is over, and read 0 is its own time away
+    -- from one period before the frame's start on
     first-reads : readsOn 0 (firstReadOf plan * plan .reads .den) (plan .packets) (plan .reads .num)
         (phase (grains (time 0)) (plan .period) * plan .reads .den) ≡ told 0
     first-reads =
-        let start : timeFrom plan time stamp 0 ≡ 0 + phase (grains (time 0)) (plan .period) = omega arith in
-        let none = reads-none (plan .packets) (firstReadOf plan) (plan .reads .num) (plan .reads .den) apart 0 (omega arith) in
-        let wait = none-yet (firstReadOf plan) (plan .reads .num) (plan .reads .den) apart 0 (omega arith) .1 in
-        let whole : waitAt (firstReadOf plan) (plan .reads .num) (plan .reads .den) 0 ≡ firstReadOf plan * plan .reads .den =
-        omega (arith, wait, zero-mul (plan .reads .den)) in
-        rw start (rw (none, whole) at (read-on 0 (phase (grains (time 0)) (plan .period))))
+        let start : timeFrom plan time stamp 0 ≡ phase (grains (time 0)) (plan .period) = omega arith in
+        rw start (known-from-start (firstReadOf plan) (plan .reads .num) (plan .reads .den) apart (plan .packets)
+        (phase (grains (time 0)) (plan .period)))
 
     -- the first packet, whatever went by before it
     pub kept-first : (gone : ℕ) → pushOf plan (keptOf plan time stamp 0) gone (time 0) (stamp 0) ≡ keptOf plan time stamp 1
@@ -124,7 +109,9 @@ module _ (plan : Plan) (time stamp : ℕ → ℕ) where
       kept-next gone e =
           let later : timeFrom plan time stamp (suc k) ≡ timeFrom plan time stamp k + gone = omega arith in
           let reads : readsOn (readsFrom plan time stamp k) (waitFrom plan time stamp k) (plan .packets) (plan .reads .num)
-          (gone * plan .reads .den) ≡ told (suc k) = rw later (read-on (timeFrom plan time stamp k) gone) in
+          (gone * plan .reads .den) ≡ told (suc k) =
+          rw later (known-on (firstReadOf plan) (plan .reads .num) (plan .reads .den) apart (timeFrom plan time stamp k) gone
+          (plan .packets)) in
           rw (eqb·suc-zero k)
           (ap (countedOf (timed (suc k) (readsFrom plan time stamp k) (waitFrom plan time stamp k)) (stamp (suc k))) reads
           ∙ counted-on (suc k) (readsFrom plan time stamp k) (waitFrom plan time stamp k))
@@ -145,6 +132,18 @@ pub reads-shift : (n base num den x base′ x′ s s′ : ℕ) → base + s ≡ 
 reads-shift n base num den x base′ x′ s s′ e f =
     count-same (readBefore base num den x) (readBefore base′ num den x′) n
     (λ j h. sym (shift base num den x s j) ∙ rw (e, f) (shift base′ num den x′ s′ j))
+
+-- and the next read is as far
+pub next-shift : (n base num den x base′ x′ s s′ : ℕ) → base + s ≡ base′ + s′ → x + s ≡ x′ + s′
+    → nextRead n base num den x ≡ nextRead n base′ num den x′
+next-shift n base num den x base′ x′ s s′ e f =
+    let same = reads-shift n base num den x base′ x′ s s′ e f in
+    let bases : base * den + s * den ≡ base′ * den + s′ * den =
+    sym (add-mul base s den) ∙ ap (λ (z : ℕ). z * den) e ∙ add-mul base′ s′ den in
+    let times : x * den + s * den ≡ x′ * den + s′ * den = sym (add-mul x s den) ∙ ap (λ (z : ℕ). z * den) f ∙ add-mul x′ s′ den in
+    let far : (k : ℕ) → base * den + k * num - x * den ≡ base′ * den + k * num - x′ * den = λ k. omega (arith, bases, times) in
+    ap (λ (c : ℕ). pick (ltb c n) (In (base * den + c * num - x * den)) NoneLeft) same
+    ∙ ap (λ (w : ℕ). pick (ltb (readsBefore n base′ num den x′) n) (In w) NoneLeft) (far (readsBefore n base′ num den x′))
 
 -- so the code's reads, from one period before the frame's start on, are document 01's
 pub reads-are : (plan : Plan) (time stamp : ℕ → ℕ) (j : ℕ) → 0 < plan .period → time 0 ≤ time j

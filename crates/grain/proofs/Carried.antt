@@ -2,11 +2,13 @@
 -- time, and the wait after it.
 use Rattle.laws.specs.Kit.{_≡_, refl, sym, ap, _∙_, subst, Bool, true, false, ℕ, _+_, _*_, _-_, _/_, _%_, _≤_, _<_, min, arith, decLe, decLt}
 use Rattle.laws.specs.Kit.{div-eq-of-lt-le, div-add-mod', div-mul-le-self, lt-div-mul-add, suc-mul, add-mul, mul-le-mul-left}
-use Rattle.laws.specs.Kit.{leb, leb-true, leb-false}
+use Rattle.laws.specs.Kit.{leb, leb-true, leb-false, lt-ltb, le-ltb}
 use Rattle.laws.specs.Choose.{pick}
 use Rattle.grain.specs.declared.Division.{Division}
+use Rattle.grain.specs.declared.Kept.{Kept}
 use Rattle.grain.specs.declared.Reads.{Reads}
-use Rattle.grain.specs.Carry.{takenOf, dividedOf, passedBy, readsOn}
+use Rattle.grain.specs.declared.NextRead.the-variants.{In, NoneLeft}
+use Rattle.grain.specs.Carry.{takenOf, dividedOf, passedBy, carriedOn, knownOf, readsOn}
 
 module _ (x num k : ℕ) where
   pub quotient-is : k * num ≤ x → x < k * num + num → x / num ≡ k
@@ -24,12 +26,24 @@ module _ (count wait n num gone k : ℕ) (p : 0 < num) where
   passed-is h l = quotient-is _ num k (omega arith) (omega arith)
 
   pub reads-are : (c w : ℕ) → k * num < gone - wait + num → gone - wait ≤ k * num → c ≡ min n (count + k) → w + gone ≡ wait + k * num
-      → _≡_ {A = Reads} (record { count = c; wait = w }) (readsOn count wait n num gone)
+      → _≡_ {A = Kept} (record { count = c; wait = w }) (carriedOn count wait n num gone)
   reads-are c w h l e f =
       let q = passed-is h l in
       let d : c ≡ min n (count + passedBy wait num gone) = e ∙ ap (λ (z : ℕ). min n (count + z)) (sym q) in
       let g : w ≡ wait + passedBy wait num gone * num - gone = omega (arith, ap (λ (z : ℕ). z * num) q) in
       λ j. record { count = d j; wait = g j }
+
+-- what is kept, and the next of n reads
+module _ (count wait n num gone : ℕ) {k : Kept} (e : k ≡ carriedOn count wait n num gone) where
+  -- one is left
+  pub reads-left : k .count < n
+      → _≡_ {A = Reads} (record { count = k .count; next = In (k .wait); wait = k .wait }) (readsOn count wait n num gone)
+  reads-left l = rw (lt-ltb (k .count) n l) at (ap (knownOf n) e)
+
+  -- or none is
+  pub reads-over : n ≤ k .count
+      → _≡_ {A = Reads} (record { count = k .count; next = NoneLeft; wait = k .wait }) (readsOn count wait n num gone)
+  reads-over l = rw (le-ltb (k .count) n l) at (ap (knownOf n) e)
 
 -- ---- num's taken off one by one
 
@@ -64,7 +78,7 @@ twice-off f g = off-on (taken-off f) (taken-off g)
 
 -- of the time to the second read after the next so many spacings are left, and the other reads came by
 pub reads-near : (count wait n num gone m w c : ℕ) → 0 < num → gone ≤ wait + 2 * num → Off 2 (wait + 2 * num - gone) num m w
-    → c ≡ min n (count + (2 - m)) → _≡_ {A = Reads} (record { count = c; wait = w }) (readsOn count wait n num gone)
+    → c ≡ min n (count + (2 - m)) → _≡_ {A = Kept} (record { count = c; wait = w }) (carriedOn count wait n num gone)
 reads-near count wait n num gone m w c p l o e =
     let both : m + (2 - m) ≡ 2 = omega (arith, o .few) in
     let halves : m * num + (2 - m) * num ≡ 2 * num = sym (add-mul m (2 - m) num) ∙ ap (λ (z : ℕ). z * num) both in

@@ -4,6 +4,7 @@ pub mod Rounding
 pub mod EncodedTime
 pub mod InstantCount
 pub mod ReadCount
+pub mod Upcoming
 pub mod Carried
 pub mod Onward
 pub mod SignedRange

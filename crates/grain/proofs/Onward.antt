@@ -1,10 +1,11 @@
 -- What is carried is what the whole time gives, after one step more: instants and what is left, reads and the wait. By the one quotient
 -- that lies between two multiples, and the one read that is the first not before a time.
-use Rattle.laws.specs.Kit.{_≡_, refl, ap, ℕ, zero, suc, _+_, _*_, _-_, _/_, _%_, _≤_, _<_, min, arith, div-add-mod', div-mul-le-self}
-use Rattle.laws.specs.Kit.{lt-div-mul-add, add-mul, suc-mul, mul-le-mul-right}
+use Rattle.laws.specs.Kit.{_≡_, refl, sym, ap, _∙_, ℕ, zero, suc, _+_, _*_, _-_, _/_, _%_, _≤_, _<_, min, arith, div-add-mod', div-mul-le-self}
+use Rattle.laws.specs.Kit.{lt-div-mul-add, add-mul, suc-mul, zero-mul, zero-add, mul-le-mul-right}
 use Rattle.grain.specs.Paper.{instants, readsBefore}
-use Rattle.grain.specs.Carry.{sinceInstant, NextRead, nextRead, waitAt, passedBy}
-use Rattle.grain.proofs.ReadCount.{before-below, below-before, reads-closed}
+use Rattle.grain.specs.Carry.{sinceInstant, EndlessNext, endlessRead, waitAt, readsAt, passedBy, nextAfter, readsOn}
+use Rattle.grain.proofs.ReadCount.{before-below, below-before, reads-closed, reads-none}
+use Rattle.grain.proofs.Upcoming.{next-after}
 use Rattle.grain.proofs.Carried.{quotient-is, up-low, up-high}
 
 -- ---- instants: e, then m more
@@ -38,14 +39,14 @@ module _ (e m num den : ℕ) (p : 0 < num) where
 
 module _ (base num den : ℕ) (p : 0 < num) where
   -- the next read of a time is the one that the closed form gives
-  pub next-is : (x : ℕ) → NextRead base num den x (nextRead base num den x) (waitAt base num den x)
+  pub next-is : (x : ℕ) → EndlessNext base num den x (endlessRead base num den x) (waitAt base num den x)
   next-is x =
-      let no : ¬ (base * den + nextRead base num den x * num < x * den) = λ h.
-      omega (arith, before-below 0 base num den p x (nextRead base num den x) h) in
+      let no : ¬ (base * den + endlessRead base num den x * num < x * den) = λ h.
+      omega (arith, before-below 0 base num den p x (endlessRead base num den x) h) in
       record { before = below-before 0 base num den p x; due = omega arith }
 
   -- one read only is the next, and it is one time away
-  pub next-unique : (x j w k v : ℕ) → NextRead base num den x j w → NextRead base num den x k v → (j ≡ k) × (w ≡ v)
+  pub next-unique : (x j w k v : ℕ) → EndlessNext base num den x j w → EndlessNext base num den x k v → (j ≡ k) × (w ≡ v)
   next-unique x j w k v a b =
       let not-less : ¬ (j < k) = λ h. omega (arith, a .due, b .before j h) in
       let not-more : ¬ (k < j) = λ h. omega (arith, b .due, a .before k h) in
@@ -64,7 +65,7 @@ module _ (base num den : ℕ) (p : 0 < num) where
     high = up-high (m * den - waitAt base num den x) num p
 
     -- read j of those that came by: a spacing before the next at least
-    came-by : (j i : ℕ) → j < nextRead base num den x + i → k ≡ i → base * den + j * num < (x + m) * den
+    came-by : (j i : ℕ) → j < endlessRead base num den x + i → k ≡ i → base * den + j * num < (x + m) * den
     came-by j zero l e = omega (arith, add-mul x m den, next-is x .before j (omega arith))
     came-by j (suc i) l e =
         omega (
@@ -74,17 +75,17 @@ module _ (base num den : ℕ) (p : 0 < num) where
           high,
           ap (λ (z : ℕ). z * num) e,
           suc-mul i num,
-          add-mul (nextRead base num den x) i num,
-          mul-le-mul-right num (let g : j ≤ nextRead base num den x + i = omega arith in g),
+          add-mul (endlessRead base num den x) i num,
+          mul-le-mul-right num (let g : j ≤ endlessRead base num den x + i = omega arith in g),
         )
 
-    stepped : NextRead base num den (x + m) (nextRead base num den x + k) (waitAt base num den x + k * num - m * den)
+    stepped : EndlessNext base num den (x + m) (endlessRead base num den x + k) (waitAt base num den x + k * num - m * den)
     stepped = record {
       before = λ j l. came-by j k l refl;
-      due = omega (arith, add-mul x m den, add-mul (nextRead base num den x) k num, next-is x .due, low);
+      due = omega (arith, add-mul x m den, add-mul (endlessRead base num den x) k num, next-is x .due, low);
     }
 
-    pub next-on : nextRead base num den (x + m) ≡ nextRead base num den x + k
+    pub next-on : endlessRead base num den (x + m) ≡ endlessRead base num den x + k
     next-on = next-unique (x + m) _ _ _ _ (next-is (x + m)) stepped .0
 
     pub wait-on : waitAt base num den (x + m) ≡ waitAt base num den x + k * num - m * den
@@ -94,9 +95,25 @@ module _ (base num den : ℕ) (p : 0 < num) where
     pub reads-on : (n : ℕ) → readsBefore n base num den (x + m) ≡ min n (readsBefore n base num den x + k)
     reads-on n = omega (arith, reads-closed n base num den p (x + m), reads-closed n base num den p x, next-on)
 
+    -- P16, P20, P21: and all that is known of them then
+    pub known-on : (n : ℕ) → readsOn (readsBefore n base num den x) (waitAt base num den x) n num (m * den) ≡ readsAt n base num den (x + m)
+    known-on n = λ j. record {
+      count = sym (reads-on n) j;
+      next = (ap (nextAfter n _) (sym wait-on) ∙ ap (λ (z : ℕ). nextAfter n z (waitAt base num den (x + m))) (sym (reads-on n))
+          ∙ next-after n base num den (x + m) p) j;
+      wait = sym wait-on j;
+    }
+
   -- a time that is not after the first read has no read before it
-  pub none-yet : (x : ℕ) → x ≤ base → (nextRead base num den x ≡ 0) × (waitAt base num den x ≡ base * den - x * den)
+  pub none-yet : (x : ℕ) → x ≤ base → (endlessRead base num den x ≡ 0) × (waitAt base num den x ≡ base * den - x * den)
   none-yet x l =
-      let z : ¬ (0 < nextRead base num den x) = λ q. omega (arith, next-is x .before 0 q, mul-le-mul-right den l) in
-      let none : nextRead base num den x ≡ 0 = omega arith in
+      let z : ¬ (0 < endlessRead base num den x) = λ q. omega (arith, next-is x .before 0 q, mul-le-mul-right den l) in
+      let none : endlessRead base num den x ≡ 0 = omega arith in
       (none, omega (arith, ap (λ (q : ℕ). q * num) none))
+
+  -- P16, P20, P21: from time 0, where no read is over and read 0 is its own time away
+  pub known-from-start : (n x : ℕ) → readsOn 0 (base * den) n num (x * den) ≡ readsAt n base num den x
+  known-from-start n x =
+      let none = reads-none n base num den p 0 (omega arith) in
+      let wait : waitAt base num den 0 ≡ base * den = omega (arith, none-yet 0 (omega arith) .1, zero-mul den) in
+      rw (none, wait, zero-add x) at (known-on 0 x n)

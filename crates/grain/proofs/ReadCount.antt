@@ -1,9 +1,18 @@
--- Reads before a time, counted one by one, are the closed form: read j is before x exactly when j·num is below the reach (x − base)·den.
+-- Reads before a time are the first ones; counted one by one, they are the closed form: read j is before x exactly when j·num is below
+-- the reach (x − base)·den.
 use Rattle.laws.specs.Kit.{ℕ, suc, _+_, _*_, _-_, _≤_, _<_, min, _≡_, sym, ap, _∙_, arith, le-div-iff-mul-le, mul-le-mul-right}
 use Rattle.laws.specs.Kit.{add-sub-of-le, add-mul, suc-mul, zero-mul, sub-eq-zero-of-le, decLe, ltb-true, lt-ltb}
-use Rattle.laws.proofs.Count.{count-up-to}
+use Rattle.laws.specs.Count.{UpTo}
+use Rattle.laws.proofs.Count.{count-up-to, falls-up-to}
 use Rattle.grain.specs.Paper.{readBefore, readsBefore}
-use Rattle.grain.specs.Carry.{nextRead}
+use Rattle.grain.specs.Carry.{endlessRead}
+
+-- whatever their spacing
+pub reads-first : (n base num den x : ℕ) → UpTo (readBefore base num den x) n (readsBefore n base num den x)
+reads-first n base num den x = falls-up-to (readBefore base num den x) n (record {
+  down = λ i j l k q. lt-ltb (base * den + i * num) (x * den)
+      (omega (arith, ltb-true (base * den + j * num) (x * den) q, mul-le-mul-right num l));
+})
 
 module _ (n base num den : ℕ) (p : 0 < num) (x : ℕ) where
   reach : ℕ
@@ -17,7 +26,7 @@ module _ (n base num den : ℕ) (p : 0 < num) (x : ℕ) where
 
   -- the closed form: the whole spacings in the reach, a begun one counted
   abbrev closed : ℕ
-  closed = nextRead base num den x
+  closed = endlessRead base num den x
 
   pub before-below : (j : ℕ) → base * den + j * num < x * den → j < closed
   before-below j h = le-div-iff-mul-le p .1 (go (decLe base x))

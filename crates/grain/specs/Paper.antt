@@ -1,6 +1,10 @@
 -- Document 01's sentences about times, each definition under the sentence that it renders. Times are naturals, differences are integers.
-use Rattle.laws.specs.Kit.{_≡_, Bool, ℕ, _+_, _*_, _-_, _/_, _≤_, _<_, ltb, ℤ, pos, natAbs, negℤ, subℕ, _+ℤ_, _*ℤ_, _-ℤ_, _≤ℤ_, _<ℤ_}
+use Rattle.laws.specs.Kit.{_≡_, Bool, true, false, ℕ, _+_, _*_, _-_, _/_, _≤_, _<_, ltb, ℤ, pos, natAbs, negℤ, subℕ}
+use Rattle.laws.specs.Kit.{_+ℤ_, _*ℤ_, _-ℤ_, _≤ℤ_, _<ℤ_}
+use Rattle.laws.specs.Choose.{pick}
 use Rattle.laws.specs.Count.{count}
+use Rattle.grain.specs.declared.NextRead.{NextRead}
+use Rattle.grain.specs.declared.NextRead.the-variants.{In, NoneLeft}
 
 -- G1: "27 grains are one nanosecond."
 abbrev pub nanosecond : ℕ
@@ -87,3 +91,23 @@ readBefore base num den x j = ltb (base * den + j * num) (x * den)
 -- P16: the reads 0 .. n − 1 strictly before x, counted one by one
 abbrev pub readsBefore : ℕ → ℕ → ℕ → ℕ → ℕ → ℕ
 readsBefore n base num den x = count (readBefore base num den x) n
+
+-- P14, P16, P20: "Read j (0 to n−1) is at T_CF + TRO + j·R·F/n, kept as a fraction." Those "strictly before its arrival" are over; the
+-- next is the lowest that is not. "The rule that counts reads strictly before an arrival shall also answer the time to the next read as a
+-- numerator over 25·n grains for gapped and over n for linear [..]. A read at the arrival's own instant is the next read, at 0."
+-- (document 02, xiii): read j of n, `wait` after x, times den
+pub record IsNext (n base num den x j wait : ℕ) : Type 0 where
+  pub one : j < n
+  pub earlier : (k : ℕ) → k < j → readBefore base num den x k ≡ true
+  pub here : readBefore base num den x j ≡ false
+  pub distance : x * den + wait ≡ base * den + j * num
+
+-- P20, P21: "or say that no read is left": all n are strictly before x. One answer is so: proofs/Upcoming.antt
+abbrev pub NextIs : ℕ → ℕ → ℕ → ℕ → ℕ → NextRead → Type 0
+NextIs n base num den x (In wait) = (j : ℕ) × IsNext n base num den x j wait
+NextIs n base num den x NoneLeft = (j : ℕ) → j < n → readBefore base num den x j ≡ true
+
+-- P22: and as it is worked out: where j reads are before x and one is left, read j is the next
+abbrev pub nextRead : ℕ → ℕ → ℕ → ℕ → ℕ → NextRead
+nextRead n base num den x =
+    pick (ltb (readsBefore n base num den x) n) (In (base * den + readsBefore n base num den x * num - x * den)) NoneLeft

@@ -6,7 +6,7 @@ ghost use Rattle.laws.specs.Kit.{_≡_, _+_, _*_, _-_, _/_, _%_, _≤_, _<_, su
 ghost use mir.Syntax.{w64};
 ghost use mir.Val.{ofZ};
 ghost use Rattle.grain.specs.Paper.{nanosecond, grains, phase, wrap, sinceEncoded, latency};
-ghost use Rattle.grain.specs.Carry.{takenOf, dividedOf, ReadsAsks, readsOn};
+ghost use Rattle.grain.specs.Carry.{takenOf, dividedOf, ReadsAsks, carriedOn, readsOn};
 
 // The one home of both numbers: every crate that needs them takes them from here.
 pub const GRAINS_PER_NANOSECOND: u64 = 27;
@@ -137,21 +137,35 @@ pub fn divided(x: u64, num: u64) -> Division
     }
 }
 
-// Reads that are over, and how long it is to the next, times den.
+// How long it is to the next of a frame's reads, times den; or no read is left.
+pub enum NextRead {
+    In(u64),
+    NoneLeft,
+}
+
+// What is known of a frame's reads at a time: how many are over, and how long it is until the next. The wait is what a step goes on with:
+// it is that of `next`, had the reads no end. So a step has no test for the last read, and who asks for no `next` pays for none.
 pub struct Reads {
     pub count: u64,
+    pub next: NextRead,
     pub wait: u64,
+}
+
+// What a step keeps of them.
+struct Kept {
+    count: u64,
+    wait: u64,
 }
 
 // Of n reads `count` are over, and the next is `wait` away: `gone` goes by, told times den as `wait` is. Up to read 0 that is seen at
 // once. Then mostly no read comes by, one or two: of the time that is left to the second read after the next, the spacings that are
 // whole are those of reads that have not come.
-pub fn reads_on(count: u64, wait: u64, n: u64, num: u64, gone: u64) -> Reads
+fn carried_on(count: u64, wait: u64, n: u64, num: u64, gone: u64) -> Kept
     requires { ⌜ ReadsAsks count wait n num gone ⌝ }
-    ensures { λ r. ⌜ r ≡ readsOn count wait n num gone ⌝ }
+    ensures { λ r. ⌜ r ≡ carriedOn count wait n num gone ⌝ }
 {
     if count == 0 && gone <= wait {
-        return Reads {
+        return Kept {
             count: count,
             wait: wait - gone,
         };
@@ -160,15 +174,34 @@ pub fn reads_on(count: u64, wait: u64, n: u64, num: u64, gone: u64) -> Reads
     if gone <= second {
         let once = taken(second - gone, num);
         let twice = taken(once.rest, num);
-        return Reads {
+        return Kept {
             count: laws::lesser(n, count + (2 - once.whole - twice.whole)),
             wait: twice.rest,
         };
     }
     let over = gone - wait;
     let passed = (over + (num - 1)) / num;
-    Reads {
+    Kept {
         count: laws::lesser(n, count + passed),
         wait: passed * num - over,
+    }
+}
+
+// The one rule about reads: how many are over, and how long it is until the next, when `gone` has gone by. A read at that very instant is
+// not over: it is the next, at 0.
+pub fn reads_on(count: u64, wait: u64, n: u64, num: u64, gone: u64) -> Reads
+    requires { ⌜ ReadsAsks count wait n num gone ⌝ }
+    ensures { λ r. ⌜ r ≡ readsOn count wait n num gone ⌝ }
+{
+    let on = carried_on(count, wait, n, num, gone);
+    let next = if on.count < n {
+        NextRead::In(on.wait)
+    } else {
+        NextRead::NoneLeft
+    };
+    Reads {
+        count: on.count,
+        next,
+        wait: on.wait,
     }
 }
