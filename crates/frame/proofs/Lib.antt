@@ -6,6 +6,7 @@ pub mod Places
 pub mod Duality
 pub mod Keeping
 pub mod Stepping
+pub mod NextReads
 pub mod RowOfFrame
 pub mod BufferOfFrames
 pub mod Ranges

@@ -115,6 +115,10 @@ module _ (plan : Plan) (h : History) (apart : 0 < plan .reads .num) (ordered : C
       buffer = answers-next j;
     }
 
+  -- the open frame, with a packet that closes nothing
+  pub still-open : h .marked i ≡ false → begunAt h i ≡ true → framesAt plan h (suc i) .current ≡ closedAt plan h i
+  still-open e f = ap (λ (s : Frames). s .current) (declared-next false true e f)
+
   -- the code's step from the declared state, by cases on the marker and the lead-in
   step-next : (m b : Bool) → begunAt h i ≡ b → stepOf plan (framesAt plan h i) (goneAt h i) (h .time i) (h .stamp i) m ≡ Next m b
   unfolding stepOf framesAt arriveOf closeOf

@@ -4,7 +4,8 @@ use Rattle.laws.specs.Kit.{_-ℤ_, _≤ℤ_, _<ℤ_}
 use Rattle.laws.specs.Choose.{pick}
 use Rattle.laws.specs.Count.{count, begun, again}
 use Rattle.laws.specs.Seek.{seek, Lowest}
-use Rattle.grain.specs.Paper.{grains, frameTime, firstPacketTime, LatencyIs, rtpOffset, readsBefore}
+use Rattle.grain.specs.declared.NextRead.{NextRead}
+use Rattle.grain.specs.Paper.{grains, frameTime, firstPacketTime, LatencyIs, rtpOffset, readsBefore, NextIs, nextRead}
 use Rattle.frame.specs.declared.Plan.{Plan}
 use Rattle.frame.specs.declared.Row.{Row}
 use Rattle.frame.specs.declared.Place.{Place}
@@ -117,6 +118,10 @@ module _ (plan : Plan) (h : History) where
     -- P16: "Level just after packet j: j + 1 less the frame's reads strictly before its arrival."
     abbrev pub levelOf : ℕ → ℤ
     levelOf j = subℕ (suc j) (readsTo j)
+
+    -- P20, P21: "the time to the next read [..], or [..] that no read is left", of packet j; the frame may be broken
+    abbrev pub NextReadIs : ℕ → NextRead → Type 0
+    NextReadIs j next = NextIs (plan .packets) firstRead (plan .reads .num) (plan .reads .den) (arrival j) next
 
     -- P17: "The frame's peak is the greatest of these."
     pub record PeakIs (z : ℤ) : Type 0 where
@@ -233,6 +238,14 @@ module _ (plan : Plan) (h : History) where
   -- V7, V8: "Buffer: none (no whole frame yet); pass; under [..]; over [..]. The first failing frame decides"
   abbrev pub BufferIs : Buffer → Type 0
   BufferIs b = FirstDecides AnswerIs (h .packets) b
+
+-- P14: "T_CF + TRO", where read 0 is of a frame whose first packet arrives at `first`, in nanoseconds
+abbrev pub readZero : Plan → ℕ → ℕ
+readZero plan first = frameTime (grains first) (plan .period) + plan .tro
+
+-- P20, P21, P22: the next read of a packet of that frame that arrives at t
+unfoldable pub nextReadOf : Plan → ℕ → ℕ → NextRead
+nextReadOf plan first t = nextRead (plan .packets) (readZero plan first) (plan .reads .num) (plan .reads .den) (grains t)
 
 -- C2: Document 01's numbers for each case of the answer: "buffer 0 none, 1
 -- pass, 2 under or 3 over, frame, packet or peak; 0 where there is none".

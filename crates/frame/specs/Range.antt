@@ -31,6 +31,11 @@ pub record PushAsks (plan : Plan) (f : Frame) (gone : ℕ) : Type 0 where
   pub read : f .reads ≤ plan .packets
   pub waits : f .wait ≤ 2 * plan .period * plan .reads .den
 
+-- before the next read of a packet is asked for: the frame's first comes no later, and 600 s before at most
+pub record NextAsks (first t : ℕ) : Type 0 where
+  pub order : first ≤ t
+  pub near : t ≤ first + 600000000000
+
 -- before a row is made: the frame's first packet comes after the marker before it, at most 600 s
 pub record RowAsks (plan : Plan) (number marked began : ℕ) (f : Frame) : Type 0 where
   pub few : f .held ≤ 1000000000

@@ -5,10 +5,11 @@
 ghost use Rattle.laws.specs.Kit.{_≡_, true, _+_, _-_, _≤_, _<_, length, sets};
 ghost use Rattle.laws.specs.Choose.{pick};
 ghost use Rattle.laws.specs.Every.{every};
-ghost use Rattle.frame.specs.Paper.{bufferNumber, bufferFrame, bufferPlace, hasFailed, isNone};
+ghost use Rattle.frame.specs.Paper.{nextReadOf, bufferNumber, bufferFrame, bufferPlace, hasFailed, isNone};
 ghost use Rattle.frame.specs.Step.{emptyOf, openedOf, goneOf, differsOf, countedOf, pushOf, kindOf, detailOf, wholeRow};
 ghost use Rattle.frame.specs.Step.{brokenRow, rowOf, numbersOf, rowWidth, closedRow, answerOf, joined, noFrames, arriveOf, closeOf};
-ghost use Rattle.frame.specs.Range.{Planned, PushAsks, RowAsks, FramesRowAsks, ranges};
+ghost use Rattle.frame.specs.Range.{Planned, PushAsks, NextAsks, RowAsks, FramesRowAsks, ranges};
+use grain::NextRead;
 use grain::Reads;
 use grain::Spacing;
 
@@ -249,6 +250,22 @@ impl Frame {
             });
         }
         Buffer::Pass
+    }
+}
+
+impl Plan {
+    // How long it is from a packet at `t` to the next read of its frame, whose first packet came at `first`, for the host's graph. It is the
+    // rule of `Frame::push`, asked once for all that goes by since one period before the frame's start.
+    pub fn next_read(self, first: u64, t: u64) -> NextRead
+        requires { ⌜ Planned self × NextAsks first t ⌝ }
+        ensures { λ r. ⌜ r ≡ nextReadOf self first t ⌝ }
+    {
+        let empty = Frame::empty();
+        let f = empty.opened(self, first, 0);
+        let gone = f.phase + grain::GRAINS_PER_NANOSECOND * (t - first);
+        let by = gone * self.reads.den;
+        let reads = grain::reads_on(f.reads, f.wait, self.packets, self.reads.num, by);
+        reads.next
     }
 }
 

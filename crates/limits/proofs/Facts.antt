@@ -1,17 +1,17 @@
 -- What holds of the ratio, the default TRO and any TRO that set-up takes: laws for any frame length, and a computed test of the table
 -- where document 01 speaks of its rates.
-use Rattle.laws.specs.Kit.{_≡_, refl, _⊎_, inl, inr, Bool, true, false, ℕ, _*_, _%_, _<_, arith}
-use Rattle.laws.specs.Kit.{mul-one, div-lt-iff-lt-mul, eqb-true, eqb-false, leb, eqb}
+use Rattle.laws.specs.Kit.{_≡_, refl, _⊎_, inl, inr, Bool, true, false, ℕ, _+_, _*_, _-_, _/_, _%_, _≤_, _<_, arith}
+use Rattle.laws.specs.Kit.{mul-one, div-lt-iff-lt-mul, div-mul-le-self, le-div-iff-mul-le, eqb-true, eqb-false, leb, eqb}
 use Rattle.laws.specs.Choose.{pick}
 use Rattle.laws.proofs.Choose.{pick-either}
-use Rattle.laws.specs.Every.{Test, is, after}
+use Rattle.laws.specs.Every.{Test, at-most, is, after}
 use Rattle.limits.specs.Fraction.{Fraction, whole, _÷_, Same, int}
 use Rattle.limits.specs.Paper.{microsecond, lengthAt, frameLength, activeRatio, allOnes, defaultTro, troGrains}
 use Rattle.limits.specs.Paper.{readSpacing, readNum, readDen}
 use Rattle.limits.specs.declared.Parameters.{Parameters}
 use Rattle.limits.specs.Accepted.{Accepted}
 use Rattle.limits.proofs.Laws.{exact}
-use Rattle.limits.proofs.Rates.{any-code, frame-least}
+use Rattle.limits.proofs.Rates.{any-code, frame-most, frame-least}
 
 -- S1: "R = 24/25, from 1080/1125"
 pub gapped-ratio : Same (activeRatio 0) (whole 1080 ÷ whole 1125)
@@ -69,3 +69,37 @@ tro-below {p} a = go (eqb (p .tro) allOnes) refl (a .tro-fits)
     go true e f = default-below F (p .height) (omega (arith, frame-least (a .rate-known)))
     go false e (inl f) = absurd (eqb-false (p .tro) allOnes e f)
     go false e (inr f) = f
+
+-- S6, S7: a default is less than half of its frame, whatever the frame length
+default-half : (F height : ℕ) → 2 * int (defaultTro F height) ≤ F
+unfolding defaultTro int
+default-half F height =
+    pick-either
+    (λ (x : Fraction). 2 * int x ≤ F)
+    (leb 1080 height)
+    (λ e. omega (arith, div-mul-le-self (43 * F * 1) (1 * 1 * 1125)))
+    (λ e. omega (arith, div-mul-le-self (28 * F * 1) (1 * 1 * 750)))
+
+-- twice the longest whole microseconds below a frame, and the frame: 41,708 at 24000/1001 frames a second. By one computed test of the
+-- table
+longest-tro : (rate : ℕ) → 2 * microsecond * ((frameLength rate - 1) / microsecond) + frameLength rate ≤ 3378357000
+unfolding frameLength after
+longest-tro = any-code (λ rate. at-most (2 * microsecond * ((lengthAt rate - 1) / microsecond) + lengthAt rate) 3378357000) refl
+
+-- P23: so of any TRO that set-up takes
+pub tro-most : {p : Parameters} → Accepted p
+    → 2 * troGrains (frameLength (p .rate)) (p .height) (p .tro) + frameLength (p .rate) ≤ 3378357000
+unfolding troGrains
+tro-most {p} a = go (eqb (p .tro) allOnes) refl (a .tro-fits)
+  where
+    F : ℕ
+    F = frameLength (p .rate)
+
+    go : (t : Bool) → eqb (p .tro) allOnes ≡ t → (p .tro ≡ allOnes) ⊎ (microsecond * p .tro < F)
+        → 2 * pick t (int (defaultTro F (p .height))) (microsecond * p .tro) + F ≤ 3378357000
+    go true e f = omega (arith, default-half F (p .height), frame-most (p .rate))
+    go false e (inl f) = absurd (eqb-false (p .tro) allOnes e f)
+    go false e (inr f) =
+        let whole : p .tro ≤ (F - 1) / microsecond =
+        le-div-iff-mul-le {k = microsecond} {x = p .tro} {y = F - 1} (omega arith) .1 (omega arith) in
+        omega (arith, longest-tro (p .rate), whole)

@@ -1,5 +1,7 @@
--- The other C functions, one law for each way out: the writer's answer as a number, the four limits, the three doubles.
-use Rattle.laws.specs.Kit.{_≡_, refl, sym, ap, _∙_, false, List, [], _∷_, ℕ, _≤_, _<_, arith, leb, eqb, ℤ, length, sets, sets-eq, ne-eqb}
+-- The other C functions, one law for each way out: the writer's answer as a number, the four limits, the next read, the three
+-- doubles.
+use Rattle.laws.specs.Kit.{_≡_, refl, sym, ap, _∙_, Bool, true, false, List, [], _∷_, _++_, ℕ, _≤_, _<_, arith, leb, eqb, ℤ, length}
+use Rattle.laws.specs.Kit.{drop, sets, sets-eq, ne-eqb}
 use Rattle.laws.specs.Kit.{eqb-false, le-leb, lt-leb}
 use lib.Ieee.{Float, binary64, inFloat}
 use mir.Syntax.{w64}
@@ -15,8 +17,11 @@ use Rattle.timing.specs.declared.StreamNumbers.{StreamNumbers}
 use Rattle.timing.specs.declared.Graph.{Graph}
 use Rattle.timing.specs.declared.Drawn.{Drawn}
 use Rattle.timing.specs.declared.Drawn.the-variants.{Figures, Refused as Not-Drawn}
+use Rattle.timing.specs.declared.Awaited.{Awaited}
+use Rattle.timing.specs.declared.Awaited.the-variants.{Refused as Not-Awaited}
 use Rattle.timing.specs.Step.{setUpOf}
-use Rattle.timing.specs.Answers.{graphOf}
+use Rattle.timing.specs.Answers.{graphOf, nextOf, awaitedNumber}
+use Rattle.timing.proofs.Awaiting.{refused-some}
 use Rattle.timing.proofs.Answering.{set-up-first, room-short, room-there}
 use Rattle.limits.specs.declared.Parameters.{Parameters}
 use Rattle.record.specs.declared.Written.{Written}
@@ -24,8 +29,8 @@ use Rattle.record.specs.declared.Written.the-variants.{Done}
 use Rattle.limits.specs.Paper.{setUpRefusal}
 use Rattle.record.specs.Layout.{bytesIn}
 use Rattle.record.specs.Write as record-write
-use Rattle.report.specs.Paper.{limitsOf, limitsNumber, limitsLeft}
-use Rattle.report.specs.Step.{WriteGives, LimitsGives, drawNumber, drawLeft, DrawGives}
+use Rattle.report.specs.Paper.{limitsOf, limitsNumber, limitsLeft, awaitedNumbers, nextReadNumber, nextReadLeft}
+use Rattle.report.specs.Step.{WriteGives, LimitsGives, ThreeGive, NextReadGives, drawNumber, drawLeft, DrawGives}
 
 pub writes-as : (s : Parameters) (ts ss ms out : List ℕ) {w v : Written} {after : List ℕ} → record-write.WriteGives s ts ss ms out w after
     → w ≡ v → WriteGives s ts ss ms out (record-write.writtenNumber v) after
@@ -84,6 +89,58 @@ module _ (x : StreamNumbers) (out : List ℕ) where
         number-is = sym fine;
         numbers-are = f ∙ sets-eq (limitsOf x) out 0 (omega arith) ∙ sym (rw (fine));
       }
+
+-- ---- the next read
+
+-- three numbers, and the room for them
+module _ (a b c : ℕ) (out : List ℕ) where
+  pub three-short : length out < 3 → ThreeGive a b c out 15 out
+  three-short h = let few = lt-leb 3 (length out) h in record { number-is = rw few; numbers-are = rw few }
+
+  pub three-done : {after : List ℕ} → 3 ≤ length out → after ≡ sets out 0 (a ∷ b ∷ c ∷ []) → ThreeGive a b c out 0 after
+  three-done h f =
+      let enough = le-leb 3 (length out) h in
+      record { number-is = rw enough; numbers-are = f ∙ sets-eq (a ∷ b ∷ c ∷ []) out 0 (omega arith) ∙ sym (rw enough) }
+
+module _ (x : StreamNumbers) (first t : ℕ) (out : List ℕ) {d : Awaited} (e : d ≡ nextOf x first t) where
+  pub next-refused : {n : ℕ} → d ≡ Not-Awaited n → NextReadGives x first t out n out
+  unfolding nextReadNumber nextReadLeft
+  next-refused {n} f =
+      let told : nextOf x first t ≡ Not-Awaited n = sym e ∙ f in
+      let some = ne-eqb n 0 (refused-some first t x told) in
+      record { number-is = sym (rw (told, some)); numbers-are = sym (rw (told, some, some)) }
+
+  pub next-told : {a b c n : ℕ} {after : List ℕ} → awaitedNumber d ≡ 0 → awaitedNumbers d ≡ a ∷ b ∷ c ∷ [] → ThreeGive a b c out n after
+      → NextReadGives x first t out n after
+  unfolding nextReadNumber nextReadLeft
+  next-told {a} {b} {c} {n} {after} fine three gives = go (leb 3 (length out)) refl
+    where
+      number : awaitedNumber (nextOf x first t) ≡ 0
+      number = ap awaitedNumber (sym e) ∙ fine
+
+      numbers : awaitedNumbers (nextOf x first t) ≡ a ∷ b ∷ c ∷ []
+      numbers = ap awaitedNumbers (sym e) ∙ three
+
+      go : (z : Bool) → leb 3 (length out) ≡ z → NextReadGives x first t out n after
+      go true f = record {
+        number-is = gives .number-is ∙ rw (f, number);
+        numbers-are = gives .numbers-are ∙ rw (f, number, numbers);
+      }
+      go false f = record {
+        number-is = gives .number-is ∙ rw (f, number);
+        numbers-are = gives .numbers-are ∙ rw (f, number);
+      }
+
+-- what it leaves: refused, all as it was; else the three numbers in front
+module _ (x : StreamNumbers) (first t : ℕ) (out : List ℕ) where
+  pub next-stays : (nextReadNumber x first t (length out) ≡ 0 → ⊥) → nextReadLeft x first t out ≡ out
+  unfolding nextReadLeft
+  next-stays some = rw (ne-eqb (nextReadNumber x first t (length out)) 0 some)
+
+  pub next-filled : 3 ≤ length out → awaitedNumber (nextOf x first t) ≡ 0
+      → nextReadLeft x first t out ≡ awaitedNumbers (nextOf x first t) ++ drop 3 out
+  unfolding nextReadNumber nextReadLeft
+  next-filled room fine = rw (fine, le-leb 3 (length out) room)
 
 -- ---- the graph
 

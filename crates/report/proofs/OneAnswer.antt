@@ -5,7 +5,7 @@ use lib.Ieee.{Float}
 use Rattle.laws.proofs.Unique.{one-answer}
 use Rattle.timing.specs.declared.StreamNumbers.{StreamNumbers}
 use Rattle.limits.specs.declared.Parameters.{Parameters}
-use Rattle.report.specs.Step.{CallGives, WriteGives, LimitsGives, DrawGives}
+use Rattle.report.specs.Step.{CallGives, WriteGives, LimitsGives, NextReadGives, DrawGives}
 
 -- ---- the C functions: the number, and what the lent slice holds then
 
@@ -18,6 +18,10 @@ writes-unique s ts ss ms out a b p q x y = (one-answer (x .number-is) (y .number
 
 pub limits-unique : (x : StreamNumbers) (out : List ℕ) (a b : ℕ) (p q : List ℕ) → LimitsGives x out a p → LimitsGives x out b q → (a ≡ b) × (p ≡ q)
 limits-unique x out a b p q y z = (one-answer (y .number-is) (z .number-is), one-answer (y .numbers-are) (z .numbers-are))
+
+pub next-unique : (x : StreamNumbers) (first t : ℕ) (out : List ℕ) (a b : ℕ) (p q : List ℕ) → NextReadGives x first t out a p
+    → NextReadGives x first t out b q → (a ≡ b) × (p ≡ q)
+next-unique x first t out a b p q y z = (one-answer (y .number-is) (z .number-is), one-answer (y .numbers-are) (z .numbers-are))
 
 pub draws-unique : (fpt margin latency : ℤ) (out : List Float) (a b : ℕ) (p q : List Float) → DrawGives fpt margin latency out a p
     → DrawGives fpt margin latency out b q → (a ≡ b) × (p ≡ q)

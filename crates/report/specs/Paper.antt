@@ -9,7 +9,9 @@ use Rattle.packet.specs.declared.Packet.{Packet}
 use Rattle.timing.specs.declared.StreamNumbers.{StreamNumbers}
 use Rattle.timing.specs.declared.State.{State}
 use Rattle.timing.specs.Step.{ofParameters, rulesOf, freshOf, stateAfter, rowsAfter, numbers}
-use Rattle.timing.specs.Answers.{summaryWidth, summaryOf, setUpAs, setUpNumber}
+use Rattle.timing.specs.declared.Awaited.{Awaited}
+use Rattle.timing.specs.declared.Awaited.the-variants.{In, NoneLeft, Refused}
+use Rattle.timing.specs.Answers.{summaryWidth, summaryOf, setUpAs, setUpNumber, nextOf, awaitedNumber}
 use Rattle.frame.specs.declared.Row.{Row}
 use Rattle.limits.specs.declared.Parameters.{Parameters}
 use Rattle.record.specs.Paper.{File, file, refused, fileOf}
@@ -95,3 +97,17 @@ limitsNumber x room = orElse (setUpNumber (setUpAs x)) (pick (leb 4 room) 0 15)
 
 unfoldable pub limitsLeft : StreamNumbers → List ℕ → List ℕ
 limitsLeft x out = pick (eqb (limitsNumber x (length out)) 0) (limitsOf x ++ drop 4 out) out
+
+-- C6, P21: whether a read is left, 1 or 0, and the numerator and the denominator of how long it is until the next; 0 where there is none
+abbrev pub awaitedNumbers : Awaited → List ℕ
+awaitedNumbers (In numerator denominator) = 1 ∷ numerator ∷ denominator ∷ []
+awaitedNumbers NoneLeft = 0 ∷ 0 ∷ 0 ∷ []
+awaitedNumbers (Refused number) = []
+
+-- C6, N14: 1 to 7, 12 and 13; then 15 where fewer than the three numbers are lent
+unfoldable pub nextReadNumber : StreamNumbers → ℕ → ℕ → ℕ → ℕ
+nextReadNumber x first t room = orElse (awaitedNumber (nextOf x first t)) (pick (leb 3 room) 0 15)
+
+unfoldable pub nextReadLeft : StreamNumbers → ℕ → ℕ → List ℕ → List ℕ
+nextReadLeft x first t out =
+    pick (eqb (nextReadNumber x first t (length out)) 0) (awaitedNumbers (nextOf x first t) ++ drop 3 out) out

@@ -20,6 +20,7 @@ use Rattle.record.specs.Write.{writtenOf, writtenNumber, leftBy}
 use Rattle.report.specs.declared.Asked.{Asked}
 use Rattle.report.specs.declared.Asked.the-variants.{Fine, Refused}
 use Rattle.report.specs.Paper.{rowsOf, rowBytes, numberBytes, summaryBytes, bytesFor, answerOf, filledBy, limitsNumber, limitsLeft}
+use Rattle.report.specs.Paper.{nextReadNumber, nextReadLeft}
 
 -- the bytes of some numbers in front, and of a row for each frame closed; nine stand in front of a file's rows
 abbrev pub neededBehind : ℕ → ℕ → ℕ
@@ -74,6 +75,16 @@ pub record WriteGives (s : Parameters) (ts ss ms out : List ℕ) (number : ℕ) 
 pub record LimitsGives (x : StreamNumbers) (out : List ℕ) (number : ℕ) (after : List ℕ) : Type 0 where
   pub number-is : number ≡ limitsNumber x (length out)
   pub numbers-are : after ≡ limitsLeft x out
+
+-- three numbers in front, or 15 where fewer are lent
+pub record ThreeGive (a b c : ℕ) (out : List ℕ) (number : ℕ) (after : List ℕ) : Type 0 where
+  pub number-is : number ≡ pick (leb 3 (length out)) 0 15
+  pub numbers-are : after ≡ pick (leb 3 (length out)) (a ∷ b ∷ c ∷ drop 3 out) out
+
+-- C6: the next read of a packet at t, in a frame whose first packet came at `first`
+pub record NextReadGives (x : StreamNumbers) (first t : ℕ) (out : List ℕ) (number : ℕ) (after : List ℕ) : Type 0 where
+  pub number-is : number ≡ nextReadNumber x first t (length out)
+  pub numbers-are : after ≡ nextReadLeft x first t out
 
 -- X3: 16 of the graph; then 15 where fewer than the three doubles are lent
 abbrev pub drawNumber : Drawn → ℕ → ℕ

@@ -1,11 +1,12 @@
 // What a program in C calls: a whole record file measured into lent bytes, a record file written, the limits of a stream,
-// and the figures of a graph. include/vtiming.h documents each function; their names are fixed.
+// and for a graph the next read of a packet and the figures of a row. include/vtiming.h documents each function; their names are fixed.
 // It knows the record file and the measurement, and puts them together. It must never print, and keeps nothing between calls.
 use endian::write64;
 use frame::Row;
 use limits::Parameters;
 use record::Checked;
 use record::Written;
+use timing::Awaited;
 use timing::Drawn;
 use timing::Judged;
 use timing::Rules;
@@ -23,6 +24,7 @@ ghost use Rattle.limits.specs.Paper.{given};
 ghost use Rattle.record.specs.Write.{writtenOf, writtenPlace};
 ghost use Rattle.report.specs.Paper.{inBytes, encoded, rowBytes, summaryBytes, answerOf, roomOf};
 ghost use Rattle.report.specs.Step.{neededBehind, askedOf, MeasureAsks, MeasureGives, CallGives, WriteGives, LimitsGives, DrawGives};
+ghost use Rattle.report.specs.Step.{ThreeGive, NextReadGives};
 
 // The bytes of a number that is reported, of a row, and of the nine numbers in front.
 pub const NUMBER: usize = 8;
@@ -269,6 +271,30 @@ pub extern "C" fn vtiming_write_place(
     }
 }
 
+// The seven numbers put together, where set-up is told nothing else.
+fn stream(
+    rate: u8,
+    schedule: u8,
+    class: u8,
+    height: u16,
+    n: u32,
+    maxudp: u16,
+    tro: u32,
+) -> StreamNumbers
+    ensures { λ r. ⌜ r ≡ ofParameters (given rate schedule class height n maxudp tro) ⌝ }
+{
+    let told = Parameters {
+        rate,
+        schedule,
+        class,
+        height,
+        n,
+        maxudp,
+        tro,
+    };
+    StreamNumbers { parameters: told }
+}
+
 // F and TRO in grains, C_MAX and VRX_FULL in packets; or 1 to 7, then 15, and nothing written.
 #[no_mangle]
 pub extern "C" fn vtiming_limits(
@@ -283,16 +309,7 @@ pub extern "C" fn vtiming_limits(
 ) -> u32
     ensures { λ r. ⌜ LimitsGives (ofParameters (given rate schedule class height n maxudp tro)) (now (out .entry)) r (now (out .exit)) ⌝ }
 {
-    let told = Parameters {
-        rate,
-        schedule,
-        class,
-        height,
-        n,
-        maxudp,
-        tro,
-    };
-    let numbers = StreamNumbers { parameters: told };
+    let numbers = stream(rate, schedule, class, height, n, maxudp, tro);
     let number = numbers.refusal();
     if number != 0 {
         return number as u32;
@@ -307,6 +324,49 @@ pub extern "C" fn vtiming_limits(
     out[2] = rules.limit;
     out[3] = plan.full;
     0
+}
+
+// Three numbers in front; or 15, and nothing written.
+fn put_three(a: u64, b: u64, c: u64, out: &mut [u64]) -> u32
+    ensures { λ r. ⌜ ThreeGive a b c (now (out .entry)) r (now (out .exit)) ⌝ }
+{
+    if out.len() < 3 {
+        return 15;
+    }
+    out[0] = a;
+    out[1] = b;
+    out[2] = c;
+    0
+}
+
+// How long it is from a packet at `arrival` to the next read of its frame, whose first packet came at `first`: 1, numerator and
+// denominator, in grains, or 0, 0 and 0 where no read is left; or 1 to 7, 12 or 13, then 15, and nothing written.
+#[no_mangle]
+pub extern "C" fn vtiming_next_read(
+    rate: u8,
+    schedule: u8,
+    class: u8,
+    height: u16,
+    n: u32,
+    maxudp: u16,
+    tro: u32,
+    first: u64,
+    arrival: u64,
+    out: &mut [u64],
+) -> u32
+    ensures { λ r. ⌜ NextReadGives (ofParameters (given rate schedule class height n maxudp tro)) first arrival
+        (now (out .entry)) r (now (out .exit)) ⌝ }
+{
+    let numbers = stream(rate, schedule, class, height, n, maxudp, tro);
+    let awaited = numbers.next_read(first, arrival);
+    match awaited {
+        Awaited::In {
+            numerator,
+            denominator,
+        } => put_three(1, numerator, denominator, out),
+        Awaited::NoneLeft => put_three(0, 0, 0, out),
+        Awaited::Refused(number) => number as u32,
+    }
 }
 
 // FPT, margin and VL in microseconds; or 16, then 15, and nothing written.

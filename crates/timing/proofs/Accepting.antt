@@ -1,11 +1,14 @@
 -- What an accepted history is known to be, in the owner's words. The state that feeding it reaches is the declared one, and `as-declared`
 -- carries over to it what the crates below show of the declared bucket and the declared frames.
 use Rattle.laws.specs.Kit.{_≡_, refl, sym, ap, subst, _∙_, ⊎-elim, _↔_, true, false, List, [], _∷_, ℕ, suc, _+_, _-_, _*_, _≤_, _<_, arith, ℤ}
-use Rattle.laws.specs.Kit.{append-nil, pos, _-ℤ_, length, take, drop, drop-length, sets}
+use Rattle.laws.specs.Kit.{append-nil, pos, _-ℤ_, length, take, drop, drop-length, sets, le-ltb}
 use Rattle.laws.specs.Climb.{Climbs}
+use Rattle.laws.proofs.Climb.{climbs-le}
 use Rattle.laws.proofs.Lay.{sets-front}
 use Rattle.laws.specs.Count.{count}
+use Rattle.grain.specs.declared.NextRead.{NextRead}
 use Rattle.grain.specs.Paper.{InstantBy}
+use Rattle.grain.specs.Carry.{nextAfter}
 use Rattle.limits.specs.Fraction.{Same}
 use Rattle.limits.specs.Paper.{classOf, readSpacing}
 use Rattle.limits.specs.Accepted.{Accepted}
@@ -18,23 +21,27 @@ use Rattle.packet.specs.Paper.{at, declared}
 use Rattle.bucket.specs.Paper as bucket
 use Rattle.bucket.proofs.Owner as proved-bucket
 use Rattle.frame.specs.declared.Row.{Row}
-use Rattle.frame.specs.Paper.{closesAt, kindAt, numberAt, since, InFrame, RowIs, RowBegan, BufferIs, Dry, SomeLate}
+use Rattle.frame.specs.declared.Frames.{Frames}
+use Rattle.frame.specs.Paper.{begunAt, closesAt, kindAt, numberAt, since, InFrame, RowIs, RowBegan, BufferIs, Dry, SomeLate}
+use Rattle.frame.specs.Paper.{NextReadIs, nextReadOf}
 use Rattle.frame.specs.Step.{rowWidth, rowOf, numbersOf}
 use Rattle.frame.specs.ByPlace.{markedTime, closedAt, framesAt, rowsAt}
 use Rattle.frame.proofs.Stretches.{since-is}
 use Rattle.frame.proofs.Places.{began-after, began-later, began-next, frame-holds}
+use Rattle.frame.proofs.NextReads.{next-by-place, open-answers}
 use Rattle.frame.proofs.RowOfFrame.{row-is, offset-follows}
 use Rattle.frame.proofs.BufferOfFrames.{buffer-is, dry-late, late-dry}
 use Rattle.timing.specs.declared.State.{State}
 use Rattle.timing.specs.declared.Judged.the-variants.{Given}
 use Rattle.timing.specs.Step.{frameOf, rulesOf, freshOf, stateAfter, rowsAfter, numbers}
-use Rattle.timing.specs.Answers.{answersOf, verdictOf}
+use Rattle.timing.specs.Answers.{answersOf, verdictOf, apartNumber, awaited, nextOf}
 use Rattle.timing.specs.Feed.{Call, allOf, Accepts, Deals, Rooms}
 use Rattle.timing.specs.History.{rowsTo, stateAt, AcceptedHistory, reached, rowsOfAll, plan, frames, arrivals, size, limit}
 use Rattle.timing.proofs.Planning.{planned, frame-long}
 use Rattle.timing.proofs.InRange.{sound-fresh, of-sound}
 use Rattle.timing.proofs.Scanning.{numbers-length}
-use Rattle.timing.proofs.Declared.{arrivals-climb, state-declared, rows-declared}
+use Rattle.timing.proofs.Awaiting.{is-told}
+use Rattle.timing.proofs.Declared.{arrivals-climb, arrivals-near, state-declared, rows-declared}
 use Rattle.timing.proofs.Dealing.{accepts, deals}
 use Rattle.timing.proofs.Stopping.{passes, sound-reached}
 use Rattle.timing.proofs.Numbered.{numbers-of-frame}
@@ -186,6 +193,52 @@ module _ (h : AcceptedHistory) where
         dry-late (plan h) sound (frames h) in-order i b k,
         λ w. late-dry (plan h) sound (frames h) in-order i b k (w .0) (w .1) (w .2),
       )
+
+  -- ---- its reads
+
+  -- packet i, and the first of its frame
+  abbrev time : ℕ → ℕ
+  time i = frames h .time i
+
+  abbrev first : ℕ → ℕ
+  first i = time (since (frames h) i)
+
+  not-apart : (i : ℕ) → i < size h → apartNumber (first i) (time i) ≡ 0
+  not-apart i b =
+      let up = climbs-le (λ i. at (h .packets) i .time) (size h) in-order in
+      let s = since (frames h) i in
+      let order = up s i (since-is (frames h) i .within) b in
+      let began = up 0 s (omega arith) (omega (arith, since-is (frames h) i .within)) in
+      let near = arrivals-near (h .packets) (h .closed) (h .fine) i b in
+      rw (le-ltb (time i) (first i) order, le-ltb 600000000000 (time i - first i) (omega (arith, near, began)))
+
+  told-next : (i : ℕ) → i < size h
+      → nextOf (h .stream) (first i) (time i) ≡ awaited (nextReadOf (plan h) (first i) (time i)) (plan h .reads .den)
+  told-next i b = is-told (first i) (time i) (h .stream) (h .set-up) (not-apart i b)
+
+  pub next-at : (i : ℕ) → i < size h → (next : NextRead) × NextReadIs (plan h) (frames h) (since (frames h) i) (i - since (frames h) i) next
+      × (nextOf (h .stream) (first i) (time i) ≡ awaited next (plan h .reads .den))
+  next-at i b =
+      let s = since (frames h) i in
+      let here : s + (i - s) ≡ i = omega (arith, since-is (frames h) i .within) in (
+        nextReadOf (plan h) (first i) (time (s + (i - s))),
+        next-by-place (plan h) (frames h) s (i - s),
+        told-next i b ∙ ap (λ (j : ℕ). awaited (nextReadOf (plan h) (first i) (time j)) (plan h .reads .den)) (sym here),
+      )
+
+  -- the state holds it
+  pub next-held : (i : ℕ) → size h ≡ suc i → frames h .marked i ≡ false → begunAt (frames h) i ≡ true
+      → nextOf (h .stream) (first i) (time i)
+      ≡ awaited (nextAfter (plan h .packets) (reached h .frames .current .reads) (reached h .frames .current .wait)) (plan h .reads .den)
+  unfolding stateAt
+  next-held i e unmarked begun =
+      let inside : i < size h = omega arith in
+      let sound = planned (h .stream) (h .set-up) in
+      let answers = open-answers (plan h) (frames h) (sound .apart) (omega (arith, sound .long)) in-order i inside unmarked begun in
+      let Tells : Frames → Type 0 = λ s. nextOf (h .stream) (first i) (time i)
+      ≡ awaited (nextAfter (plan h .packets) (s .current .reads) (s .current .wait)) (plan h .reads .den) in
+      as-declared (λ s. Tells (s .frames)) (subst (λ (k : ℕ). Tells (framesAt (plan h) (frames h) k)) (sym e)
+      (told-next i inside ∙ ap (λ (a : NextRead). awaited a (plan h .reads .den)) (sym answers)))
 
   -- ---- its calls
 

@@ -22,7 +22,6 @@ use Rattle.bucket.specs.Paper as BP
 use Rattle.bucket.specs.Step as B
 use Rattle.bucket.proofs.ByPlace as BB
 use Rattle.frame.specs.declared.Row.{Row}
-use Rattle.frame.specs.Paper as FP
 use Rattle.frame.specs.Step as FS
 use Rattle.frame.specs.ByPlace as F
 use Rattle.frame.proofs.Stepping as FF
@@ -70,6 +69,20 @@ arrivals-climb l n e i h =
     (not-earlier (ltb 1 (at l (suc i) .marker)) (earlierAt l (suc i)) (ltb 600000000000 (at l (suc i) .time - at l 0 .time))
     (leb 1000000000 (suc i))
     (fine-everywhere l n (suc i) e h))
+
+-- nor is one of them more than 600 s after the first
+not-late : (a b c d : Bool) → _≡_ {A = ℕ} (pick a 11 (pick b 12 (pick c 13 (pick d 14 0)))) 0 → c ≡ false
+not-late true b c d e = absurd (omega arith)
+not-late false true c d e = absurd (omega arith)
+not-late false false true d e = absurd (omega arith)
+not-late false false false d e = refl
+
+pub arrivals-near : (l : List Packet) (n : ℕ) → declared l ≡ Fine n → (i : ℕ) → i < length l → at l i .time - at l 0 .time ≤ 600000000000
+unfolding refusalAt
+arrivals-near l n e i h =
+    ltb-false 600000000000 (at l i .time - at l 0 .time)
+    (not-late (ltb 1 (at l i .marker)) (earlierAt l i) (ltb 600000000000 (at l i .time - at l 0 .time)) (leb 1000000000 i)
+    (fine-everywhere l n i e h))
 
 -- ---- from place to place, in a list whose arrivals never fall
 

@@ -1,11 +1,13 @@
 -- The rules of accepted stream numbers keep to what the frames and the bucket
 -- demand, for every rate at once: by the table's greatest and least length.
-use Rattle.laws.specs.Kit.{_≡_, ℕ, zero, suc, _+_, _*_, _≤_, _<_, arith, mul-le-mul, mul-le-mul-left, mul-le-mul-right}
+use Rattle.laws.specs.Kit.{_≡_, refl, ℕ, zero, suc, _+_, _*_, _≤_, _<_, arith, mul-le-mul, mul-le-mul-left, mul-le-mul-right}
+use Rattle.laws.specs.Kit.{eqb, eqb·suc-zero}
+use Rattle.laws.specs.Choose.{pick}
 use Rattle.limits.specs.Paper.{second, activeRatio, readNum, readDen}
 use Rattle.limits.specs.Accepted.{Accepted}
 use Rattle.limits.proofs.Accepting.{accepted}
 use Rattle.limits.proofs.Rates.{frame-most, frame-least}
-use Rattle.limits.proofs.Facts.{tro-below}
+use Rattle.limits.proofs.Facts.{tro-below, tro-most}
 use Rattle.grain.specs.Paper.{grains}
 use Rattle.frame.specs.declared.Plan.{Plan}
 use Rattle.frame.specs.Range.{Planned}
@@ -27,6 +29,15 @@ den-most : (schedule n : ℕ) → n ≤ 20000 → readDen schedule n ≤ 500000
 unfolding activeRatio
 den-most zero n h = omega arith
 den-most (suc schedule) n h = omega arith
+
+-- P20: "over 25·n grains for gapped and over n for linear"
+pub den-by-schedule : (x : StreamNumbers) → rulesOf x .plan .reads .den ≡ pick (eqb (x .parameters .schedule) 0) 25 1 * x .parameters .n
+unfolding rulesOf activeRatio
+den-by-schedule x = go (x .parameters .schedule)
+  where
+    go : (schedule : ℕ) → readDen schedule (x .parameters .n) ≡ pick (eqb schedule 0) 25 1 * x .parameters .n
+    go zero = refl
+    go (suc schedule) = rw (eqb·suc-zero schedule)
 
 -- two reads lie no more than a frame apart
 num-spread : (schedule F n : ℕ) → 0 < n → readNum schedule F ≤ F * readDen schedule n
@@ -61,6 +72,15 @@ module _ (x : StreamNumbers) (e : setUpOf x ≡ 0) where
     divided = den-most (x .parameters .schedule) (x .parameters .n) (fine .n-fits .1);
     spread = spread (frameOf x) 2 (omega arith);
   }
+
+  -- P23: the longest TRO and half a frame, twice, and the longest spacing of the reads
+  pub tro-longest : 2 * (rulesOf x .plan .tro) + rulesOf x .plan .period ≤ 3378357000
+  unfolding rulesOf
+  tro-longest = tro-most fine
+
+  pub reads-near : rulesOf x .plan .reads .num ≤ 27027000000
+  unfolding rulesOf
+  reads-near = omega (arith, num-most (x .parameters .schedule) (frameOf x), frame-most (x .parameters .rate))
 
   -- and so does any plan of half the period, with some of the packets and the frame's own spacing of the reads
   pub planned-half : (half : Plan) → frameOf x ≡ 2 * half .period → 0 < half .packets → half .packets ≤ x .parameters .n

@@ -1,10 +1,12 @@
 -- Set-up, the verdict, the summary and the graph: what each answers, for every input.
-use Rattle.laws.specs.Kit.{_≡_, _&&_, List, [], _∷_, ℕ, eqb, ℤ, pos}
+use Rattle.laws.specs.Kit.{_≡_, _&&_, List, [], _∷_, ℕ, _-_, eqb, ltb, ℤ, pos}
 use lib.Ieee.{Float, binary64, ofInt, div, inFloat}
-use Rattle.laws.specs.Choose.{pick}
+use Rattle.laws.specs.Choose.{pick, orElse}
+use Rattle.grain.specs.declared.NextRead.{NextRead}
+use Rattle.grain.specs.declared.NextRead.the-variants.{In, NoneLeft}
 use Rattle.bucket.specs.Paper.{networkNumber, networkFirst, networkLast}
 use Rattle.frame.specs.declared.Row.{Row}
-use Rattle.frame.specs.Paper.{bufferNumber, bufferFrame, bufferPlace}
+use Rattle.frame.specs.Paper.{nextReadOf, bufferNumber, bufferFrame, bufferPlace}
 use Rattle.timing.specs.declared.StreamNumbers.{StreamNumbers}
 use Rattle.timing.specs.declared.State.{State}
 use Rattle.timing.specs.declared.SetUp.{SetUp}
@@ -16,7 +18,9 @@ use Rattle.timing.specs.declared.Judged.{Judged}
 use Rattle.timing.specs.declared.Judged.the-variants.{Given, Refused as Not-Judged}
 use Rattle.timing.specs.declared.Drawn.{Drawn}
 use Rattle.timing.specs.declared.Drawn.the-variants.{Figures, Refused as Not-Drawn}
-use Rattle.timing.specs.Step.{setUpOf, freshOf}
+use Rattle.timing.specs.declared.Awaited.{Awaited}
+use Rattle.timing.specs.declared.Awaited.the-variants.{In as Awaited-In, NoneLeft as Awaited-None, Refused as Not-Awaited}
+use Rattle.timing.specs.Step.{setUpOf, rulesOf, freshOf}
 use Rattle.timing.specs.Range.{inRange}
 
 -- N3: "A refused set-up returns its number and no state."
@@ -73,6 +77,27 @@ graphOf fpt margin latency =
 abbrev pub graphNumber : ℤ → ℤ → ℤ → ℕ
 graphNumber fpt margin latency = pick (inFloat binary64 fpt && (inFloat binary64 margin && inFloat binary64 latency)) 0 16
 
+-- N14: of a packet at t in a frame whose first packet came at `first`: "12 where the packet comes before the frame's first, 13 where it
+-- comes more than 600 s after it"
+abbrev pub apartNumber : ℕ → ℕ → ℕ
+apartNumber first t = pick (ltb t first) 12 (pick (ltb 600000000000 (t - first)) 13 0)
+
+-- N14: 1 to 7 come first
+abbrev pub nextNumber : StreamNumbers → ℕ → ℕ → ℕ
+nextNumber x first t = orElse (setUpOf x) (apartNumber first t)
+
+-- P20, P21: "a numerator over 25·n grains for gapped and over n for linear, or say that no read is left"
+abbrev pub awaited : NextRead → ℕ → Awaited
+awaited (In numerator) den = Awaited-In numerator den
+awaited NoneLeft den = Awaited-None
+
+-- V11: how long it is until the next read, for the host's graph
+unfoldable pub nextOf : StreamNumbers → ℕ → ℕ → Awaited
+unfolding nextReadOf
+nextOf x first t =
+    pick (eqb (nextNumber x first t) 0) (awaited (nextReadOf (rulesOf x .plan) first t) (rulesOf x .plan .reads .den))
+    (Not-Awaited (nextNumber x first t))
+
 -- each row of a list is so
 abbrev pub AllRows : (Row → Type 0) → List Row → Type 0
 AllRows P [] = Unit
@@ -102,6 +127,11 @@ judgedNumber (Not-Judged number) = number
 abbrev pub drawnNumber : Drawn → ℕ
 drawnNumber (Figures g) = 0
 drawnNumber (Not-Drawn number) = number
+
+abbrev pub awaitedNumber : Awaited → ℕ
+awaitedNumber (Awaited-In numerator denominator) = 0
+awaitedNumber Awaited-None = 0
+awaitedNumber (Not-Awaited number) = number
 
 -- V9: the graph takes the row's FPT, margin and VL
 abbrev pub Drawable : Row → Type 0

@@ -10,7 +10,7 @@ ghost use Rattle.timing.specs.Range.{inRange};
 ghost use Rattle.frame.specs.Range.{Planned, FramesRowAsks};
 ghost use Rattle.packet.specs.Paper.{OneLength, packets};
 ghost use lib.Ieee.{binary64, inFloat};
-ghost use Rattle.timing.specs.Answers.{setUpAs, verdictOf, summaryWith, microsecondsOf, graphOf};
+ghost use Rattle.timing.specs.Answers.{setUpAs, apartNumber, nextOf, verdictOf, summaryWith, microsecondsOf, graphOf};
 ghost use Rattle.timing.specs.Feed.{ArriveAsks, closedRow, closing, LayAsks, RunAsks, RunGives, feedOf, FeedGives};
 use bucket::Bucket;
 use bucket::Network;
@@ -18,8 +18,10 @@ use frame::Buffer;
 use frame::Frames;
 use frame::Plan;
 use frame::Row;
+use grain::NextRead;
 use grain::Spacing;
 use limits::Parameters;
+use packet::Packet;
 use packet::Past;
 use packet::Scanned;
 
@@ -81,6 +83,13 @@ pub struct Graph {
 // The three figures, or 16 and no doubles.
 pub enum Drawn {
     Figures(Graph),
+    Refused(u8),
+}
+
+// How long it is until the next read: a numerator over a denominator, in grains; or no read is left; or 1 to 7, 12 or 13.
+pub enum Awaited {
+    In { numerator: u64, denominator: u64 },
+    NoneLeft,
     Refused(u8),
 }
 
@@ -165,6 +174,45 @@ impl StreamNumbers {
             rest: 0,
             bucket: Bucket::empty(),
             frames: Frames::none(),
+        }
+    }
+}
+
+// The number by which a packet at `t` is refused where the only one before it came at `first`: 12 or 13, as a call refuses it.
+fn apart(first: u64, t: u64) -> u8
+    ensures { λ r. ⌜ r ≡ apartNumber first t ⌝ }
+{
+    let none = Past::none();
+    let past = none.next(first);
+    past.refusal(Packet {
+        time: t,
+        stamp: 0,
+        marker: 0,
+    })
+}
+
+impl StreamNumbers {
+    // For the host's graph: how long it is from a packet at `t` to the next read of its frame, whose first packet came at `first`.
+    pub fn next_read(self, first: u64, t: u64) -> Awaited
+        ensures { λ r. ⌜ r ≡ nextOf self first t ⌝ }
+    {
+        let number = self.refusal();
+        if number != 0 {
+            return Awaited::Refused(number);
+        }
+        let number = apart(first, t);
+        if number != 0 {
+            return Awaited::Refused(number);
+        }
+        let rules = self.rules();
+        let plan = rules.plan;
+        let next = plan.next_read(first, t);
+        match next {
+            NextRead::In(numerator) => Awaited::In {
+                numerator,
+                denominator: plan.reads.den,
+            },
+            NextRead::NoneLeft => Awaited::NoneLeft,
         }
     }
 }

@@ -5,6 +5,9 @@ use borrow.Author.Needs.{needs}
 use Rattle.report.proofs.vtiming_limits.Statement.{statement}
 use Rattle.report.proofs.vtiming_limits.Tie as tie
 
+stream-requires : tie.Need-stream-requires
+stream-requires c κs = search needs
+
 refusal-requires : tie.Need-refusal-requires
 refusal-requires c κs = search needs
 
@@ -12,10 +15,12 @@ cast-result : tie.Need-cast-result
 cast-result c = search needs
 
 returns : tie.Need-returns
-returns c = limits-refused _ _ _ (sym (c .before .refusal .ensures)) (omega arith)
+returns c = let r = c .before in
+    rw (sym (r .before .stream .ensures)) (limits-refused _ _ _ (sym (r .refusal .ensures)) (omega arith))
 
 returns-2 : tie.Need-returns-2
-returns-2 c = limits-short _ _ (sym (c .before .before .refusal .ensures) ∙ c .before .if1 .left) (c .if2 .taken)
+returns-2 c = let r = c .before .before in
+    rw (sym (r .before .stream .ensures)) (limits-short _ _ (sym (r .refusal .ensures) ∙ c .before .if1 .left) (c .if2 .taken))
 
 rules-requires : tie.Need-rules-requires
 rules-requires c κs = search needs
@@ -39,12 +44,15 @@ returns-3 : tie.Need-returns-3
 returns-3 c =
     let not-short = c .before .before in
     let set-up = not-short .before in
-    limits-done _ _ (sym (set-up .before .refusal .ensures) ∙ set-up .if1 .left) (omega arith) (rw (c .before .rules .ensures))
+    let r = set-up .before in
+    rw (sym (r .before .stream .ensures))
+    (limits-done _ _ (sym (r .refusal .ensures) ∙ set-up .if1 .left) (omega arith) (rw (c .before .rules .ensures)))
 
 pub vtiming-limits-spec : {M : Type 1} → statement M
 vtiming-limits-spec =
     tie.close
     (tie.spec
+    stream-requires
     refusal-requires
     cast-result
     returns
