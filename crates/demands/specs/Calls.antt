@@ -1,7 +1,9 @@
 -- What the C functions do. First one file and lent bytes (`vtiming_measure`, its twin and `vtiming_measure_room`): their contracts are
--- equations with `answerOf`, `filledBy` and `roomOf` of report's Paper, and each theorem is a sentence about these. Then set-up and calls in
--- a row over a state in words (`vtiming_set_up`, `vtiming_feed`): `callOf` of probe's Calls, and `Dealt` of its Dealt.
-use Rattle.laws.specs.Kit.{_≡_, ap, _∙_, List, _++_, map, ℕ, _+_, _*_, _≤_, _<_, arith, ℤ, pos, length, take, drop, getD, le-leb, lt-leb}
+-- equations with `answerOf`, `filledBy` and `roomOf` of report's Paper, and each theorem is a sentence about these. Then the next read of a
+-- packet (`vtiming_next_read`): `nextReadNumber` and `nextReadLeft` of the same page. Then set-up and calls in a row over a state in words
+-- (`vtiming_set_up`, `vtiming_feed`): `callOf` of probe's Calls, and `Dealt` of its Dealt.
+use Rattle.laws.specs.Kit.{_≡_, ap, _∙_, List, _∷_, _++_, map, ℕ, _+_, _*_, _≤_, _<_, arith, ℤ, pos, length, take, drop, getD}
+use Rattle.laws.specs.Kit.{le-leb, lt-leb}
 use mir.Syntax.{w64}
 use mir.Val.{toZ}
 use Rattle.laws.specs.Choose.{AllBelow}
@@ -20,12 +22,15 @@ use Rattle.timing.specs.declared.StreamNumbers.{StreamNumbers}
 use Rattle.timing.specs.declared.State.{State}
 use Rattle.timing.specs.declared.Fed.the-variants.{Accepted}
 use Rattle.timing.specs.Step.{ofParameters, setUpOf, freshOf, numbers}
-use Rattle.timing.specs.Answers.{summaryWidth, summaryOf, fedNumber, fedPlace}
+use Rattle.timing.specs.declared.Awaited.{Awaited}
+use Rattle.timing.specs.declared.Awaited.the-variants.{In, NoneLeft}
+use Rattle.timing.specs.Answers.{summaryWidth, summaryOf, fedNumber, fedPlace, nextOf, awaitedNumber}
 use Rattle.timing.specs.Feed.{feedOf, feedAll, allOf, Rooms}
 use Rattle.timing.specs.History.{AcceptedHistory, reached, rowsOfAll}
 use Rattle.report.specs.Paper.{rowsOf, reportOf, encoded, bytesFor, answer, answered, answerOf, roomFor, roomOf, numberBytes, filled, filledBy}
+use Rattle.report.specs.Paper.{awaitedNumbers, nextReadNumber, nextReadLeft}
 use Rattle.report.specs.Step.{WriteGives}
-use Rattle.report.proofs.Calls.{written-whole}
+use Rattle.report.proofs.Calls.{written-whole, next-stays, next-filled}
 use Rattle.report.proofs.Signed.{report-fits, number-back}
 use Rattle.report.proofs.Answering as file-proved
 use Rattle.report.proofs.Asking as asked
@@ -119,6 +124,23 @@ pub written-measured : (w : Parameters) (ts ss ms out after : List ℕ) → Para
 written-measured w ts ss ms out after hw ht hs h =
     enough-room (take (fileLength (length ts)) after) w (packets ts ss ms)
     (written-reads w ts ss ms out after (fileLength (length ts)) hw ht hs (written-whole w ts ss ms out h))
+
+-- ---- the next read of a packet (`vtiming_next_read`)
+
+module _ (x : StreamNumbers) (first t : ℕ) (out : List ℕ) where
+  -- C6, N14: whatever number but 0 is returned, nothing is written
+  pub next-read-stays : (nextReadNumber x first t (length out) ≡ 0 → ⊥) → nextReadLeft x first t out ≡ out
+  next-read-stays = next-stays x first t out
+
+  -- C6, P20: where a read is left: 1, numerator and denominator, and behind them what stood there
+  pub next-read-filled : (numerator denominator : ℕ) → 3 ≤ length out → nextOf x first t ≡ In numerator denominator
+      → nextReadLeft x first t out ≡ 1 ∷ numerator ∷ denominator ∷ drop 3 out
+  next-read-filled numerator denominator room e =
+      next-filled x first t out room (ap awaitedNumber e) ∙ ap (λ (a : Awaited). awaitedNumbers a ++ drop 3 out) e
+
+  -- C6, P21: where none is: three zeros, and not the next frame's first read
+  pub next-read-none : 3 ≤ length out → nextOf x first t ≡ NoneLeft → nextReadLeft x first t out ≡ 0 ∷ 0 ∷ 0 ∷ drop 3 out
+  next-read-none room e = next-filled x first t out room (ap awaitedNumber e) ∙ ap (λ (a : Awaited). awaitedNumbers a ++ drop 3 out) e
 
 -- ---- set-up and one call over words
 

@@ -3,9 +3,16 @@
 -- (set-up, verdict, graph, and the number that each answer stands for) and History (an accepted history: its state, its plan, its frames,
 -- its arrivals); and the Paper.antt of each crate below.
 use Rattle.laws.specs.Kit.{_≡_, _↔_, true, false, List, [], _∷_, _++_, ℕ, suc, _+_, _-_, _*_, _≤_, _<_, ℤ, _-ℤ_, length, take, drop, sets}
+use Rattle.laws.specs.Kit.{eqb}
+use Rattle.laws.specs.Choose.{pick}
 use Rattle.laws.specs.Count.{count}
 use Rattle.laws.proofs.Lay.{sets-front}
-use Rattle.grain.specs.Paper.{LatencyIs, NearestEncoded, latency, InstantBy}
+use Rattle.grain.specs.declared.NextRead.{NextRead}
+use Rattle.grain.specs.declared.NextRead.the-variants.{In}
+use Rattle.grain.specs.Paper.{grains, LatencyIs, NearestEncoded, latency, InstantBy, readsBefore, IsNext, NextIs, nextRead}
+use Rattle.grain.specs.Carry.{waitAt, readsAt, nextAfter, readsOn}
+use Rattle.grain.proofs.Upcoming.{next-is-read, next-read-unique, own-instant, next-is-counted}
+use Rattle.grain.proofs.Onward.{known-on}
 use Rattle.grain.proofs.EncodedTime.{latency-is, latency-unique, nearest-encoded}
 use Rattle.limits.specs.Fraction.{Same}
 use Rattle.limits.specs.Paper.{classOf, readSpacing}
@@ -16,16 +23,18 @@ use Rattle.packet.specs.declared.Packet.{Packet}
 use Rattle.packet.specs.Paper.{OneLength, packets, declared}
 use Rattle.bucket.specs.Paper.{IsRun, drains, elapsed, drainsRun, found, GreatestExcess, NetworkIs}
 use Rattle.frame.specs.declared.Row.{Row}
-use Rattle.frame.specs.Paper.{closesAt, numberAt, kindAt, since, InFrame, RowIs, RowBegan, BufferIs, Dry, SomeLate}
+use Rattle.frame.specs.Paper.{begunAt, closesAt, numberAt, kindAt, since, InFrame, NextReadIs, readZero, RowIs, RowBegan, BufferIs, Dry, SomeLate}
 use Rattle.frame.specs.Step.{rowWidth, numbersOf}
 use Rattle.frame.specs.ByPlace.{rowsAt}
 use Rattle.timing.specs.declared.StreamNumbers.{StreamNumbers}
 use Rattle.timing.specs.declared.State.{State}
 use Rattle.timing.specs.declared.Fed.the-variants.{Accepted, Refused}
 use Rattle.timing.specs.declared.Judged.the-variants.{Given}
+use Rattle.timing.specs.declared.Awaited.the-variants.{In as Awaited-In}
 use Rattle.timing.specs.Step.{setUpOf, frameOf, rulesOf, freshOf, rowsAfter, numbers}
 use Rattle.timing.specs.Range.{inRange}
 use Rattle.timing.specs.Answers.{setUpAs, answersOf, verdictOf, graphOf, graphNumber, setUpNumber, judgedNumber, drawnNumber, AllRows, Drawable}
+use Rattle.timing.specs.Answers.{nextNumber, awaited, nextOf, awaitedNumber}
 use Rattle.timing.specs.Feed.{feedOf, feedAll, fedRefusal, refusals, firstOf, rangeNumber, Call, allOf, Accepts, Deals, Rooms, Stops}
 use Rattle.timing.specs.History.{stateAt, rowsTo, AcceptedHistory, reached, rowsOfAll, plan, frames, arrivals, size, limit}
 use Rattle.timing.proofs.InRange.{sound-fresh, of-sound}
@@ -34,6 +43,7 @@ use Rattle.timing.proofs.Feeding.{refused-stays, feed-slices, nothing-fed}
 use Rattle.timing.proofs.Dealing.{stays-in-range}
 use Rattle.timing.proofs.Stopping.{all-stop}
 use Rattle.timing.proofs.Figures.{rows-drawn as all-drawn}
+use Rattle.timing.proofs.Awaiting.{awaited-numbered, denominator-is, below-spacing, numerator-most}
 use Rattle.timing.proofs.Accepting as proved
 
 -- ---- Demand 1: "Bad input gets the numbered refusal of document 01, exactly when its table says, with the state and lent rows as they
@@ -101,6 +111,52 @@ one-latency g stamp = (latency-is g stamp, λ vl l. latency-unique g stamp vl (l
 -- P9: "the encoded time shall instead be the one nearest to the arrival": it is the VL of that one
 pub latency-of-nearest : (g stamp : ℕ) (vl : ℤ) → LatencyIs g stamp vl ↔ NearestEncoded g stamp vl
 latency-of-nearest = nearest-encoded
+
+-- ---- Of any n reads, read j at base + j·num/den, and any time x, in grains: the next read. No 0 < num, den or n is asked for, but for the
+-- step. "The rule that counts reads strictly before an arrival shall also answer the time to the next read" (document 02, xiii).
+
+-- P20, P21: one answer is so (`NextIs`), and it is what is worked out
+pub one-next-read : (n base num den x : ℕ) → NextIs n base num den x (nextRead n base num den x)
+    × ((next : NextRead) → NextIs n base num den x next → next ≡ nextRead n base num den x)
+one-next-read n base num den x = (
+  next-is-read n base num den x,
+  λ next is. next-read-unique n base num den x next (nextRead n base num den x) is (next-is-read n base num den x),
+)
+
+-- P20: "A read at the arrival's own instant is the next read, at 0."
+pub read-at-instant : (n base num den x j : ℕ) → j < n → x * den ≡ base * den + j * num → nextRead n base num den x ≡ In 0
+read-at-instant n base num den x j l e =
+    next-read-unique n base num den x (nextRead n base num den x) (In 0) (next-is-read n base num den x)
+    (own-instant n base num den x j l e)
+
+-- P22: count and next are of one rule: read j is the next exactly where j reads are before x and one is left
+pub next-by-count : (n base num den x j : ℕ) → j < n → (readsBefore n base num den x ≡ j) ↔ ((wait : ℕ) × IsNext n base num den x j wait)
+next-by-count = next-is-counted
+
+-- P16, P22: the step's one function gives both, from what it carries: of x, what is known of x + m
+pub reads-carried : (n base num den x m : ℕ) → 0 < num
+    → readsOn (readsBefore n base num den x) (waitAt base num den x) n num (m * den) ≡ readsAt n base num den (x + m)
+reads-carried n base num den x m p = known-on base num den p x m n
+
+-- ---- Of a stream, a packet at t and its frame's first packet at `first`: what `next_read` answers.
+
+module _ (x : StreamNumbers) (first t : ℕ) where
+  -- D1c, N14: the number is that of the table: 1 to 7, then 12, then 13; 0 where nothing is refused
+  pub next-read-number : awaitedNumber (nextOf x first t) ≡ nextNumber x first t
+  next-read-number = awaited-numbered first t x
+
+  module _ (numerator denominator : ℕ) (e : nextOf x first t ≡ Awaited-In numerator denominator) where
+    -- P20: "over 25·n grains for gapped and over n for linear"
+    pub next-read-over : denominator ≡ pick (eqb (x .parameters .schedule) 0) 25 1 * x .parameters .n
+    next-read-over = denominator-is first t x numerator denominator e
+
+    -- P23: from read 0 on the numerator is below that of the spacing of the reads
+    pub next-read-below : readZero (rulesOf x .plan) first ≤ grains t → numerator < rulesOf x .plan .reads .num
+    next-read-below = below-spacing first t x numerator denominator e
+
+    -- P23: it is never more than this, which 63 bits hold
+    pub next-read-most : numerator ≤ 844589250000000
+    next-read-most = numerator-most first t x numerator denominator e
 
 -- ---- Of an accepted history h (History), the state that feeding it reaches.
 
@@ -178,6 +234,19 @@ module _ (h : AcceptedHistory) where
   pub drains-counted : (a b most : ℕ) → IsRun (arrivals h) a b → drains (arrivals h) b ≤ most
       → count (λ k. drainsRun (arrivals h) a b (suc k)) most ≡ drains (arrivals h) b - drains (arrivals h) a
   drains-counted = proved.drains-in-run h
+
+  -- P20, P21, V11: packet i is not of the lead-in. What `next_read` answers of its arrival and of its frame's first is accepted, and is
+  -- the next read of packet i in its frame, whatever the frame's kind
+  pub next-read-of-packet : (i : ℕ) → i < size h → begunAt (frames h) i ≡ true
+      → (next : NextRead) × NextReadIs (plan h) (frames h) (since (frames h) i) (i - since (frames h) i) next
+      × (nextOf (h .stream) (frames h .time (since (frames h) i)) (frames h .time i) ≡ awaited next (plan h .reads .den))
+  next-read-of-packet i b begun = proved.next-at h i b
+
+  -- P22: and the state holds it, of its last packet: the reads before it, and the wait
+  pub next-read-held : (i : ℕ) → size h ≡ suc i → frames h .marked i ≡ false → begunAt (frames h) i ≡ true
+      → nextOf (h .stream) (frames h .time (since (frames h) i)) (frames h .time i)
+      ≡ awaited (nextAfter (plan h .packets) (reached h .frames .current .reads) (reached h .frames .current .wait)) (plan h .reads .den)
+  next-read-held = proved.next-held h
 
   -- D2c, V7, V8: the buffer answer is that of the history
   pub buffer-answer : BufferIs (plan h) (frames h) (reached h .frames .buffer)
