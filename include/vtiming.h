@@ -52,6 +52,8 @@
  *   32  a record's part of a second is a second or more               the capture was damaged there
  *   33  the offset is above 99                                        37 for a capture clock of UTC, 0 for one of TAI
  *
+ * vtiming_next_read gives 12 and 13 of a packet and the first packet of its frame.
+ *
  * 9, a state out of its range, cannot come out of these functions: no state crosses this border.
  *
  * Rate codes: 1 24000/1001, 2 24/1, 3 25/1, 4 30000/1001, 5 30/1, 6 50/1, 7 60000/1001, 8 60/1 frames a second.
@@ -68,9 +70,9 @@ extern "C" {
 #endif
 
 /* The version of this header and of the archive that it belongs to. */
-#define VTIMING_VERSION "2.2.0"
+#define VTIMING_VERSION "2.3.0"
 #define VTIMING_VERSION_MAJOR 2
-#define VTIMING_VERSION_MINOR 2
+#define VTIMING_VERSION_MINOR 3
 #define VTIMING_VERSION_PATCH 0
 
 /* A TRO of all ones stands for the default: 43F/1125 from height 1080 on, 28F/750 below. */
@@ -275,6 +277,29 @@ uint64_t vtiming_write_place(uint8_t rate, uint8_t schedule, uint8_t stream_clas
  * receiver's buffer holds. out_len counts numbers. Refuses by 1 to 7, then by 15 where there is room for fewer than four. */
 uint32_t vtiming_limits(uint8_t rate, uint8_t schedule, uint8_t stream_class, uint16_t height, uint32_t packets_per_frame,
                         uint16_t maxudp, uint32_t tro, uint64_t *out, size_t out_len);
+
+/* How long the receiver still waits, from a packet on, until it reads again: for a graph, packet by packet.
+ *
+ *   rate to tro      the seven numbers of the stream, as vtiming_write has them
+ *   first            arrival of the first packet of the packet's frame: it fixes the reads of the frame
+ *   arrival          arrival of the packet itself; both in nanoseconds since the SMPTE epoch
+ *   out, out_len     room for three numbers; out_len counts numbers
+ *
+ * Fills:
+ *
+ *   0  left          1 where a read of the frame is not over, 0 where none is left
+ *   1  numerator     the next read is numerator/denominator grains after the packet; a read at the packet's own arrival is the
+ *   2  denominator   next one, at 0. It is 25·n for gapped and n for linear, n being packets_per_frame: the fraction is not
+ *                    reduced, so that no digit is lost. Divide by 27 for nanoseconds
+ *
+ * Where none is left, numbers 1 and 2 are 0, which is no fraction: the next frame's reads are not meant. The numerator is at most
+ * 844,589,250,000,000, and int64_t holds it. It is below F for linear and 24·F for gapped once read 0 has come. The frame need not
+ * be whole, nor closed. The packets up to the first marker are in no frame: for these there is nothing to ask.
+ *
+ * Refuses by 1 to 7, then by 12 where the packet comes before the frame's first, by 13 where it comes more than 600 s after it,
+ * and then by 15 where there is room for fewer than three. */
+uint32_t vtiming_next_read(uint8_t rate, uint8_t schedule, uint8_t stream_class, uint16_t height, uint32_t packets_per_frame,
+                           uint16_t maxudp, uint32_t tro, uint64_t first, uint64_t arrival, uint64_t *out, size_t out_len);
 
 /* Three figures of a row for a graph: FPT, margin and VL, taken in grains, come out as microseconds. n counts doubles.
  * Refuses by 16, which is given for no figures of a row, then by 15 where there is room for fewer than three. */

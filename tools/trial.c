@@ -219,6 +219,25 @@ static int try_room(void)
     return 0;
 }
 
+/* examples/one-frame.rec: reads at 20,764,444.44 ns and every 4.8 ms after, the last at 35,164,444.44. */
+static int try_next_read(void)
+{
+    static const uint64_t first = 20700000;
+    uint64_t next[4] = {7, 7, 7, 7};
+#define NEXT_READ(arrival, room) vtiming_next_read(6, 0, 1, 1080, 4, 1460, VTIMING_DEFAULT_TRO, first, arrival, next, room)
+    TRY(NEXT_READ(first, 3) == VTIMING_ACCEPTED);
+    TRY(next[0] == 1 && next[1] == 174000000 && next[2] == 100 && next[3] == 7);
+    TRY(NEXT_READ(35164444, 3) == VTIMING_ACCEPTED && next[0] == 1 && next[1] == 1200);
+    TRY(NEXT_READ(35164445, 3) == VTIMING_ACCEPTED && next[0] == 0 && next[1] == 0 && next[2] == 0);
+    TRY(NEXT_READ(first - 1, 3) == VTIMING_REFUSED_ORDER);
+    TRY(NEXT_READ(first + UINT64_C(600000000000), 3) == VTIMING_ACCEPTED);
+    TRY(NEXT_READ(first + UINT64_C(600000000001), 3) == VTIMING_REFUSED_SPAN);
+    TRY(NEXT_READ(first, 2) == VTIMING_REFUSED_ROOM);
+    TRY(vtiming_next_read(0, 0, 1, 1080, 4, 1460, VTIMING_DEFAULT_TRO, first, first - 1, next, 0) == VTIMING_REFUSED_RATE);
+#undef NEXT_READ
+    return 0;
+}
+
 static int try_limits_and_graph(void)
 {
     uint64_t limits[4];
@@ -234,7 +253,7 @@ static int try_limits_and_graph(void)
 int main(int count, char **names)
 {
     static uint8_t file[LONGEST];
-    if (try_decoder() || try_answers() || try_room() || try_limits_and_graph()) return 1;
+    if (try_decoder() || try_answers() || try_room() || try_next_read() || try_limits_and_graph()) return 1;
     printf("%s %d.%d.%d\n", VTIMING_VERSION, VTIMING_VERSION_MAJOR, VTIMING_VERSION_MINOR, VTIMING_VERSION_PATCH);
     for (int k = 1; k < count; k++) {
         FILE *from = fopen(names[k], "rb");
