@@ -20,7 +20,7 @@
 #include <sys/mman.h>
 #include <unistd.h>
 
-enum { MEASURE = 1, WRITE, LIMITS, GRAPH, SET_UP, FEED, CAPTURE, CALLS };
+enum { MEASURE = 1, WRITE, LIMITS, GRAPH, SET_UP, FEED, CAPTURE, NEXT_READ, CALLS };
 enum { ARRIVALS, STAMPS, MARKERS, FILE_BYTES, OUT, STATE, ROWS, AREAS };
 enum { LARGEST_PAGE = 1 << 16, GUARD = 256, MOST_LENT = 1 << 22, SECONDS = 100 };
 enum { SUMMARY_BYTES = 9 * 8, CAPTURE_SUMMARY_BYTES = 11 * 8, ROW_BYTES = 11 * 8 };
@@ -29,8 +29,9 @@ _Static_assert(SUMMARY_BYTES == VTIMING_SUMMARY_BYTES && ROW_BYTES == VTIMING_RO
                "the header has other sizes");
 enum { NUMBERS = 34 }; /* refusals are 1 to 33 */
 
-static const char *const call_names[CALLS] = {"",              "vtiming_measure", "vtiming_write", "vtiming_limits",
-                                              "vtiming_graph", "vtiming_set_up",  "vtiming_feed",  "vtiming_capture"};
+static const char *const call_names[CALLS] = {"",               "vtiming_measure", "vtiming_write",
+                                              "vtiming_limits", "vtiming_graph",   "vtiming_set_up",
+                                              "vtiming_feed",   "vtiming_capture", "vtiming_next_read"};
 
 /* --- what a case says --- */
 
@@ -78,6 +79,7 @@ static struct {
     size_t arrival_count, stamp_count;
     struct bytes markers;
     int64_t figures[3];
+    uint64_t first, arrival; /* of the frame's first packet and of the packet that waits */
     unsigned room_count;
     struct room rooms[255];
     struct bytes filled, measured;
@@ -148,6 +150,7 @@ static _Noreturn void differs(const char *format, ...) {
     if (now.call == WRITE || now.call == FEED)
         printf("  %zu arrivals, %zu stamps, %zu markers\n", now.arrival_count, now.stamp_count, now.markers.count);
     if (now.call == FEED) show_feed();
+    if (now.call == NEXT_READ) printf("  first %" PRIu64 ", arrival %" PRIu64 "\n", now.first, now.arrival);
     if (now.call == GRAPH)
         printf("  FPT %" PRId64 ", margin %" PRId64 ", VL %" PRId64 "\n", now.figures[0], now.figures[1], now.figures[2]);
     keep("first.case", now.raw, now.raw_size);
@@ -225,6 +228,7 @@ static void *pointer(const struct lent *lent) { return lent->size == 0 && (turn 
 
 static uint64_t cases[CALLS], calls_made, seen[CALLS][NUMBERS], accepted_room[2], refused_room[3];
 static uint64_t round_trips, cuttings, large_rooms, with_skipped, with_part[4];
+static uint64_t read_left, read_now, read_over; /* a read is to come, comes at the packet's own arrival, or none is left */
 
 /* What the answers said, of files and of captures. */
 static struct said {
@@ -248,6 +252,12 @@ static void count_capture(struct bytes answer) {
     count_answer(&of_captures, answer, CAPTURE_SUMMARY_BYTES);
     with_skipped += big_endian(answer.at + 80, 8) > 0;
     for (int i = 0; i < 4; i++) with_part[i] += now.parts >> i & 1;
+}
+
+static void count_next_read(struct bytes answer) {
+    if (!big_endian(answer.at, 8)) read_over++;
+    else if (big_endian(answer.at + 8, 8)) read_left++;
+    else read_now++;
 }
 
 static void count_room(const struct room *room, uint64_t needed) {
@@ -336,6 +346,15 @@ static void graph(const struct room *room, int fill) {
     struct lent out = lend(OUT, 8 * room->lent, NULL, fill);
     at_step = "vtiming_graph";
     answers(vtiming_graph(now.figures[0], now.figures[1], now.figures[2], pointer(&out), room->lent), room->number, "number");
+    room_holds(&out, room->number ? (struct bytes){NULL, 0} : turned_round(now.filled, wanted));
+}
+
+static void next_read(const struct room *room, int fill) {
+    const struct numbers *n = &now.numbers;
+    uint8_t wanted[64];
+    struct lent out = lend(OUT, 8 * room->lent, NULL, fill);
+    at_step = "vtiming_next_read";
+    answers(vtiming_next_read(SEVEN(n), now.first, now.arrival, pointer(&out), room->lent), room->number, "number");
     room_holds(&out, room->number ? (struct bytes){NULL, 0} : turned_round(now.filled, wanted));
 }
 
@@ -497,6 +516,7 @@ static void try_room(const struct room *room, int fill) {
     case GRAPH: graph(room, fill); break;
     case SET_UP: set_up(room, fill); break;
     case CAPTURE: capture(room, fill); break;
+    case NEXT_READ: next_read(room, fill); break;
     }
 }
 
@@ -504,7 +524,8 @@ static uint64_t room_needed(void) {
     switch (now.call) {
     case SET_UP: return STATE_WORDS;
     case LIMITS:
-    case GRAPH: return now.filled.count / 8;
+    case GRAPH:
+    case NEXT_READ: return now.filled.count / 8;
     default: return now.filled.count;
     }
 }
@@ -548,6 +569,7 @@ static void try_case(void) {
     if (now.call == FEED) try_feeds(fills, times);
     if (now.call == MEASURE && now.filled.count) count_answer(&of_files, now.filled, SUMMARY_BYTES);
     if (now.call == CAPTURE && now.filled.count) count_capture(now.filled);
+    if (now.call == NEXT_READ && now.filled.count) count_next_read(now.filled);
     at_step = "reading";
 }
 
@@ -585,6 +607,12 @@ static void take_capture(void) {
     now.offset = take_number(4);
     now.file = take_bytes(take_number(4));
     now.parts = take_number(1);
+}
+
+static void take_wait(void) {
+    take_numbers();
+    now.first = take_number(8);
+    now.arrival = take_number(8);
 }
 
 static void take_lists(void) {
@@ -652,6 +680,7 @@ static int next_case(void) {
         for (int i = 0; i < 3; i++) now.figures[i] = (int64_t)take_number(8);
         break;
     case CAPTURE: take_capture(); break;
+    case NEXT_READ: take_wait(); break;
     case FEED: take_numbers(), now.feed_count = take_number(4); return 1; /* each call is taken in its turn */
     default: fprintf(stderr, "host: a case of no known call\n"), exit(2);
     }
@@ -670,7 +699,7 @@ static void told(const char *what, uint64_t count) {
 
 static void tell_numbers(int call, const char *needed) {
     char word[16], list[64];
-    printf("  %-16s %" PRIu64 " inputs; answers:", call_names[call], cases[call]);
+    printf("  %-17s %" PRIu64 " inputs; answers:", call_names[call], cases[call]);
     snprintf(list, sizeof list, "%s", needed);
     for (char *number = strtok(list, " "); number; number = strtok(NULL, " ")) {
         snprintf(word, sizeof word, "%s:", number);
@@ -700,11 +729,13 @@ static int tell(void) {
     tell_numbers(SET_UP, "0 1 2 3 4 5 6 7 15");
     tell_numbers(FEED, "0 9 10 11 12 13 14 15");
     tell_numbers(CAPTURE, "0 1 2 3 4 5 6 7 12 13 15 30 31 32 33");
+    tell_numbers(NEXT_READ, "0 1 2 3 4 5 6 7 12 13 15");
     tell_answers("files", &of_files);
     tell_answers("captures", &of_captures);
     printf("  captures that"), told("skip a frame", with_skipped);
     printf("; that hand on a frame with"), told("a tag", with_part[0]), told("options", with_part[1]);
     told("contributors", with_part[2]), told("an extension", with_part[3]);
+    printf("\n  next reads:"), told("to come", read_left), told("at the arrival itself", read_now), told("none left", read_over);
     printf("\n  rooms:"), told("exact", accepted_room[0]), told("larger", accepted_room[1]), told("one short", refused_room[1]);
     told("shorter", refused_room[2]), told("none", refused_room[0]);
     told("near the greatest size", large_rooms);

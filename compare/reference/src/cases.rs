@@ -17,6 +17,8 @@
 //!   7 capture: seven numbers (15), port (2), offset (4), length (4), capture,
 //!              and which parts the frames have that it hands on (1): 1 a tag,
 //!              2 options, 4 contributors, 8 an extension
+//!   8 next read: seven numbers (15), arrival of the frame's first packet (8),
+//!              arrival of the packet that waits (8)
 //!
 //! and the rooms: count (1), for each elements lent (8), number (1) and place
 //! (8); then length (4) and bytes of what an accepted call writes, and for
@@ -38,6 +40,7 @@ use crate::feed::{cut_everywhere, dealt, ranges_after, Feed, Lists};
 use crate::fixed_captures::fixed_captures;
 use crate::generate::{damaged, file, front, random_bytes};
 use crate::graph::graph;
+use crate::next_read::{accepted, next_read, three_numbers, Wait, NEXT_READ_NUMBERS};
 use crate::numbers::{set_up, Numbers};
 use crate::output::expected_c_call;
 use crate::packet::{Packet, LONGEST_HISTORY};
@@ -46,6 +49,7 @@ use crate::ranges::STATE_WORDS;
 use crate::record::{parameters_body, write, writer};
 use crate::stream::{accepted_numbers, limit_numbers, refused_numbers, stream};
 use crate::traffic::capture;
+use crate::waits::{fixed_waits, wait};
 
 /// What is called, and with what.
 #[derive(Clone, Debug, PartialEq)]
@@ -72,10 +76,12 @@ pub enum Call {
         asked: Asked,
         bytes: Vec<u8>,
     },
+    NextRead(Wait),
 }
 
 /// The answer where so many elements are lent: bytes for `measure`, `write` and
-/// `capture`, numbers for `limits`, doubles for `graph`, words for set-up.
+/// `capture`, numbers for `limits` and the next read, doubles for `graph`, words
+/// for set-up.
 #[derive(Clone, Copy, Debug, PartialEq, Eq)]
 pub struct Room {
     pub lent: u64,
@@ -99,7 +105,8 @@ pub fn case(seed: u64, index: u64) -> Case {
     // must not repeat their choices.
     let mut random = Random::new(seed ^ 0x6361_7365, index);
     let call = match index % 30 {
-        0..=11 => Call::Measure(file(seed, index)),
+        0..=10 => Call::Measure(file(seed, index)),
+        11 => Call::NextRead(wait(&mut random)),
         12..=15 => lists(&mut random),
         16 if index % 60 < 30 => Call::Limits(any_numbers(&mut random)),
         16 => Call::SetUp(any_numbers(&mut random)),
@@ -165,6 +172,9 @@ fn outcome(call: &Call) -> Outcome {
             let three = [graph.first_packet_time, graph.margin, graph.latency];
             of_eights(&three.map(f64::to_bits))
         }),
+        Call::NextRead(wait) => {
+            next_read(wait).map_or(nothing, |next| of_eights(&three_numbers(next)))
+        }
         Call::SetUp(numbers) if set_up(numbers).is_ok() => (Some(STATE_WORDS), vec![], vec![]),
         Call::SetUp(_) | Call::Feed { .. } => nothing,
     }
@@ -219,6 +229,10 @@ fn room(call: &Call, lent: u64) -> Room {
         } => {
             let graph = graph(*first_packet_time, *margin, *latency);
             (refused_or_short(graph, lent, 3), 0)
+        }
+        Call::NextRead(wait) => {
+            let number = refused_or_short(accepted(wait), lent, NEXT_READ_NUMBERS);
+            (number, 0)
         }
         Call::Capture { asked, bytes } => {
             let (number, place, _) = expected_capture_call(asked, bytes, elements);
@@ -371,6 +385,7 @@ pub fn fixed() -> Vec<Case> {
     calls.extend(fixed_feeds());
     let captures = captures().into_iter();
     calls.extend(captures.map(|(asked, bytes)| Call::Capture { asked, bytes }));
+    calls.extend(waits().into_iter().map(Call::NextRead));
     calls
         .into_iter()
         .map(|call| answered(&mut random, call))
@@ -661,6 +676,11 @@ fn fixed_feeds() -> Vec<Call> {
     calls
 }
 
+/// The fixed waits for the next read.
+pub fn waits() -> Vec<Wait> {
+    fixed_waits(&fixed_numbers())
+}
+
 /// The fixed captures, with what is asked of each.
 pub fn captures() -> Vec<(Asked, Vec<u8>)> {
     fixed_captures(&streams(), &fixed_numbers())
@@ -722,6 +742,11 @@ fn push_call(body: &mut Vec<u8>, call: &Call) {
             calls.iter().for_each(|feed| push_feed(body, feed));
         }
         Call::Capture { asked, bytes } => push_capture(body, asked, bytes),
+        Call::NextRead(wait) => {
+            push_seven(body, 8, &wait.numbers);
+            body.extend(wait.first.to_be_bytes());
+            body.extend(wait.arrival.to_be_bytes());
+        }
     }
 }
 

@@ -6,15 +6,19 @@ use std::process::exit;
 
 use vtiming_reference::cases::{case, fixed};
 use vtiming_reference::generate::generate;
+use vtiming_reference::next_read::three_numbers;
 use vtiming_reference::program::{capture_inputs, inputs, run_all, Told, OF_CAPTURES, OF_FILES};
 use vtiming_reference::traffic;
-use vtiming_reference::{expected_c_call, expected_output, graph, set_up, Numbers};
+use vtiming_reference::{expected_c_call, expected_output, graph, next_read, set_up};
 use vtiming_reference::{expected_capture_call, expected_capture_output, expected_packets, Asked};
+use vtiming_reference::{Numbers, Wait};
 
 const USAGE: &str = "usage:
   reference print FILE|-          what vtiming prints for the file
   reference ccall ROOM FILE|-     number, offset and bytes of the C call
   reference limits RATE SCHEDULE CLASS HEIGHT N MAXUDP TRO|default
+  reference next-read RATE SCHEDULE CLASS HEIGHT N MAXUDP TRO|default FIRST ARRIVAL
+                                  how long a packet waits for the next read of its frame
   reference graph FPT MARGIN VL   the graph's doubles for figures in grains
   reference capture PORT OFFSET RATE SCHEDULE CLASS HEIGHT N MAXUDP TRO|default FILE|-
                                   what vcapture prints for the capture
@@ -42,6 +46,9 @@ fn main() {
         ["print", file] => print(file),
         ["ccall", room, file] => c_call(room, file),
         ["limits", numbers @ ..] if numbers.len() == 7 => limits(numbers),
+        ["next-read", numbers @ .., first, arrival] if numbers.len() == 7 => {
+            wait(numbers, first, arrival)
+        }
         ["graph", fpt, margin, vl] => figures(fpt, margin, vl),
         ["capture", asked @ .., file] if asked.len() == 9 => capture(asked, file),
         ["capturecall", room, asked @ .., file] if asked.len() == 9 => {
@@ -148,6 +155,22 @@ fn limits(words: &[&str]) -> io::Result<()> {
         Ok(limits) => format!(
             "F {} TRO {} C_MAX {} VRX_FULL {}\n",
             limits.frame, limits.tro, limits.c_max, limits.vrx_full
+        ),
+    })
+}
+
+/// The numbers that the C call fills, by the names that they have there.
+fn wait(words: &[&str], first: &str, arrival: &str) -> io::Result<()> {
+    let answer = next_read(&Wait {
+        numbers: seven(words)?,
+        first: number(first)?,
+        arrival: number(arrival)?,
+    });
+    say(&match answer.map(three_numbers) {
+        Err(number) => format!("refused {}\n", number),
+        Ok([left, numerator, denominator]) => format!(
+            "left {} numerator {} denominator {}\n",
+            left, numerator, denominator
         ),
     })
 }

@@ -76,7 +76,7 @@ fn first_late(reads: &[Fraction], arrivals: &[Fraction]) -> Option<u64> {
         .map(|j| j as u64)
 }
 
-fn strictly_before(reads: &[Fraction], arrival: Fraction) -> i128 {
+pub(crate) fn strictly_before(reads: &[Fraction], arrival: Fraction) -> i128 {
     count(reads, |read| *read < arrival)
 }
 

@@ -12,7 +12,7 @@ use crate::reads::read_instant;
 /// No file grows much beyond this.
 const MOST_IN_A_FILE: usize = 20_100;
 /// 27·2^64: the first instant that no arrival can name.
-const END_OF_TIME: i128 = GRAINS_PER_NANOSECOND << 64;
+pub(crate) const END_OF_TIME: i128 = GRAINS_PER_NANOSECOND << 64;
 /// The last time that timestamps wrap within 64 bits.
 const LAST_WRAP: i128 = END_OF_TIME / WRAP;
 /// Nine ticks are this many whole nanoseconds, and fewer are none: only at
@@ -230,7 +230,7 @@ fn tro(random: &mut Random, rate: u64) -> Option<u64> {
 }
 
 /// The greatest whole number of microseconds below one frame.
-fn greatest_tro(rate: u64) -> u64 {
+pub(crate) fn greatest_tro(rate: u64) -> u64 {
     let frame = frame_length(rate).expect("a known rate");
     ((frame - 1) / GRAINS_PER_MICROSECOND) as u64
 }
@@ -238,7 +238,7 @@ fn greatest_tro(rate: u64) -> u64 {
 /// Where in time the stream lies: at the epoch, now, where timestamps wrap, at
 /// the end of 64 bits, anywhere. Every ninth wrap is on a whole nanosecond.
 /// Multiples of 27 put T_CF on whole nanoseconds at every rate.
-fn first_frame(random: &mut Random, frame: i128) -> i128 {
+pub(crate) fn first_frame(random: &mut Random, frame: i128) -> i128 {
     let wraps = random.pick(&[1, 2, 9, 1000, 36_880, LAST_WRAP, LAST_WRAP]);
     let near_wrap = wraps * WRAP / frame - random.pick(&[0, 1, 1, 2, 4]);
     let now = MODERN * GRAINS_PER_NANOSECOND / frame + random.between(0, 100_000);
@@ -287,7 +287,7 @@ fn nearest_tick(arrival: i128) -> i128 {
 }
 
 /// Down to a whole nanosecond, or up.
-fn nanosecond(instant: Fraction, up: bool) -> i128 {
+pub(crate) fn nanosecond(instant: Fraction, up: bool) -> i128 {
     let nanoseconds = instant.divided_by(Fraction::whole(GRAINS_PER_NANOSECOND));
     if up {
         nanoseconds.ceiling()

@@ -1,5 +1,6 @@
 //! Document 01, sentence by sentence: its twelve cases, its example, and every
-//! refusal number that can occur; and requests (ii) and (v) of document 02.
+//! refusal number that can occur; and requests (ii), (v) and (xiii) of document
+//! 02.
 
 use vtiming_reference::bucket::{drain_instant, Run};
 use vtiming_reference::feed::Lists;
@@ -808,4 +809,188 @@ fn the_graph_takes_the_greatest_latencies() {
     let [first_packet_time, _, latency] = offsets(100_000, (1 << 31) + 9);
     let figures = graph(first_packet_time, 0, latency).unwrap();
     assert_eq!(figures.latency, -644_245_094_400_000.0 / 27_000.0);
+}
+
+// --- request (xiii): "How long until the next read?" ---
+
+/// The j of the next read, numerator and denominator; none where no read is left.
+type Next = Option<(i128, i128, i128)>;
+
+fn next_of(numbers: Numbers, first: u64, arrival: u64) -> Result<Next, u8> {
+    let wait = Wait {
+        numbers,
+        first,
+        arrival,
+    };
+    let parts = |next: NextRead| (next.read, next.numerator, next.denominator);
+    next_read(&wait).map(|next| next.map(parts))
+}
+
+/// The stream of cases 7 and 8, with a frame whose first packet comes at read 0.
+/// T_CF is 20 ms. Read 0 is 700 µs after it and a read comes every 4.8 ms, which
+/// is 129,600,000 grains, or 12,960,000,000 over 25·4.
+fn next_in_frame_of_four(arrival: u64) -> Next {
+    next_of(with_tro(6, 700), 20_700_000, arrival).unwrap()
+}
+
+/// In case 7 the packet is in time and read 0 takes it; in case 8 read 0 is over,
+/// 27 grains ago.
+#[test]
+fn the_next_read_in_cases_7_and_8() {
+    let at = |first| next_of(with_tro(6, 700), first, first).unwrap();
+    assert_eq!(at(20_699_999), Some((0, 2_700, 100)));
+    assert_eq!(at(20_700_000), Some((0, 0, 100)));
+    assert_eq!(at(20_700_001), Some((1, 12_959_997_300, 100)));
+}
+
+/// Read 1 is at 25.5 ms, read 2 at 30.3 ms.
+#[test]
+fn a_read_at_the_arrivals_own_instant_is_the_next() {
+    assert_eq!(next_in_frame_of_four(25_499_999), Some((1, 2_700, 100)));
+    assert_eq!(next_in_frame_of_four(25_500_000), Some((1, 0, 100)));
+    let after = Some((2, 12_959_997_300, 100));
+    assert_eq!(next_in_frame_of_four(25_500_001), after);
+    assert_eq!(next_in_frame_of_four(30_300_000), Some((2, 0, 100)));
+}
+
+/// The last read is at 35.1 ms. At 40.7 ms the next frame has its read 0, which is
+/// not meant.
+#[test]
+fn no_read_is_left_after_the_last() {
+    assert_eq!(next_in_frame_of_four(35_099_999), Some((3, 2_700, 100)));
+    assert_eq!(next_in_frame_of_four(35_100_000), Some((3, 0, 100)));
+    for arrival in [
+        35_100_001,
+        40_000_000,
+        40_700_000,
+        20_700_000 + LONGEST_HISTORY,
+    ] {
+        assert_eq!(next_in_frame_of_four(arrival), None);
+    }
+}
+
+/// The first packet of document 01's example comes 1,740,000 grains, its margin,
+/// before read 0.
+#[test]
+fn before_read_0_the_first_packet_waits_for_its_margin() {
+    let at = |arrival| next_of(narrow(4), 20_700_000, arrival).unwrap();
+    assert_eq!(at(20_700_000), Some((0, 174_000_000, 100)));
+    // Read 0 is 764,444.4 ns after T_CF: 12 grains after one nanosecond, 15 before
+    // the next.
+    assert_eq!(at(20_764_444), Some((0, 1_200, 100)));
+    assert_eq!(at(20_764_445), Some((1, 12_960_000_000 - 1_500, 100)));
+}
+
+/// Three reads a frame of 20 ms: two of them lie between nanoseconds, 18 and 9
+/// grains after one.
+#[test]
+fn the_next_read_of_a_linear_stream() {
+    let numbers = Numbers {
+        schedule: 1,
+        class: 2,
+        ..three()
+    };
+    let at = |arrival| next_of(numbers, 20_000_000, arrival).unwrap();
+    assert_eq!(at(20_000_000), Some((0, 0, 3)));
+    assert_eq!(at(20_000_001), Some((1, 540_000_000 - 81, 3)));
+    assert_eq!(at(26_666_666), Some((1, 54, 3)));
+    assert_eq!(at(26_666_667), Some((2, 540_000_000 - 27, 3)));
+    assert_eq!(at(33_333_333), Some((2, 27, 3)));
+    assert_eq!(at(33_333_334), None);
+}
+
+/// 24·450,450,000 over 25·17 is no whole number of grains. A nanosecond is 27·425
+/// of these parts, 11,475; and 942,117 of them are 7,425 short of it.
+#[test]
+fn a_wait_that_is_no_whole_number_of_grains() {
+    let numbers = Numbers {
+        packets_per_frame: 17,
+        ..with_tro(7, 0)
+    };
+    let at = |arrival| next_of(numbers, 0, arrival).unwrap();
+    assert_eq!(at(1), Some((1, 10_810_800_000 - 11_475, 425)));
+    assert_eq!(at(942_117), Some((1, 7_425, 425)));
+    let after = 10_810_800_000 - (11_475 - 7_425);
+    assert_eq!(at(942_118), Some((2, after, 425)));
+}
+
+/// The packet at 35 ms is nearer to the next frame's T_CF, but its frame began
+/// with a packet at 20.7 ms; if it is the first itself, its T_CF is 40 ms.
+#[test]
+fn the_reads_are_those_of_the_frames_first_packet() {
+    let numbers = with_tro(6, 700);
+    let read_3 = Some((3, 270_000_000, 100));
+    assert_eq!(next_of(numbers, 20_700_000, 35_000_000), Ok(read_3));
+    let read_0 = Some((0, 15_390_000_000, 100));
+    assert_eq!(next_of(numbers, 35_000_000, 35_000_000), Ok(read_0));
+    // Cases 5 and 6: half a frame from two frame times.
+    let one = Numbers {
+        packets_per_frame: 1,
+        ..with_tro(6, 0)
+    };
+    let at = |first| next_of(one, first, 10_000_000);
+    assert_eq!(at(9_999_999), Ok(None));
+    assert_eq!(at(10_000_000), Ok(Some((0, 6_750_000_000, 25))));
+}
+
+/// 62,562,500 ns are exactly one frame and a half at rate 1, so T_CF is two frames.
+/// Read 0 is 1,126,116,000 grains after that, and 1,689,178,500 after the packet.
+#[test]
+fn the_longest_wait() {
+    let numbers = Numbers {
+        packets_per_frame: 20_000,
+        ..with_tro(1, 41_708)
+    };
+    let at = |first| next_of(numbers, first, first).unwrap();
+    let longest = Some((0, 844_589_250_000_000, 500_000));
+    assert_eq!(at(62_562_500), longest);
+    // A nanosecond before, T_CF is one frame.
+    let shorter = Some((0, 281_526_763_500_000, 500_000));
+    assert_eq!(at(62_562_499), shorter);
+    let linear = Numbers {
+        schedule: 1,
+        class: 2,
+        ..numbers
+    };
+    let longest = Some((0, 33_783_570_000_000, 20_000));
+    assert_eq!(next_of(linear, 62_562_500, 62_562_500), Ok(longest));
+    let late = Numbers {
+        tro: Some(41_709),
+        ..numbers
+    };
+    assert_eq!(next_of(late, 62_562_500, 62_562_500), Err(7));
+}
+
+/// 12 is for a packet before the frame's first, 13 for one more than 600 s after
+/// it; both are tried after set-up, and no sum of 64 bits goes round.
+#[test]
+fn refusals_of_the_next_read() {
+    let numbers = narrow(4);
+    let wrong = Numbers { rate: 0, ..numbers };
+    let end = u64::MAX;
+    for (first, arrival, refusal) in [
+        (5, 5, None),
+        (5, 4, Some(12)),
+        (5, 5 + LONGEST_HISTORY, None),
+        (5, 6 + LONGEST_HISTORY, Some(13)),
+        (0, end, Some(13)),
+        (end, 0, Some(12)),
+        (end - LONGEST_HISTORY, end, None),
+        (end - LONGEST_HISTORY - 1, end, Some(13)),
+        (end - 1, 7, Some(12)),
+    ] {
+        assert_eq!(next_of(numbers, first, arrival).err(), refusal);
+        assert_eq!(next_of(wrong, first, arrival).err(), Some(1));
+    }
+}
+
+/// The last arrival is 257,893,605 grains after T_CF, and read 2 is 279,840,000
+/// after it: later than any arrival.
+#[test]
+fn the_next_read_of_the_last_arrival() {
+    let last = next_of(narrow(4), u64::MAX, u64::MAX).unwrap();
+    assert_eq!(last, Some((2, 2_194_639_500, 100)));
+    // At the epoch T_CF is 0, and read 0 is at TRO.
+    let first = next_of(narrow(4), 0, 0).unwrap();
+    assert_eq!(first, Some((0, 2_064_000_000, 100)));
 }

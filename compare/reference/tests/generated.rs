@@ -1,20 +1,24 @@
 //! The generated files reach what they are meant to reach: every refusal of a
 //! file, every kind and verdict, arrivals exactly on reads and drains, and
-//! timestamps from both sides of a wrap and of a tie. So do the captures.
+//! timestamps from both sides of a wrap and of a tie. So do the captures, and
+//! what is asked for the next read.
 
 use std::collections::BTreeMap;
 
 use vtiming_reference::bucket::{drain_instant, drains_by};
 use vtiming_reference::capture::{Carried, Why};
-use vtiming_reference::cases::{captures, case, fixed, Call, Case};
+use vtiming_reference::cases::{captures, case, fixed, waits, Call, Case};
 use vtiming_reference::fraction::Fraction;
 use vtiming_reference::frame::{closed_frames, t_cf, Kind};
 use vtiming_reference::generate::file;
 use vtiming_reference::measure::{measure_accepted, Row};
 use vtiming_reference::numbers::{GRAINS_PER_NANOSECOND, GRAINS_PER_SECOND, GRAINS_PER_TICK, WRAP};
+use vtiming_reference::packet::LONGEST_HISTORY;
+use vtiming_reference::random::Random;
 use vtiming_reference::ranges::STATE_WORDS;
-use vtiming_reference::reads::read_instant;
+use vtiming_reference::reads::{read_instant, reading};
 use vtiming_reference::record::read;
+use vtiming_reference::waits::wait;
 use vtiming_reference::*;
 
 const FILES: u64 = 1500;
@@ -399,6 +403,224 @@ fn cutting_the_list_changes_nothing() {
     }
 }
 
+// --- request (xiii) ---
+
+/// "All that counts reads is built on it; levels and least stay as they are": as
+/// many reads are over before a packet as its level says. Until read 0 a packet
+/// waits for that one: the first packet for its margin.
+#[test]
+fn next_reads_agree_with_levels_and_margins() {
+    let mut seen = Seen::default();
+    for index in 0..FILES {
+        let reading = read(&file(1, index));
+        let numbers = match reading.numbers {
+            Some(numbers) if numbers.packets_per_frame <= 64 => numbers,
+            _ => continue,
+        };
+        let limits = set_up(&numbers).unwrap();
+        for frame in closed_frames(&reading.packets) {
+            if frame.kind(limits.n) == Kind::Whole {
+                look_at_levels(&mut seen, &numbers, &limits, frame.packets);
+            }
+        }
+    }
+    for what in ["left", "none left", "until read 0"] {
+        assert!(seen.0.contains_key(what), "never seen: {}", what);
+    }
+}
+
+fn look_at_levels(seen: &mut Seen, numbers: &Numbers, limits: &Limits, packets: &[Packet]) {
+    let start = t_cf(&packets[0], limits.frame);
+    let levels = reading(limits, start, packets).levels;
+    for (j, packet) in packets.iter().enumerate() {
+        let next = next_read(&Wait {
+            numbers: *numbers,
+            first: packets[0].arrival,
+            arrival: packet.arrival,
+        });
+        let next = next.expect("these packets are accepted");
+        seen.add(if next.is_some() { "left" } else { "none left" });
+        let over = next.map_or(limits.n, |next| next.read);
+        assert_eq!(levels[j], j as i128 + 1 - over);
+        let to_read_0 = start + limits.tro - packet.grains();
+        if to_read_0 >= 0 {
+            seen.add("until read 0");
+            let next = next.expect("read 0 is left");
+            assert_eq!(next.numerator, to_read_0 * next.denominator);
+        }
+    }
+}
+
+/// What is seen of one wait: its refusal; or which reads its arrival lies by, and
+/// what is special of the two arrivals.
+fn look_at_wait(seen: &mut Seen, wait: &Wait) {
+    match next_read(wait) {
+        Err(number) => seen.add(&format!("refused {}", number)),
+        Ok(next) => {
+            let limits = set_up(&wait.numbers).unwrap();
+            look_at_next(seen, next, limits.n - 1);
+            look_at_over(seen, wait, &limits, next);
+            look_at_arrivals(seen, wait);
+        }
+    }
+}
+
+fn look_at_next(seen: &mut Seen, next: Option<NextRead>, last: i128) {
+    let next = match next {
+        Some(next) => next,
+        None => return seen.add("none left"),
+    };
+    let which = match next.read {
+        0 => "read 0",
+        j if j == last => "the last read",
+        _ => "a read between",
+    };
+    if next.numerator == 0 {
+        seen.add(&format!("on {}", which));
+    } else {
+        seen.add(&format!("before {}", which));
+        if next.numerator <= 27 * next.denominator {
+            seen.add("at most a nanosecond before a read");
+        }
+    }
+}
+
+/// The read before, which is over, and the last one.
+fn look_at_over(seen: &mut Seen, wait: &Wait, limits: &Limits, next: Option<NextRead>) {
+    let start = t_cf(&Packet::new(wait.first, 0, 0), limits.frame);
+    let arrival = Packet::new(wait.arrival, 0, 0).grains();
+    let read = |j| read_instant(limits, start, j);
+    let over = next.map_or(limits.n, |next| next.read);
+    if over > 0 && read(over - 1) >= Fraction::whole(arrival - 27) {
+        seen.add(match next {
+            Some(_) => "at most a nanosecond after a read",
+            None => "none left, at most a nanosecond after the last",
+        });
+    }
+    if Fraction::whole(arrival - limits.frame) >= read(limits.n - 1) {
+        seen.add("none left, a frame or more after the last");
+    }
+}
+
+fn look_at_arrivals(seen: &mut Seen, wait: &Wait) {
+    for (holds, what) in [
+        (wait.first == wait.arrival, "the first packet itself"),
+        (wait.arrival == 0, "the first nanosecond"),
+        (wait.arrival == u64::MAX, "the last nanosecond"),
+        (wait.arrival - wait.first == LONGEST_HISTORY, "600 s after"),
+    ] {
+        if holds {
+            seen.add(what);
+        }
+    }
+}
+
+/// All that there is to see.
+fn everything_of_waits() -> Vec<String> {
+    let mut all: Vec<String> = [
+        "before read 0",
+        "before a read between",
+        "before the last read",
+        "on read 0",
+        "on a read between",
+        "on the last read",
+        "none left",
+        "at most a nanosecond before a read",
+        "at most a nanosecond after a read",
+        "none left, at most a nanosecond after the last",
+        "none left, a frame or more after the last",
+        "the first packet itself",
+        "the first nanosecond",
+        "the last nanosecond",
+        "600 s after",
+    ]
+    .map(str::to_string)
+    .to_vec();
+    let refusals = [1, 2, 3, 4, 5, 6, 7, 12, 13];
+    all.extend(refusals.iter().map(|number| format!("refused {}", number)));
+    all.sort();
+    all
+}
+
+/// The fixed waits reach all of it, so that nothing depends on the seed; and
+/// generated ones reach it too.
+#[test]
+fn waits_reach_everything() {
+    let mut seen = Seen::default();
+    for wait in waits() {
+        look_at_wait(&mut seen, &wait);
+    }
+    println!("{:#?}", seen.0);
+    let fixed: Vec<String> = seen.0.into_keys().collect();
+    assert_eq!(fixed, everything_of_waits());
+    let mut seen = Seen::default();
+    for index in 0..3000 {
+        look_at_wait(&mut seen, &wait(&mut Random::new(2110, index)));
+    }
+    println!("{:#?}", seen.0);
+    let generated: Vec<String> = seen.0.into_keys().collect();
+    assert_eq!(generated, everything_of_waits());
+}
+
+/// Every rate with both schedules, small n and great, and a TRO that is default
+/// or given: before read 0, between reads and after the last; and on read 0,
+/// where TRO is whole nanoseconds.
+#[test]
+fn fixed_waits_reach_every_stream() {
+    let mut seen = Seen::default();
+    for wait in waits() {
+        let Numbers { rate, schedule, .. } = wait.numbers;
+        let n = wait.numbers.packets_per_frame;
+        let tro = wait.numbers.tro.map_or("default", |_| "given");
+        let place = match next_read(&wait) {
+            Err(_) => continue,
+            Ok(None) => "after",
+            Ok(Some(next)) if next.read > 0 => "between",
+            Ok(Some(next)) if next.numerator > 0 => "before",
+            Ok(Some(_)) => "on read 0",
+        };
+        seen.add(&format!("{} {} {} {} {}", rate, schedule, n, tro, place));
+    }
+    for rate in 1..=8 {
+        for schedule in 0..=1 {
+            for n in [1, 2, 3, 8, 4320, 20_000] {
+                for tro in ["default", "given"] {
+                    let stream = format!("{} {} {} {}", rate, schedule, n, tro);
+                    let mut places = vec!["before", "after"];
+                    places.extend((n > 1).then_some("between"));
+                    places.extend((tro == "given").then_some("on read 0"));
+                    for place in places {
+                        let what = format!("{} {}", stream, place);
+                        assert!(seen.0.contains_key(&what), "never seen: {}", what);
+                    }
+                }
+            }
+        }
+    }
+}
+
+/// 15 is given below three numbers, after all else; a refusal before it is given
+/// with no room too.
+#[test]
+fn two_numbers_and_three_are_lent_for_a_next_read() {
+    let mut seen = Seen::default();
+    for case in fixed() {
+        if let Call::NextRead(_) = case.call {
+            for room in &case.rooms {
+                seen.add(&format!("{} for {}", room.number, room.lent.min(4)));
+            }
+        }
+    }
+    let mut wanted: Vec<String> = (0..3).map(|lent| format!("15 for {}", lent)).collect();
+    wanted.extend(["0 for 3", "0 for 4"].map(str::to_string));
+    for number in [1, 2, 3, 4, 5, 6, 7, 12, 13] {
+        wanted.extend([0, 4].map(|lent| format!("{} for {}", number, lent)));
+    }
+    wanted.sort();
+    let seen: Vec<String> = seen.0.into_keys().collect();
+    assert_eq!(seen, wanted);
+}
+
 // --- captures ---
 
 /// What a capture shows: its magic and order, why frames are skipped, which
@@ -537,6 +759,7 @@ fn name_of(call: &Call) -> &'static str {
         Call::SetUp(_) => "set-up",
         Call::Feed { .. } => "feed",
         Call::Capture { .. } => "capture",
+        Call::NextRead(_) => "next-read",
     }
 }
 
@@ -557,7 +780,7 @@ fn answers_of(cases: &[Case]) -> BTreeMap<String, u64> {
 
 fn reach_every_answer(cases: &[Case]) {
     let answers = answers_of(cases);
-    let wanted: [(&str, &[u8]); 7] = [
+    let wanted: [(&str, &[u8]); 8] = [
         (
             "measure",
             &[0, 1, 2, 3, 4, 5, 6, 7, 11, 12, 13, 15, 20, 21, 22, 23],
@@ -571,6 +794,7 @@ fn reach_every_answer(cases: &[Case]) {
             "capture",
             &[0, 1, 2, 3, 4, 5, 6, 7, 12, 13, 15, 30, 31, 32, 33],
         ),
+        ("next-read", &[0, 1, 2, 3, 4, 5, 6, 7, 12, 13, 15]),
     ];
     for (call, numbers) in wanted {
         for number in numbers {

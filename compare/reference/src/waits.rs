@@ -1,0 +1,335 @@
+//! What is asked for the next read: fixed waits, which reach every outcome, and
+//! generated ones. They lie on reads and in the nanoseconds beside them, before
+//! the first read and after the last, and at both ends of 64 bits.
+
+use crate::fraction::Fraction;
+use crate::frame::t_cf;
+use crate::next_read::Wait;
+use crate::numbers::{set_up, Limits, Numbers, GRAINS_PER_NANOSECOND};
+use crate::packet::{Packet, LONGEST_HISTORY};
+use crate::random::Random;
+use crate::reads::read_instant;
+use crate::stream::{accepted_numbers, first_frame, refused_numbers};
+use crate::stream::{greatest_tro, nanosecond, END_OF_TIME, MODERN};
+
+/// Both ends of n, small ones, and that of document 01's 1080p50.
+const PACKETS_PER_FRAME: [u64; 6] = [1, 2, 3, 8, 4320, 20_000];
+/// Generated waits are put exactly on a read up to so many packets per frame, as
+/// all reads are looked through for one that is on a nanosecond.
+const SOUGHT_UP_TO: i128 = 512;
+
+/// All fixed ones; some with the given numbers, of which set-up refuses some.
+pub fn fixed_waits(numbers: &[Numbers]) -> Vec<Wait> {
+    [around_reads(), longest(), ends_of_time(), refused(numbers)].concat()
+}
+
+// --- a frame and its reads ---
+
+/// "N = round(27t/F), halves up": the first nanosecond that has this N.
+fn earliest(limits: &Limits, number: i128) -> i128 {
+    let half_before = Fraction::new((2 * number - 1) * limits.frame, 2);
+    nanosecond(half_before, true)
+}
+
+/// The earliest and the latest arrival that the first packet of a frame with this
+/// N may have.
+fn firsts(limits: &Limits, number: i128) -> (i128, i128) {
+    (earliest(limits, number), earliest(limits, number + 1) - 1)
+}
+
+fn on_a_nanosecond(instant: Fraction) -> bool {
+    instant
+        .divided_by(Fraction::whole(GRAINS_PER_NANOSECOND))
+        .is_whole()
+}
+
+/// The reads of a frame that an arrival can be exactly on.
+fn exact_reads(limits: &Limits, t_cf: i128) -> Vec<i128> {
+    (0..limits.n)
+        .filter(|&j| on_a_nanosecond(read_instant(limits, t_cf, j)))
+        .collect()
+}
+
+/// An arrival has 64 bits.
+fn clamped(arrival: i128) -> u64 {
+    arrival.clamp(0, i128::from(u64::MAX)) as u64
+}
+
+// --- fixed waits ---
+
+fn stream(rate: u64, schedule: u64, n: u64) -> Numbers {
+    Numbers {
+        rate,
+        schedule,
+        class: 0,
+        ..Numbers::narrow(n)
+    }
+}
+
+/// Every rate with both schedules, each n, and each way to come to a TRO.
+fn streams() -> Vec<Numbers> {
+    let mut all = vec![];
+    for rate in 1..=8 {
+        for schedule in 0..=1 {
+            for n in PACKETS_PER_FRAME {
+                let usual = stream(rate, schedule, n);
+                let low = Numbers {
+                    height: 720,
+                    ..usual
+                };
+                all.extend([usual, low]);
+                let given = [0, 700, greatest_tro(rate)].map(|tro| Numbers {
+                    tro: Some(tro),
+                    ..usual
+                });
+                all.extend(given);
+            }
+        }
+    }
+    all
+}
+
+/// Near the epoch, now, and near the end of 64 bits. At a multiple of 27 T_CF is
+/// on a whole nanosecond, at every rate.
+fn frame_number(numbers: &Numbers, frame: i128) -> i128 {
+    let number = match (numbers.rate + numbers.schedule) % 3 {
+        0 => 27,
+        1 => MODERN * GRAINS_PER_NANOSECOND / frame,
+        _ => END_OF_TIME / frame - 10,
+    };
+    number - number % 27
+}
+
+/// Of each stream the nanoseconds around the first read and the last, around one
+/// in the middle, and around some that an arrival can be on.
+fn around_reads() -> Vec<Wait> {
+    streams().iter().flat_map(around_reads_of).collect()
+}
+
+fn around_reads_of(numbers: &Numbers) -> Vec<Wait> {
+    let limits = set_up(numbers).expect("set-up accepts these streams");
+    let number = frame_number(numbers, limits.frame);
+    let t_cf = number * limits.frame;
+    let (earliest, latest) = firsts(&limits, number);
+    let mut arrivals = vec![earliest];
+    for j in worth_a_look(&limits, t_cf) {
+        let read = read_instant(&limits, t_cf, j);
+        arrivals.extend(nanosecond(read, false) - 1..=nanosecond(read, true) + 1);
+    }
+    let last = *arrivals.last().expect("every frame has a read");
+    arrivals.push(last + limits.frame / GRAINS_PER_NANOSECOND);
+    // By turns the first packet is at either end of what gives this T_CF; where
+    // that is later than the arrival, it is itself the packet that waits.
+    let firsts = [earliest, latest];
+    arrivals
+        .iter()
+        .zip(firsts.iter().cycle())
+        .map(|(&arrival, &first)| Wait {
+            numbers: *numbers,
+            first: clamped(first.min(arrival)),
+            arrival: clamped(arrival),
+        })
+        .collect()
+}
+
+/// In order, and each once.
+fn worth_a_look(limits: &Limits, t_cf: i128) -> Vec<i128> {
+    let exact = exact_reads(limits, t_cf);
+    let mut reads = vec![0, limits.n / 2, limits.n - 1];
+    reads.extend(exact.last());
+    reads.extend(exact.get(exact.len() / 2));
+    reads.sort_unstable();
+    reads.dedup();
+    reads
+}
+
+/// From half a frame before T_CF until the latest read 0, over the greatest
+/// denominator; and the nanosecond before, which has the T_CF before.
+fn longest() -> Vec<Wait> {
+    let mut waits = vec![];
+    for rate in 1..=8 {
+        for schedule in 0..=1 {
+            let numbers = Numbers {
+                tro: Some(greatest_tro(rate)),
+                ..stream(rate, schedule, 20_000)
+            };
+            let limits = set_up(&numbers).expect("set-up accepts the greatest TRO");
+            for number in [1, 2] {
+                let half_before = earliest(&limits, number);
+                waits.extend([half_before - 1, half_before].map(|arrival| Wait {
+                    numbers,
+                    first: clamped(arrival),
+                    arrival: clamped(arrival),
+                }));
+            }
+        }
+    }
+    waits
+}
+
+/// Both sides of 12 and of 13, from the epoch to the last nanosecond, where a
+/// sum of 64 bits would come out small.
+fn ends_of_time() -> Vec<Wait> {
+    let end = u64::MAX;
+    let now = MODERN as u64;
+    let pairs = [
+        (0, 0),
+        (0, 1),
+        (1, 1),
+        (1, 0),
+        (0, LONGEST_HISTORY),
+        (0, LONGEST_HISTORY + 1),
+        (0, end),
+        (now, now),
+        (now, now - 1),
+        (now, now + LONGEST_HISTORY),
+        (now, now + LONGEST_HISTORY + 1),
+        (end, end),
+        (end - 1, end),
+        (end, end - 1),
+        (end, 0),
+        (end - 5_000_000, end),
+        (end - 40_000_000, end),
+        (end - 40_000_000, 10_000_000),
+        (end - LONGEST_HISTORY + 1, end),
+        (end - LONGEST_HISTORY, end),
+        (end - LONGEST_HISTORY - 1, end),
+        (end - LONGEST_HISTORY + 1, 0),
+    ];
+    let mut waits = vec![];
+    for rate in 1..=8 {
+        for (schedule, n) in [(0, 1), (0, 4), (1, 4), (1, 320)] {
+            let numbers = stream(rate, schedule, n);
+            waits.extend(pairs.map(|(first, arrival)| Wait {
+                numbers,
+                first,
+                arrival,
+            }));
+        }
+    }
+    waits
+}
+
+/// The given numbers and those that are wrong in several ways, with arrivals in
+/// order, too early and too late: 1 to 7 come before 12 and 13.
+fn refused(numbers: &[Numbers]) -> Vec<Wait> {
+    let mut waits = vec![];
+    for numbers in [numbers, &mended()].concat() {
+        for (first, arrival) in [
+            (20_700_000, 25_500_000),
+            (20_700_000, 20_699_999),
+            (20_700_000, 20_700_001 + LONGEST_HISTORY),
+        ] {
+            waits.push(Wait {
+                numbers,
+                first,
+                arrival,
+            });
+        }
+    }
+    waits
+}
+
+/// All seven numbers wrong, and then mended one after the other.
+fn mended() -> Vec<Numbers> {
+    let mut numbers = Numbers {
+        rate: 9,
+        schedule: 2,
+        class: 4,
+        height: 0,
+        packets_per_frame: 20_001,
+        maxudp: 1500,
+        tro: Some(50_000),
+    };
+    let steps: [fn(&mut Numbers); 7] = [
+        |n| n.rate = 6,
+        |n| n.schedule = 1,
+        |n| n.class = 2,
+        |n| n.height = 1,
+        |n| n.packets_per_frame = 20_000,
+        |n| n.maxudp = 8960,
+        |n| n.tro = Some(0),
+    ];
+    let mut all = vec![numbers];
+    for step in steps {
+        step(&mut numbers);
+        all.push(numbers);
+    }
+    all
+}
+
+// --- generated waits ---
+
+pub fn wait(random: &mut Random) -> Wait {
+    if random.chance(20) {
+        return refused_wait(random);
+    }
+    let numbers = accepted_numbers(random);
+    let limits = set_up(&numbers).expect("the numbers are chosen to be accepted");
+    let first = first_arrival(random, &limits);
+    let arrival = arrival_after(random, &limits, first);
+    Wait {
+        numbers,
+        first,
+        arrival,
+    }
+}
+
+/// The arrivals may be refused as well.
+fn refused_wait(random: &mut Random) -> Wait {
+    let any = random.bits();
+    let mut one = || random.pick(&[0, 5, any, MODERN as u64, u64::MAX]);
+    let (first, arrival) = (one(), one());
+    Wait {
+        numbers: refused_numbers(random),
+        first,
+        arrival,
+    }
+}
+
+/// At either end of those that have one T_CF, on T_CF, by read 0, or between.
+fn first_arrival(random: &mut Random, limits: &Limits) -> u64 {
+    let number = first_frame(random, limits.frame);
+    let t_cf = number * limits.frame;
+    let (earliest, latest) = firsts(limits, number);
+    let any = random.between(earliest, latest);
+    let start = beside(random, Fraction::whole(t_cf));
+    let read_0 = beside(random, read_instant(limits, t_cf, 0));
+    clamped(random.pick(&[earliest, latest, start, read_0, any, any]))
+}
+
+fn arrival_after(random: &mut Random, limits: &Limits, first: u64) -> u64 {
+    let frame = limits.frame / GRAINS_PER_NANOSECOND;
+    let start = i128::from(first);
+    let limit = start + i128::from(LONGEST_HISTORY);
+    let later = start + random.between(0, 2 * frame);
+    match random.below(100) {
+        // Sent in order: not before the first packet.
+        0..=64 => clamped(near_a_read(random, limits, first).max(start)),
+        65..=69 => first,
+        70..=79 => clamped(later),
+        80..=86 => clamped(limit + random.pick(&[-1, 0, 0, 1, 1, frame])),
+        87..=93 => clamped(start - random.pick(&[1, 1, frame, start])),
+        _ => random.bits(),
+    }
+}
+
+/// In the nanoseconds around a read, and on it where that can be.
+fn near_a_read(random: &mut Random, limits: &Limits, first: u64) -> i128 {
+    let t_cf = t_cf(&Packet::new(first, 0, 0), limits.frame);
+    let any = random.between(0, limits.n - 1);
+    let mut j = random.pick(&[0, any, any, any, limits.n - 1]);
+    if limits.n <= SOUGHT_UP_TO && random.chance(50) {
+        let exact = exact_reads(limits, t_cf);
+        if !exact.is_empty() {
+            j = random.pick(&exact);
+        }
+    }
+    beside(random, read_instant(limits, t_cf, j))
+}
+
+/// Down or up to a nanosecond, or one further off.
+fn beside(random: &mut Random, instant: Fraction) -> i128 {
+    let up = random.chance(50);
+    nanosecond(instant, up) + random.pick(&[-1, 0, 0, 0, 1])
+}
