@@ -235,6 +235,35 @@ pub(crate) fn greatest_tro(rate: u64) -> u64 {
     ((frame - 1) / GRAINS_PER_MICROSECOND) as u64
 }
 
+/// All seven numbers wrong, and then mended one after the other: refused by 1 to
+/// 7 in turn, and at last accepted.
+pub fn mended_numbers() -> Vec<Numbers> {
+    let mut numbers = Numbers {
+        rate: 9,
+        schedule: 2,
+        class: 4,
+        height: 0,
+        packets_per_frame: 20_001,
+        maxudp: 1500,
+        tro: Some(50_000),
+    };
+    let steps: [fn(&mut Numbers); 7] = [
+        |n| n.rate = 6,
+        |n| n.schedule = 1,
+        |n| n.class = 2,
+        |n| n.height = 1,
+        |n| n.packets_per_frame = 20_000,
+        |n| n.maxudp = 8960,
+        |n| n.tro = Some(0),
+    ];
+    let mut all = vec![numbers];
+    for step in steps {
+        step(&mut numbers);
+        all.push(numbers);
+    }
+    all
+}
+
 /// Where in time the stream lies: at the epoch, now, where timestamps wrap, at
 /// the end of 64 bits, anywhere. Every ninth wrap is on a whole nanosecond.
 /// Multiples of 27 put T_CF on whole nanoseconds at every rate.

@@ -10,7 +10,7 @@ use crate::packet::{Packet, LONGEST_HISTORY};
 use crate::random::Random;
 use crate::reads::read_instant;
 use crate::stream::{accepted_numbers, first_frame, refused_numbers};
-use crate::stream::{greatest_tro, nanosecond, END_OF_TIME, MODERN};
+use crate::stream::{greatest_tro, mended_numbers, nanosecond, END_OF_TIME, MODERN};
 
 /// Both ends of n, small ones, and that of document 01's 1080p50.
 const PACKETS_PER_FRAME: [u64; 6] = [1, 2, 3, 8, 4320, 20_000];
@@ -214,7 +214,7 @@ fn ends_of_time() -> Vec<Wait> {
 /// order, too early and too late: 1 to 7 come before 12 and 13.
 fn refused(numbers: &[Numbers]) -> Vec<Wait> {
     let mut waits = vec![];
-    for numbers in [numbers, &mended()].concat() {
+    for numbers in [numbers, &mended_numbers()].concat() {
         for (first, arrival) in [
             (20_700_000, 25_500_000),
             (20_700_000, 20_699_999),
@@ -228,34 +228,6 @@ fn refused(numbers: &[Numbers]) -> Vec<Wait> {
         }
     }
     waits
-}
-
-/// All seven numbers wrong, and then mended one after the other.
-fn mended() -> Vec<Numbers> {
-    let mut numbers = Numbers {
-        rate: 9,
-        schedule: 2,
-        class: 4,
-        height: 0,
-        packets_per_frame: 20_001,
-        maxudp: 1500,
-        tro: Some(50_000),
-    };
-    let steps: [fn(&mut Numbers); 7] = [
-        |n| n.rate = 6,
-        |n| n.schedule = 1,
-        |n| n.class = 2,
-        |n| n.height = 1,
-        |n| n.packets_per_frame = 20_000,
-        |n| n.maxudp = 8960,
-        |n| n.tro = Some(0),
-    ];
-    let mut all = vec![numbers];
-    for step in steps {
-        step(&mut numbers);
-        all.push(numbers);
-    }
-    all
 }
 
 // --- generated waits ---

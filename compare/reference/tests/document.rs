@@ -10,6 +10,7 @@ use vtiming_reference::measure::Row;
 use vtiming_reference::numbers::{GRAINS_PER_TICK, WRAP};
 use vtiming_reference::packet::LONGEST_HISTORY;
 use vtiming_reference::reads::{read_instant, reading};
+use vtiming_reference::stream::mended_numbers;
 use vtiming_reference::*;
 
 const EXAMPLE: &str = "\
@@ -234,31 +235,14 @@ fn wide_and_narrow_linear_limits() {
 #[test]
 fn refusals_1_to_7_in_order() {
     // Every number is wrong; mending them one after the other shows the order.
-    let mut numbers = Numbers {
-        rate: 9,
-        schedule: 2,
-        class: 4,
-        height: 0,
-        packets_per_frame: 20_001,
-        maxudp: 1500,
-        tro: Some(50_000),
-    };
-    let mut seen = vec![];
-    for step in 0..8 {
-        seen.push(set_up(&numbers).map_or_else(|number| number, |_| 0));
-        match step {
-            0 => numbers.rate = 6,
-            1 => numbers.schedule = 1,
-            2 => numbers.class = 2,
-            3 => numbers.height = 1,
-            4 => numbers.packets_per_frame = 20_000,
-            5 => numbers.maxudp = 8960,
-            _ => numbers.tro = Some(0),
-        }
-    }
+    let all = mended_numbers();
+    let seen: Vec<u8> = all
+        .iter()
+        .map(|numbers| set_up(numbers).map_or_else(|number| number, |_| 0))
+        .collect();
     assert_eq!(seen, [1, 2, 3, 4, 5, 6, 7, 0]);
     assert_eq!(
-        measure(&Numbers { rate: 0, ..numbers }, &[]),
+        measure(&Numbers { rate: 0, ..all[7] }, &[]),
         Err(refused(1, 0))
     );
 }
