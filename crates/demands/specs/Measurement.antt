@@ -43,7 +43,7 @@ use Rattle.timing.proofs.Feeding.{refused-stays, feed-slices, nothing-fed}
 use Rattle.timing.proofs.Dealing.{stays-in-range}
 use Rattle.timing.proofs.Stopping.{all-stop}
 use Rattle.timing.proofs.Figures.{rows-drawn as all-drawn}
-use Rattle.timing.proofs.Awaiting.{awaited-numbered, denominator-is, below-spacing, numerator-most}
+use Rattle.timing.proofs.Awaiting.{awaited-numbered, numbered-12, numbered-13, denominator-is, below-spacing, numerator-most}
 use Rattle.timing.proofs.Accepting as proved
 
 -- ---- Demand 1: "Bad input gets the numbered refusal of document 01, exactly when its table says, with the state and lent rows as they
@@ -144,6 +144,14 @@ module _ (x : StreamNumbers) (first t : ℕ) where
   -- D1c, N14: the number is that of the table: 1 to 7, then 12, then 13; 0 where nothing is refused
   pub next-read-number : awaitedNumber (nextOf x first t) ≡ nextNumber x first t
   next-read-number = awaited-numbered first t x
+
+  -- D1c, N14: so, of a stream that set-up accepts, it is 12 exactly where the packet comes before the frame's first
+  pub next-read-early : setUpOf x ≡ 0 → (awaitedNumber (nextOf x first t) ≡ 12) ↔ (t < first)
+  next-read-early = numbered-12 first t x
+
+  -- D1c, N14: and 13 exactly where it comes more than 600 s after it
+  pub next-read-late : setUpOf x ≡ 0 → (awaitedNumber (nextOf x first t) ≡ 13) ↔ (first + 600000000000 < t)
+  next-read-late = numbered-13 first t x
 
   module _ (numerator denominator : ℕ) (e : nextOf x first t ≡ Awaited-In numerator denominator) where
     -- P20: "over 25·n grains for gapped and over n for linear"

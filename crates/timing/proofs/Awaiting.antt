@@ -1,6 +1,6 @@
 -- How long it is until the next read, and its refusals in their order: by the two numbers that are asked first.
-use Rattle.laws.specs.Kit.{_≡_, refl, sym, ap, _∙_, Bool, true, false, ℕ, _-_, _*_, _≤_, _<_, arith, eqb, ltb, eq-eqb, ne-eqb}
-use Rattle.laws.specs.Kit.{ltb-false, eqb-true, eqb-false, decLe, mul-le-mul, not-suc-le-zero}
+use Rattle.laws.specs.Kit.{_≡_, refl, sym, ap, subst, _∙_, _↔_, Bool, true, false, ℕ, _+_, _-_, _*_, _≤_, _<_, arith, eqb, ltb, eq-eqb, ne-eqb}
+use Rattle.laws.specs.Kit.{ltb-true, ltb-false, lt-ltb, le-ltb, eqb-true, eqb-false, decLe, mul-le-mul, not-suc-le-zero}
 use Rattle.laws.specs.Choose.{pick}
 use Rattle.grain.specs.declared.NextRead.{NextRead}
 use Rattle.grain.specs.declared.NextRead.the-variants.{In, NoneLeft}
@@ -24,6 +24,27 @@ module _ (first t : ℕ) where
   pub apart-is : refusalOf (pastOf nothing first) t 0 ≡ apartNumber first t
   unfolding refusalOf
   apart-is = refl
+
+  -- 12 is given exactly where the packet comes before the first
+  apart-12 : (apartNumber first t ≡ 12) ↔ (t < first)
+  apart-12 = (go (ltb t first) refl (ltb 600000000000 (t - first)), λ l. rw (lt-ltb t first l))
+    where
+      go : (a : Bool) → ltb t first ≡ a → (b : Bool) → _≡_ {A = ℕ} (pick a 12 (pick b 13 0)) 12 → t < first
+      go true f b z = ltb-true t first f
+      go false f true z = absurd (omega (arith, z))
+      go false f false z = absurd (omega (arith, z))
+
+  -- and 13 exactly where it comes more than 600 s after it
+  apart-13 : (apartNumber first t ≡ 13) ↔ (first + 600000000000 < t)
+  apart-13 = (
+    go (ltb t first) (ltb 600000000000 (t - first)) refl,
+    λ l. rw (le-ltb t first (omega arith), lt-ltb 600000000000 (t - first) (omega arith)),
+  )
+    where
+      go : (a b : Bool) → ltb 600000000000 (t - first) ≡ b → _≡_ {A = ℕ} (pick a 12 (pick b 13 0)) 13 → first + 600000000000 < t
+      go true b f z = absurd (omega (arith, z))
+      go false true f z = omega (arith, ltb-true 600000000000 (t - first) f)
+      go false false f z = absurd (omega (arith, z))
 
   -- where neither is given, the packet is in time
   pub apart-none : apartNumber first t ≡ 0 → NextAsks first t
@@ -72,6 +93,16 @@ module _ (first t : ℕ) where
         go (In w) true e = sym (eqb-true (nextNumber x first t) 0 e)
         go NoneLeft true e = sym (eqb-true (nextNumber x first t) 0 e)
         go a false e = refl
+
+    -- so where set-up refuses nothing it is 12, or 13, exactly where the arrivals say so
+    apart-numbered : setUpOf x ≡ 0 → apartNumber first t ≡ awaitedNumber (nextOf x first t)
+    apart-numbered e = sym (awaited-numbered ∙ rw (eq-eqb (setUpOf x) 0 e))
+
+    pub numbered-12 : setUpOf x ≡ 0 → (awaitedNumber (nextOf x first t) ≡ 12) ↔ (t < first)
+    numbered-12 e = subst (λ (n : ℕ). (n ≡ 12) ↔ (t < first)) (apart-numbered e) apart-12
+
+    pub numbered-13 : setUpOf x ≡ 0 → (awaitedNumber (nextOf x first t) ≡ 13) ↔ (first + 600000000000 < t)
+    numbered-13 e = subst (λ (n : ℕ). (n ≡ 13) ↔ (first + 600000000000 < t)) (apart-numbered e) apart-13
 
     -- and no refusal has number 0
     pub refused-some : {n : ℕ} → nextOf x first t ≡ Not-Awaited n → n ≡ 0 → ⊥

@@ -77,8 +77,8 @@ graphOf fpt margin latency =
 abbrev pub graphNumber : ℤ → ℤ → ℤ → ℕ
 graphNumber fpt margin latency = pick (inFloat binary64 fpt && (inFloat binary64 margin && inFloat binary64 latency)) 0 16
 
--- N14: of a packet at t in a frame whose first packet came at `first`: "12 where the packet comes before the frame's first, 13 where it
--- comes more than 600 s after it"
+-- N14: of a packet at t in a frame whose first packet came at `first`: 12 where it comes before that one, 13 where it comes more than 600 s
+-- after it
 abbrev pub apartNumber : ℕ → ℕ → ℕ
 apartNumber first t = pick (ltb t first) 12 (pick (ltb 600000000000 (t - first)) 13 0)
 
