@@ -287,14 +287,14 @@ uint32_t vtiming_limits(uint8_t rate, uint8_t schedule, uint8_t stream_class, ui
  *
  * Fills:
  *
- *   0  left          1 where a read of the frame is not over, 0 where none is left
- *   1  numerator     the next read is numerator/denominator grains after the packet; a read at the packet's own arrival is the
- *   2  denominator   next one, at 0. It is 25·n for gapped and n for linear, n being packets_per_frame: the fraction is not
- *                    reduced, so that no digit is lost. Divide by 27 for nanoseconds
+ *   0  left          1 where a read of the frame is still to come, 0 where none is left
+ *   1  numerator     of the grains from the packet to the next read; 0 where that read is at the packet's own arrival
+ *   2  denominator   of these grains: 25·n for gapped, n for linear, n being packets_per_frame
  *
- * Where none is left, numbers 1 and 2 are 0, which is no fraction: the next frame's reads are not meant. The numerator is at most
- * 844,589,250,000,000, and int64_t holds it. It is below F for linear and 24·F for gapped once read 0 has come. The frame need not
- * be whole, nor closed. The packets up to the first marker are in no frame: for these there is nothing to ask.
+ * The fraction is exact and not reduced; over 27 it is nanoseconds. Where no read is left, numbers 1 and 2 are 0, which is no
+ * fraction: the next frame's reads are not meant. The numerator is at most 844,589,250,000,000, so that int64_t holds it, and from
+ * the frame's first read on it is below 24·F for gapped and F for linear. The frame need not be whole, nor closed. The packets up
+ * to the first marker are in no frame: for these there is nothing to ask.
  *
  * Refuses by 1 to 7, then by 12 where the packet comes before the frame's first, by 13 where it comes more than 600 s after it,
  * and then by 15 where there is room for fewer than three. */
