@@ -99,19 +99,22 @@ pub struct Case {
     pub measured: Vec<u8>,
 }
 
+/// In so many cases in a row each kind of call has its share.
+pub const ROUND: u64 = 31;
+
 /// Generated case `index` of a seed.
 pub fn case(seed: u64, index: u64) -> Case {
     // The files of `generate` depend on seed and number too; the other cases
     // must not repeat their choices.
     let mut random = Random::new(seed ^ 0x6361_7365, index);
-    let call = match index % 30 {
-        0..=10 => Call::Measure(file(seed, index)),
-        11 => Call::NextRead(wait(&mut random)),
+    let call = match index % ROUND {
+        0..=11 => Call::Measure(file(seed, index)),
         12..=15 => lists(&mut random),
-        16 if index % 60 < 30 => Call::Limits(any_numbers(&mut random)),
+        16 if index / ROUND % 2 == 0 => Call::Limits(any_numbers(&mut random)),
         16 => Call::SetUp(any_numbers(&mut random)),
         17..=18 => fed(&mut random),
         19 => figures(&mut random),
+        20 => Call::NextRead(wait(&mut random)),
         _ => {
             let (asked, bytes) = capture(seed, index);
             Call::Capture { asked, bytes }

@@ -7,7 +7,7 @@ use std::collections::BTreeMap;
 
 use vtiming_reference::bucket::{drain_instant, drains_by};
 use vtiming_reference::capture::{Carried, Why};
-use vtiming_reference::cases::{captures, case, fixed, waits, Call, Case};
+use vtiming_reference::cases::{captures, case, fixed, waits, Call, Case, ROUND};
 use vtiming_reference::fraction::Fraction;
 use vtiming_reference::frame::{closed_frames, t_cf, Kind};
 use vtiming_reference::generate::file;
@@ -816,7 +816,7 @@ fn reach_every_answer(cases: &[Case]) {
 #[test]
 fn the_cases_reach_every_answer_of_every_call() {
     reach_every_answer(&fixed());
-    let generated: Vec<Case> = (0..4500).map(|index| case(1, index)).collect();
+    let generated: Vec<Case> = (0..200 * ROUND).map(|index| case(1, index)).collect();
     reach_every_answer(&generated);
 }
 
@@ -879,7 +879,7 @@ fn a_case_is_accepted_where_there_is_room() {
 /// write the rows of the whole list, once, and end in its nine numbers.
 #[test]
 fn calls_in_a_row_give_what_one_call_gives() {
-    let generated = (0..400).map(|index| case(7, 30 * index + 17));
+    let generated = (0..400).map(|index| case(7, ROUND * index + 17));
     for case in fixed().into_iter().chain(generated) {
         let calls = match case.call {
             Call::Feed { calls, .. } => calls,
