@@ -307,7 +307,7 @@ static struct file file_of(struct stream s, struct list l)
 {
     struct file f = {19 + 16 * l.count, room(19 + 16 * l.count)};
     uint8_t *b = f.bytes;
-    b[0] = 1, put(b + 1, 2, 16), b[3] = 1, b[4] = s.rate, b[5] = s.schedule, b[6] = s.class;
+    b[0] = 2, put(b + 1, 2, 16), b[3] = 1, b[4] = s.rate, b[5] = s.schedule, b[6] = s.class;
     put(b + 7, 2, s.height), put(b + 9, 4, s.n), put(b + 13, 2, s.maxudp), put(b + 15, 4, s.tro);
     b += 19;
     for (size_t i = 0; i < l.count; i++, b += 16)

@@ -19,8 +19,10 @@ int main(void)
         held += (size_t)got;
         const uint8_t *b = window, *end = window + held;
         if (!began && held >= HEAD) {
-            if (set_up_refusal(b[4], b[5], b[6], big16(b + 7), big32(b + 9), big16(b + 13), big32(b + 15))) return 1;
-            r = rules_of(b[4], b[5], b[6], big16(b + 7), big32(b + 9), big16(b + 13), big32(b + 15));
+            uint8_t class = class_in(b[0], b[6]);
+            if (b[0] < 1 || b[0] > 2) return 1;
+            if (set_up_refusal(b[4], b[5], class, big16(b + 7), big32(b + 9), big16(b + 13), big32(b + 15))) return 1;
+            r = rules_of(b[4], b[5], class, big16(b + 7), big32(b + 9), big16(b + 13), big32(b + 15));
             began = 1;
             b += HEAD;
         }

@@ -56,8 +56,9 @@ uint32_t twin_feed(uint8_t rate, uint8_t schedule, uint8_t class, uint16_t heigh
    is wrong: the twin is timed on sound ones. */
 uint32_t twin_measure(const uint8_t *restrict file, size_t size, uint8_t *restrict out, size_t room)
 {
-    if (size < HEAD || file[0] != 1 || big16(file + 1) != 16 || file[3] != 1 || (size - HEAD) % RECORD != 0) return 21;
-    uint8_t refused = set_up_refusal(file[4], file[5], file[6], big16(file + 7), big32(file + 9), big16(file + 13), big32(file + 15));
+    if (size < HEAD || file[0] < 1 || file[0] > 2 || big16(file + 1) != 16 || file[3] != 1 || (size - HEAD) % RECORD != 0) return 21;
+    uint8_t class = class_in(file[0], file[6]);
+    uint8_t refused = set_up_refusal(file[4], file[5], class, big16(file + 7), big32(file + 9), big16(file + 13), big32(file + 15));
     if (refused) return refused;
 
     const uint8_t *packets = file + HEAD, *end = file + size;
@@ -74,7 +75,7 @@ uint32_t twin_measure(const uint8_t *restrict file, size_t size, uint8_t *restri
     size_t closing = marked_count > 0 ? marked_count - 1 : 0;
     if (room / 8 < SUMMARY + ROW * closing) return 15;
 
-    const struct rules r = rules_of(file[4], file[5], file[6], big16(file + 7), big32(file + 9), big16(file + 13), big32(file + 15));
+    const struct rules r = rules_of(file[4], file[5], class, big16(file + 7), big32(file + 9), big16(file + 13), big32(file + 15));
     struct twin w = {0};
     for (const uint8_t *b = packets; b < end; b += RECORD) {
         uint64_t t = big64(b + 3);

@@ -17,7 +17,7 @@
 #define ROW 11
 #define SUMMARY 9
 
-enum { NARROW = 1, NARROW_LINEAR = 2, WIDE = 3 };
+enum { STRICT = 0, NARROW = 1, NARROW_LINEAR = 2, WIDE = 3 }; /* STRICT is NARROW on schedule 0, NARROW_LINEAR on 1 */
 enum { NONE, PASS, UNDER, OVER };
 
 #define FRAME(num, den) (SECOND * (den) / (num)) /* grains in a frame, at num/den frames a second */
@@ -37,6 +37,9 @@ static uint8_t set_up_refusal(uint8_t rate, uint8_t schedule, uint8_t class, uin
     if (tro != DEFAULT_TRO && 27000ull * tro >= frame_lengths[rate]) return 7;
     return 0;
 }
+
+/* The class that a record file sets up with: one of version 1 keeps 0 as wide. */
+static inline uint8_t class_in(uint8_t version, uint8_t class) { return version == 1 && class == STRICT ? WIDE : class; }
 
 /* 27·t modulo m, for any t: the product itself may need more than 64 bits. */
 static uint64_t grains_mod(uint64_t t, uint64_t m) { return GRAINS * (t % m) % m; }
@@ -85,7 +88,7 @@ static struct rules rules_of(uint8_t rate, uint8_t schedule, uint8_t class, uint
     r.tro = tro != DEFAULT_TRO ? 27000ull * tro : height >= 1080 ? 43 * r.frame / 1125 : 28 * r.frame / 750;
     r.read_num = (int64_t)(schedule == 0 ? 24 * r.frame : r.frame);
     r.read_den = schedule == 0 ? 25ull * n : n;
-    if (class == NARROW || class == NARROW_LINEAR) {
+    if (class != WIDE) {
         uint64_t rate_of = SECOND / 43200 * n;
         r.c_max = larger(4, (schedule == 0 ? rate_of * 25 / 24 : rate_of) / r.frame);
         r.vrx_full = larger(12000 / maxudp, SECOND / 27000 * n / r.frame);

@@ -42,7 +42,7 @@
  *   14  there are more than 1,000,000,000 packets                     measure in shorter stretches
  *   15  too little room was lent for the answer                       lend more (each function says how much), call again
  *   16  a figure for the graph is above 2^53 in size                  leave the point out: no double holds it exactly
- *   20  the file is empty, or its version byte is not 1               it is no record file of this version
+ *   20  the file is empty, or its version is neither 1 nor 2          it is no record file; to vtiming_write give 1 or 2
  *   21  a record is cut short, or its length is 0                     the file was cut off, or was damaged there
  *   22  a record is of an unknown kind, or its length is wrong        the file was damaged there, or is another format
  *   23  the parameters do not come first, or come again               one parameter record, then packets only
@@ -53,6 +53,13 @@
  *   33  the offset is above 99                                        37 for a capture clock of UTC, 0 for one of TAI
  *
  * vtiming_next_read gives 12 and 13 of a packet and the first packet of its frame.
+ *
+ * Class 0 is the strict class of the schedule: narrow (1) on schedule 0, narrow linear (2) on schedule 1. So it is wherever a
+ * class is given, and in a record file of version 2. A record file of version 1 alone keeps 0 as wide (3), as all did before
+ * version 3.0.0 of this library; what vtiming_measure answers of such a file has not changed.
+ *
+ * What a program must change that was made for 2.3.0 or older: vtiming_write and vtiming_write_place have the version as their
+ * first argument; give them VTIMING_RECORD_VERSION. Where the program gives class 0 and means wide, give 3.
  *
  * 9, a state out of its range, cannot come out of these functions: no state crosses this border.
  *
@@ -70,9 +77,9 @@ extern "C" {
 #endif
 
 /* The version of this header and of the archive that it belongs to. */
-#define VTIMING_VERSION "2.3.0"
-#define VTIMING_VERSION_MAJOR 2
-#define VTIMING_VERSION_MINOR 3
+#define VTIMING_VERSION "3.0.0"
+#define VTIMING_VERSION_MAJOR 3
+#define VTIMING_VERSION_MINOR 0
 #define VTIMING_VERSION_PATCH 0
 
 /* A TRO of all ones stands for the default: 43F/1125 from height 1080 on, 28F/750 below. */
@@ -94,6 +101,9 @@ extern "C" {
 /* The same for vtiming_capture, which has two numbers more in front of the rows; vtiming_capture_room adds up the bytes. */
 #define VTIMING_CAPTURE_SUMMARY_BYTES 88
 #define VTIMING_CAPTURE_SUMMARY_NUMBERS 11
+
+/* The version of a record file to write today. Version 1 is for readers that know no other; class 0 is wide in it. */
+#define VTIMING_RECORD_VERSION 2
 
 /* Room for vtiming_write: version and parameters, and a record for each packet. */
 #define VTIMING_HEAD_BYTES 19
@@ -150,7 +160,7 @@ enum vtiming_buffer_answer {
     VTIMING_BUFFER_OVER = 3
 };
 
-/* Measures a whole record file.
+/* Measures a whole record file, of version 1 or 2.
  *
  *   file, file_len   the file's bytes, all of them
  *   out, out_len     room for the answer: 72 bytes and 88 for each frame that closes; vtiming_measure_room says how many
@@ -198,7 +208,7 @@ uint64_t vtiming_measure_room(const uint8_t *file, size_t file_len);
  *   port             the UDP port that the stream is sent to
  *   offset           whole seconds, 0 to 99, that are added to each time of the capture so that it counts from the SMPTE
  *                    epoch: 37 for a clock that shows UTC (since 2017), 0 for one that shows TAI
- *   rate to tro      the seven numbers of the stream, as vtiming_write has them
+ *   rate to tro      the seven numbers of the stream, as vtiming_write has them; class 0 is 1 on schedule 0, 2 on schedule 1
  *   out, out_len     room for the answer: 88 bytes and 88 for each frame that closes; vtiming_capture_room says how many
  *
  * A frame of the capture is a packet of the stream where its captured bytes hold all of these: Ethernet's header with type
@@ -248,9 +258,11 @@ static inline int64_t vtiming_number(const uint8_t *answer, size_t k)
 
 /* Writes a record file.
  *
+ *   version          1 or 2; VTIMING_RECORD_VERSION is 2
  *   rate             rate code, 1 to 8
  *   schedule         0 gapped, 1 linear
- *   stream_class     1 narrow, 2 narrow linear, 3 wide; 0 means 3 and is written as 0
+ *   stream_class     1 narrow, 2 narrow linear, 3 wide; 0, which is written as 0, is 1 on schedule 0 and 2 on schedule 1, or in a
+ *                    file of version 1 is 3
  *   height           lines of the picture, 1 to 65,535
  *   packets_per_frame  1 to 20,000
  *   maxudp           1460 or 8960
@@ -260,27 +272,29 @@ static inline int64_t vtiming_number(const uint8_t *answer, size_t k)
  *   markers          0 or 1
  *   out, out_len     room for the file: 19 bytes and 16 for each packet
  *
- * Refuses by 1 to 7, 10, then packet by packet 11 to 14, then 24. What it writes, vtiming_measure accepts, given room. */
-uint32_t vtiming_write(uint8_t rate, uint8_t schedule, uint8_t stream_class, uint16_t height, uint32_t packets_per_frame,
-                       uint16_t maxudp, uint32_t tro, const uint64_t *arrivals, size_t arrival_count,
-                       const uint32_t *stamps, size_t stamp_count, const uint8_t *markers, size_t marker_count,
-                       uint8_t *out, size_t out_len);
+ * Refuses by 20 first of all, then by 1 to 7, 10, then packet by packet 11 to 14, then 24. What it writes, vtiming_measure accepts,
+ * given room. */
+uint32_t vtiming_write(uint8_t version, uint8_t rate, uint8_t schedule, uint8_t stream_class, uint16_t height,
+                       uint32_t packets_per_frame, uint16_t maxudp, uint32_t tro, const uint64_t *arrivals,
+                       size_t arrival_count, const uint32_t *stamps, size_t stamp_count, const uint8_t *markers,
+                       size_t marker_count, uint8_t *out, size_t out_len);
 
 /* The twin of vtiming_write: for 11 to 14 the place of the refused packet, from 0; else 0. */
-uint64_t vtiming_write_place(uint8_t rate, uint8_t schedule, uint8_t stream_class, uint16_t height,
+uint64_t vtiming_write_place(uint8_t version, uint8_t rate, uint8_t schedule, uint8_t stream_class, uint16_t height,
                              uint32_t packets_per_frame, uint16_t maxudp, uint32_t tro, const uint64_t *arrivals,
                              size_t arrival_count, const uint32_t *stamps, size_t stamp_count, const uint8_t *markers,
                              size_t marker_count, size_t out_len);
 
-/* What follows from the seven numbers of a stream, which are those of vtiming_write. Fills four numbers: F, the length of
- * a frame in grains; TRO in grains; C_MAX, the most packets that the network bucket may hold; VRX_FULL, the most that the
- * receiver's buffer holds. out_len counts numbers. Refuses by 1 to 7, then by 15 where there is room for fewer than four. */
+/* What follows from the seven numbers of a stream, which are those of vtiming_write; class 0 is 1 on schedule 0, 2 on schedule
+ * 1. Fills four numbers: F, the length of a frame in grains; TRO in grains; C_MAX, the most packets that the network bucket may
+ * hold; VRX_FULL, the most that the receiver's buffer holds. out_len counts numbers. Refuses by 1 to 7, then by 15 where there
+ * is room for fewer than four. */
 uint32_t vtiming_limits(uint8_t rate, uint8_t schedule, uint8_t stream_class, uint16_t height, uint32_t packets_per_frame,
                         uint16_t maxudp, uint32_t tro, uint64_t *out, size_t out_len);
 
 /* How long the receiver still waits, from a packet on, until it reads again: for a graph, packet by packet.
  *
- *   rate to tro      the seven numbers of the stream, as vtiming_write has them
+ *   rate to tro      the seven numbers of the stream, as vtiming_write has them; class 0 is 1 on schedule 0, 2 on schedule 1
  *   first            arrival of the first packet of the packet's frame: it fixes the reads of the frame
  *   arrival          arrival of the packet itself; both in nanoseconds since the SMPTE epoch
  *   out, out_len     room for three numbers; out_len counts numbers

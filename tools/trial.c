@@ -159,12 +159,12 @@ static int measured(uint32_t n, size_t count, uint64_t first, uint64_t step, siz
         stamps[k + 1] = k == odd ? 1801 : 1800;
         markers[k + 1] = k + 1 == count;
     }
-    TRY(vtiming_write(6, 0, 1, 1080, n, 1460, VTIMING_DEFAULT_TRO, arrivals, packets, stamps, count, markers, packets, file, size) ==
-        VTIMING_REFUSED_LENGTHS);
-    TRY(vtiming_write(6, 0, 1, 1080, n, 1460, VTIMING_DEFAULT_TRO, arrivals, packets, stamps, packets, markers, packets, file,
-                      size - 1) == VTIMING_REFUSED_WRITE_ROOM);
-    TRY(vtiming_write(6, 0, 1, 1080, n, 1460, VTIMING_DEFAULT_TRO, arrivals, packets, stamps, packets, markers, packets, file, size) ==
-        VTIMING_ACCEPTED);
+    TRY(vtiming_write(VTIMING_RECORD_VERSION, 6, 0, 1, 1080, n, 1460, VTIMING_DEFAULT_TRO, arrivals, packets, stamps, count, markers,
+                      packets, file, size) == VTIMING_REFUSED_LENGTHS);
+    TRY(vtiming_write(VTIMING_RECORD_VERSION, 6, 0, 1, 1080, n, 1460, VTIMING_DEFAULT_TRO, arrivals, packets, stamps, packets, markers,
+                      packets, file, size - 1) == VTIMING_REFUSED_WRITE_ROOM);
+    TRY(vtiming_write(VTIMING_RECORD_VERSION, 6, 0, 1, 1080, n, 1460, VTIMING_DEFAULT_TRO, arrivals, packets, stamps, packets, markers,
+                      packets, file, size) == VTIMING_ACCEPTED);
     TRY(vtiming_measure_room(file, size) == VTIMING_SUMMARY_BYTES + VTIMING_ROW_BYTES);
     TRY(vtiming_measure(file, size, answer, VTIMING_SUMMARY_BYTES + VTIMING_ROW_BYTES - 1) == VTIMING_REFUSED_ROOM);
     TRY(vtiming_measure(file, size, answer, VTIMING_SUMMARY_BYTES + VTIMING_ROW_BYTES) == VTIMING_ACCEPTED);
@@ -209,13 +209,38 @@ static int try_room(void)
     uint32_t gigabyte = UINT32_C(1000000000); /* a host may keep a length in fewer bits than the product needs */
     TRY(VTIMING_ENOUGH_BYTES(gigabyte) == UINT64_C(6000000000));
     for (size_t k = 0; k < PACKETS; k++) markers[k] = 1;
-    TRY(vtiming_write(6, 0, 1, 1080, 1, 1460, VTIMING_DEFAULT_TRO, arrivals, PACKETS, stamps, PACKETS, markers, PACKETS, file, SIZE) ==
-        VTIMING_ACCEPTED);
+    TRY(vtiming_write(VTIMING_RECORD_VERSION, 6, 0, 1, 1080, 1, 1460, VTIMING_DEFAULT_TRO, arrivals, PACKETS, stamps, PACKETS, markers,
+                      PACKETS, file, SIZE) == VTIMING_ACCEPTED);
     TRY(vtiming_measure_room(file, SIZE) == VTIMING_SUMMARY_BYTES + (PACKETS - 1) * VTIMING_ROW_BYTES);
     TRY(vtiming_measure(file, SIZE, answer, 5 * SIZE) == VTIMING_REFUSED_ROOM);
     TRY(vtiming_measure(file, SIZE, answer, VTIMING_ENOUGH_BYTES(SIZE)) == VTIMING_ACCEPTED);
     for (int64_t frame = 0; frame < PACKETS - 1; frame++)
         TRY(vtiming_number(answer, VTIMING_SUMMARY_NUMBERS + VTIMING_ROW_NUMBERS * (size_t)frame + 10) == frame + 1);
+    return 0;
+}
+
+/* Five packets at once with class 0: a burst in version 2, where 0 is narrow and C_MAX 4, and none in version 1, where it is wide. */
+static int try_versions(void)
+{
+    enum { PACKETS = 5, SIZE = VTIMING_HEAD_BYTES + PACKETS * VTIMING_PACKET_BYTES };
+    uint64_t arrivals[PACKETS] = {0}, limits[4];
+    uint32_t stamps[PACKETS] = {0};
+    uint8_t markers[PACKETS] = {0}, file[SIZE], answer[VTIMING_SUMMARY_BYTES];
+#define WRITE(version, rate, count)                                                                                                \
+    vtiming_write(version, rate, 0, 0, 1080, 4, 1460, VTIMING_DEFAULT_TRO, arrivals, PACKETS, stamps, PACKETS, markers, count, file, SIZE)
+    for (uint8_t version = 1; version <= VTIMING_RECORD_VERSION; version++) {
+        TRY(WRITE(version, 6, PACKETS) == VTIMING_ACCEPTED && file[0] == version && file[6] == 0);
+        TRY(vtiming_measure(file, SIZE, answer, sizeof answer) == VTIMING_ACCEPTED);
+        TRY(vtiming_number(answer, 3) == (version == 1 ? VTIMING_NETWORK_PASS : VTIMING_NETWORK_BURST));
+    }
+    /* The version is asked first: the rate is wrong too, and a marker is missing. */
+    TRY(WRITE(VTIMING_RECORD_VERSION + 1, 0, PACKETS - 1) == VTIMING_REFUSED_VERSION);
+    TRY(WRITE(0, 6, PACKETS) == VTIMING_REFUSED_VERSION && file[0] == VTIMING_RECORD_VERSION);
+#undef WRITE
+    file[0] = VTIMING_RECORD_VERSION + 1;
+    TRY(vtiming_measure(file, SIZE, answer, sizeof answer) == VTIMING_REFUSED_VERSION);
+    TRY(vtiming_limits(6, 0, 0, 1080, 4320, 1460, VTIMING_DEFAULT_TRO, limits, 4) == VTIMING_ACCEPTED && limits[2] == 5);
+    TRY(vtiming_limits(6, 1, 0, 1080, 4320, 1460, VTIMING_DEFAULT_TRO, limits, 4) == VTIMING_ACCEPTED && limits[2] == 5);
     return 0;
 }
 
@@ -253,7 +278,7 @@ static int try_limits_and_graph(void)
 int main(int count, char **names)
 {
     static uint8_t file[LONGEST];
-    if (try_decoder() || try_answers() || try_room() || try_next_read() || try_limits_and_graph()) return 1;
+    if (try_decoder() || try_answers() || try_room() || try_versions() || try_next_read() || try_limits_and_graph()) return 1;
     printf("%s %d.%d.%d\n", VTIMING_VERSION, VTIMING_VERSION_MAJOR, VTIMING_VERSION_MINOR, VTIMING_VERSION_PATCH);
     for (int k = 1; k < count; k++) {
         FILE *from = fopen(names[k], "rb");

@@ -9,12 +9,14 @@ use mir.Val.{toZ}
 use Rattle.laws.specs.Choose.{AllBelow}
 use Rattle.laws.specs.Count.{count}
 use Rattle.limits.specs.declared.Parameters.{Parameters}
+use Rattle.limits.specs.Paper.{given}
 use Rattle.limits.specs.Steps.{ParametersHeld}
 use Rattle.packet.specs.declared.Packet.{Packet}
 use Rattle.packet.specs.Paper.{packets, closesAt}
 use Rattle.endian.specs.Number.{numberOf}
 use Rattle.endian.proofs.Width.{bytes-all}
-use Rattle.record.specs.Paper.{file, refused, fileOf}
+use Rattle.record.specs.Paper.{Heading, heading, firstClass, resolved, file, refused, fileOf}
+use Rattle.record.specs.Layout.{headOf}
 use Rattle.record.specs.Walk.{checkedOf, checkedNumber, checkedOffset}
 use Rattle.record.specs.Write.{fileLength}
 use Rattle.record.proofs.WriteRead.{written-reads}
@@ -27,7 +29,8 @@ use Rattle.timing.specs.declared.Awaited.the-variants.{In, NoneLeft}
 use Rattle.timing.specs.Answers.{summaryWidth, summaryOf, fedNumber, fedPlace, nextOf, awaitedNumber}
 use Rattle.timing.specs.Feed.{feedOf, feedAll, allOf, Rooms}
 use Rattle.timing.specs.History.{AcceptedHistory, reached, rowsOfAll}
-use Rattle.report.specs.Paper.{rowsOf, reportOf, encoded, bytesFor, answer, answered, answerOf, roomFor, roomOf, numberBytes, filled, filledBy}
+use Rattle.report.specs.Paper.{streamOf, rowsOf, reportOf, encoded, bytesFor, answer, answered, answerOf, roomFor, roomOf, numberBytes}
+use Rattle.report.specs.Paper.{filled, filledBy}
 use Rattle.report.specs.Paper.{awaitedNumbers, nextReadNumber, nextReadLeft}
 use Rattle.report.specs.Step.{WriteGives}
 use Rattle.report.proofs.Calls.{written-whole, next-stays, next-filled}
@@ -66,7 +69,7 @@ module _ (s : List ℕ) where
   room-at-most b = asked.room-at-most s (bytes-all s b)
 
   -- of a file that is accepted
-  module _ (w : Parameters) (ps : List Packet) (e : fileOf s ≡ file w ps) where
+  module _ (w : Heading) (ps : List Packet) (e : fileOf s ≡ file w ps) where
     -- C4: 15 at the file's length
     pub too-few-bytes : (room : ℕ) → room < length (bytesFor w ps) → answerOf s room ≡ answer 15 (length s)
     unfolding answerOf
@@ -105,25 +108,39 @@ module _ (s : List ℕ) where
 
     -- C1, C2: the numbers are those of the measurement: one call of `feed` with the file's packets, from the fresh state and with just
     -- enough row numbers lent, is accepted, and the bytes are the nine numbers of its state and the row numbers that it wrote
-    pub file-as-fed : (rows : List ℤ) → length rows ≡ length (numbers (rowsOf (ofParameters w) ps))
+    pub file-as-fed : (rows : List ℤ) → length rows ≡ length (numbers (rowsOf (streamOf w) ps))
         → (state : State) × (written : List ℤ)
-        × (feedAll (freshOf (ofParameters w)) rows ps ≡ record { answer = Accepted state; rows = written })
+        × (feedAll (freshOf (streamOf w)) rows ps ≡ record { answer = Accepted state; rows = written })
         × (bytesFor w ps ≡ encoded (map pos (summaryOf state) ++ written))
     file-as-fed = file-proved.as-fed s w ps e
 
     -- C3: "Each number is 8 bytes, signed, big-endian": number k of the report is what its 8 bytes are, read as a signed number
-    pub reads-back : (k : ℕ) → k < length (reportOf (ofParameters w) ps)
-        → toZ w64 (numberOf (take numberBytes (drop (numberBytes * k) (bytesFor w ps)))) ≡ getD (reportOf (ofParameters w) ps) k (pos 0)
-    reads-back k h = number-back (reportOf (ofParameters w) ps) k (report-fits s w ps e) h
+    pub reads-back : (k : ℕ) → k < length (reportOf (streamOf w) ps)
+        → toZ w64 (numberOf (take numberBytes (drop (numberBytes * k) (bytesFor w ps)))) ≡ getD (reportOf (streamOf w) ps) k (pos 0)
+    reads-back k h = number-back (reportOf (streamOf w) ps) k (report-fits s w ps e) h
 
 -- X4: what `vtiming_write` writes is accepted: the bytes of its file, with the room that is told of them
-pub written-measured : (w : Parameters) (ts ss ms out after : List ℕ) → ParametersHeld w
+pub written-measured : (w : Heading) (ts ss ms out after : List ℕ) → ParametersHeld (w .parameters)
     → AllBelow 18446744073709551616 ts → AllBelow 4294967296 ss
     → WriteGives w ts ss ms out 0 after → (room : ℕ) → roomOf (take (fileLength (length ts)) after) ≤ room
     → answerOf (take (fileLength (length ts)) after) room ≡ answer 0 0
 written-measured w ts ss ms out after hw ht hs h =
     enough-room (take (fileLength (length ts)) after) w (packets ts ss ms)
     (written-reads w ts ss ms out after (fileLength (length ts)) hw ht hs (written-whole w ts ss ms out h))
+
+-- F11: "version 1 files keep 0 as wide": the measurement of a file of version 1 is the one of its numbers with 0 read as 3
+pub version-one-measured : (p : Parameters) (ps : List Packet)
+    → bytesFor (heading 1 p) ps
+    ≡ encoded (reportOf (ofParameters (given (p .rate) (p .schedule) (firstClass (p .class)) (p .height) (p .n) (p .maxudp) (p .tro))) ps)
+version-one-measured = file-proved.first-measured
+
+-- F11: so whatever bytes follow its head, refused or not, it is answered, and its lent bytes are filled, as those of the file of version 2
+-- whose class 0 is written as 3
+pub version-one-answered : (p : Parameters) (l out : List ℕ) → ParametersHeld p
+    → let s = headOf (heading 1 p) ++ l in
+    let t = headOf (heading 2 (resolved (heading 1 p))) ++ l in
+    (answerOf s (length out) ≡ answerOf t (length out)) × (filledBy s out ≡ filledBy t out)
+version-one-answered = file-proved.first-answered
 
 -- ---- the next read of a packet (`vtiming_next_read`)
 

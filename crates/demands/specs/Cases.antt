@@ -15,8 +15,8 @@ use Rattle.bucket.specs.Step as B
 use Rattle.frame.specs.Paper.{since, late, levelOf}
 use Rattle.frame.specs.Step as F
 use Rattle.endian.specs.Number.{numberOf}
-use Rattle.record.specs.Paper.{isParameters, kindLength, formatRefusal, packetsBy, readingOf, File, file, refused, fileOf}
-use Rattle.report.specs.Paper.{reportOf}
+use Rattle.record.specs.Paper.{versionKnown, classIn, isParameters, kindLength, formatRefusal, packetsBy, readingOf, File, file, refused, fileOf}
+use Rattle.report.specs.Paper.{streamOf, reportOf}
 use Rattle.timing.specs.declared.StreamNumbers.{StreamNumbers}
 use Rattle.timing.specs.declared.State.{State}
 use Rattle.timing.specs.Step.{ofParameters, rulesOf, freshOf, arriveOf, markOf, stepOf, stateAfter, rowsAfter, numbers}
@@ -72,7 +72,7 @@ others-late l =
 
 -- a whole file: the nine numbers and the rows of the C call, or the refusal's number and offset
 abbrev measured : File → List ℤ
-measured (file s l) = reportOf (ofParameters s) l
+measured (file h l) = reportOf (streamOf h) l
 measured (refused number offset) = pos number ∷ pos offset ∷ []
 
 -- L5: "parameters 6, 0, 1, height 1080, n 4, 1460, default TRO and five packets (nanoseconds, timestamp,
@@ -99,11 +99,11 @@ cases =
     ∷ (one (setUpRefusal (given 7 0 1 1080 4320 1460 16683)) gives one 0)
     ∷ (one (setUpRefusal (given 7 0 1 1080 4320 1460 16684)) gives one 7)
     -- K3: "Rate 6 narrow: n 4147 gives C_MAX 4, 4148 gives 5."
-    ∷ (one (cMax (classOf 1) 0 (frameLength 6) 4147) gives one 4)
-    ∷ (one (cMax (classOf 1) 0 (frameLength 6) 4148) gives one 5)
+    ∷ (one (cMax (classOf 1 0) 0 (frameLength 6) 4147) gives one 4)
+    ∷ (one (cMax (classOf 1 0) 0 (frameLength 6) 4148) gives one 5)
     -- K4: "Rate 6 narrow, 1460: n 4859 gives VRX_FULL 8, 4860 gives 9."
-    ∷ (one (vrxFull (classOf 1) 1460 (frameLength 6) 4859) gives one 8)
-    ∷ (one (vrxFull (classOf 1) 1460 (frameLength 6) 4860) gives one 9)
+    ∷ (one (vrxFull (classOf 1 0) 1460 (frameLength 6) 4859) gives one 8)
+    ∷ (one (vrxFull (classOf 1 0) 1460 (frameLength 6) 4860) gives one 9)
     -- K5, K6: "Rate 6: t 10,000,000 gives FPT −270,000,000." "t 9,999,999 gives 269,999,973."
     ∷ ((firstPacketTime (grains 10000000) (frameLength 6) ∷ []) gives (negℤ (pos 270000000) ∷ []))
     ∷ ((firstPacketTime (grains 9999999) (frameLength 6) ∷ []) gives (pos 269999973 ∷ []))
@@ -136,6 +136,6 @@ cases =
 pub cases-hold : map (λ c. c .got) cases ≡ map (λ c. c .want) cases
 unfolding cases setUpRefusal firstNo troFits rateOf frameLength activeRatio classOf cMax vrxFull int troGrains defaultTro nearest phase latency
     count fold rulesOf arriveOf markOf stepOf rowsAfter numbers summaryWith B.stepOf F.openedOf F.countedOf F.kindOf F.wholeRow
-    F.rowOf F.answerOf F.joined F.arriveOf F.closeOf F.rowsOf since readingOf packetsBy formatRefusal isParameters kindLength numberOf
-    refusalOf
+    F.rowOf F.answerOf F.joined F.arriveOf F.closeOf F.rowsOf since readingOf packetsBy formatRefusal versionKnown classIn
+    isParameters kindLength numberOf refusalOf
 cases-hold = refl

@@ -14,8 +14,9 @@ use Rattle.grain.specs.Carry.{waitAt, readsAt, nextAfter, readsOn}
 use Rattle.grain.proofs.Upcoming.{next-is-read, next-read-unique, own-instant, next-is-counted}
 use Rattle.grain.proofs.Onward.{known-on}
 use Rattle.grain.proofs.EncodedTime.{latency-is, latency-unique, nearest-encoded}
+use Rattle.limits.specs.declared.Parameters.{Parameters}
 use Rattle.limits.specs.Fraction.{Same}
-use Rattle.limits.specs.Paper.{classOf, readSpacing}
+use Rattle.limits.specs.Paper.{senderClass, readSpacing, given}
 use Rattle.limits.specs.Exact.{CMaxIs, VrxFullIs, TroIs}
 use Rattle.packet.specs.declared.Scanned.the-variants.{Refused as Scan-Refused}
 use Rattle.packet.specs.declared.Refusal.{Refusal}
@@ -23,7 +24,8 @@ use Rattle.packet.specs.declared.Packet.{Packet}
 use Rattle.packet.specs.Paper.{OneLength, packets, declared}
 use Rattle.bucket.specs.Paper.{IsRun, drains, elapsed, drainsRun, found, GreatestExcess, NetworkIs}
 use Rattle.frame.specs.declared.Row.{Row}
-use Rattle.frame.specs.Paper.{begunAt, closesAt, numberAt, kindAt, since, InFrame, NextReadIs, readZero, RowIs, RowBegan, BufferIs, Dry, SomeLate}
+use Rattle.frame.specs.Paper.{begunAt, closesAt, numberAt, kindAt, since, InFrame, NextReadIs, readZero, RowIs, RowBegan, BufferIs, Dry}
+use Rattle.frame.specs.Paper.{SomeLate}
 use Rattle.frame.specs.Step.{rowWidth, numbersOf}
 use Rattle.frame.specs.ByPlace.{rowsAt}
 use Rattle.timing.specs.declared.StreamNumbers.{StreamNumbers}
@@ -31,12 +33,13 @@ use Rattle.timing.specs.declared.State.{State}
 use Rattle.timing.specs.declared.Fed.the-variants.{Accepted, Refused}
 use Rattle.timing.specs.declared.Judged.the-variants.{Given}
 use Rattle.timing.specs.declared.Awaited.the-variants.{In as Awaited-In}
-use Rattle.timing.specs.Step.{setUpOf, frameOf, rulesOf, freshOf, rowsAfter, numbers}
+use Rattle.timing.specs.Step.{ofParameters, setUpOf, frameOf, rulesOf, freshOf, rowsAfter, numbers}
 use Rattle.timing.specs.Range.{inRange}
 use Rattle.timing.specs.Answers.{setUpAs, answersOf, verdictOf, graphOf, graphNumber, setUpNumber, judgedNumber, drawnNumber, AllRows, Drawable}
 use Rattle.timing.specs.Answers.{nextNumber, awaited, nextOf, awaitedNumber}
 use Rattle.timing.specs.Feed.{feedOf, feedAll, fedRefusal, refusals, firstOf, rangeNumber, Call, allOf, Accepts, Deals, Rooms, Stops}
 use Rattle.timing.specs.History.{stateAt, rowsTo, AcceptedHistory, reached, rowsOfAll, plan, frames, arrivals, size, limit}
+use Rattle.timing.proofs.Strict.{strict-refused, strict-rules}
 use Rattle.timing.proofs.InRange.{sound-fresh, of-sound}
 use Rattle.timing.proofs.Answering.{set-up-numbered, verdict-numbered, graph-numbered, first-refused}
 use Rattle.timing.proofs.Feeding.{refused-stays, feed-slices, nothing-fed}
@@ -82,6 +85,13 @@ rows-drawn = all-drawn
 pub slices-are-packets : (s : State) (rows : List ℤ) (ts ss ms : List ℕ) → OneLength ts ss ms
     → feedOf s rows ts ss ms ≡ feedAll s rows (packets ts ss ms)
 slices-are-packets = feed-slices
+
+-- S2, N2: "From now on 0 means narrow on a gapped schedule and narrow linear on a linear one.": a stream set up with 0 is refused as one that
+-- is set up with that class's number, 1 on schedule 0 and 2 on schedule 1, and is measured by the same rules
+pub zero-is-strict : (p : Parameters) → p .class ≡ 0 → p .schedule ≤ 1
+    → let strict = given (p .rate) (p .schedule) (suc (p .schedule)) (p .height) (p .n) (p .maxudp) (p .tro) in
+    (setUpOf (ofParameters p) ≡ setUpOf (ofParameters strict)) × (rulesOf (ofParameters p) ≡ rulesOf (ofParameters strict))
+zero-is-strict p z h = (strict-refused p z h, strict-rules p z h)
 
 -- N5: 9 is for no state that set-up gives, and for none that an accepted call gives: "no range is narrower than what accepted calls reach
 -- from set-up on"
@@ -225,8 +235,8 @@ module _ (h : AcceptedHistory) where
   -- or all of its fraction, and the reads lie exactly R·F/n apart
   pub limits-are : let p = h .stream .parameters in
       let F = frameOf (h .stream) in
-      CMaxIs (classOf (p .class)) (p .schedule) F (p .n) (limit h)
-      × VrxFullIs (classOf (p .class)) (p .maxudp) F (p .n) (plan h .full)
+      CMaxIs (senderClass p) (p .schedule) F (p .n) (limit h)
+      × VrxFullIs (senderClass p) (p .maxudp) F (p .n) (plan h .full)
       × TroIs F (p .height) (p .tro) (plan h .tro)
       × Same (record { num = plan h .reads .num; den = plan h .reads .den }) (readSpacing (p .schedule) F (p .n))
   limits-are = (proved.limit-exact h, proved.full-exact h, proved.tro-exact h, proved.spacing-exact h)

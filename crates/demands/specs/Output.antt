@@ -5,7 +5,11 @@ use Rattle.laws.specs.Kit.{_≡_, _⊎_, Bool, true, false, List, [], _++_, ℕ
 use Rattle.laws.specs.Choose.{AllBelow}
 use Rattle.frame.specs.declared.Row.{Row}
 use Rattle.frame.specs.Step.{numbersOf}
+use Rattle.limits.specs.declared.Parameters.{Parameters}
+use Rattle.limits.specs.Steps.{ParametersHeld}
 use Rattle.record.specs.declared.Next.the-variants.{More}
+use Rattle.record.specs.Paper.{heading, resolved}
+use Rattle.record.specs.Layout.{headOf}
 use Rattle.record.specs.Step.{nextPiece}
 use Rattle.text.specs.Lines.{Sized, rowLine, lineRoom, summaryLine, refusalLine}
 use Rattle.text.proofs.RowsApart.{rows-differ}
@@ -42,6 +46,12 @@ last-line = proved.last-line
 pub start-refused : (w v : List ℕ) (last : Bool) → (last ≡ true → v ≡ []) → 0 < openedNumber (beginOf w last)
     → outputOf (w ++ v) ≡ refusalLine (openedNumber (beginOf w last)) (openedOffset (beginOf w last))
 start-refused = proved.start-refused
+
+-- F11: "version 1 files keep 0 as wide": whatever bytes follow its head, a file of version 1 prints what the file of version 2 prints whose
+-- class 0 is written as 3
+pub version-one-printed : (p : Parameters) (l : List ℕ) → ParametersHeld p
+    → outputOf (headOf (heading 1 p) ++ l) ≡ outputOf (headOf (heading 2 (resolved (heading 1 p))) ++ l)
+version-one-printed = proved.first-printed
 
 -- ---- a file in pieces, through calls
 

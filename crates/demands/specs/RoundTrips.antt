@@ -1,10 +1,11 @@
--- The record file both ways, whole and in pieces. `bytesIn s ps` are the bytes of a file, `fileOf` what bytes read as, `WriteGives` what the
--- writer ensures, `allCalls` what the reader answers, call after call, and `allInPieces` what it answers to a file in pieces: record's Paper,
--- Layout, Write and Pieces. The hypotheses bound numbers by what their types and slices always hold.
-use Rattle.laws.specs.Kit.{_≡_, ap, _∙_, Bool, true, false, List, [], _++_, flatten, ℕ, _+_, _^_, _≤_, _<_, length, take}
+-- The record file both ways, whole and in pieces. A `Heading` is what a file tells before its packets, version and parameters as written.
+-- `bytesIn s ps` are the bytes of a file, `fileOf` what bytes read as, `WriteGives` what the writer ensures, `allCalls` what the reader
+-- answers, call after call, and `allInPieces` what it answers to a file in pieces: record's Paper, Layout, Write and Pieces. The hypotheses bound numbers by what their types and slices always hold.
+use Rattle.laws.specs.Kit.{_≡_, sym, ap, _∙_, Bool, true, false, List, [], _∷_, _++_, flatten, ℕ, _+_, _^_, _≤_, _<_, arith, length, take, getD}
 use Rattle.laws.specs.Choose.{AllBelow}
 use Rattle.limits.specs.declared.Parameters.{Parameters}
-use Rattle.limits.specs.Paper.{setUpRefusal}
+use Rattle.limits.specs.declared.Class.the-variants.{Narrow, NarrowLinear, Wide, Unknown}
+use Rattle.limits.specs.Paper.{classOf}
 use Rattle.limits.specs.Steps.{ParametersHeld}
 use Rattle.packet.specs.declared.Scanned.the-variants.{Fine}
 use Rattle.packet.specs.declared.Packet.{Packet}
@@ -12,12 +13,14 @@ use Rattle.packet.specs.Paper.{packets, OneLength, declared}
 use Rattle.packet.proofs.Declared.{scan-declared}
 use Rattle.endian.proofs.Width.{bytes-all}
 use Rattle.record.specs.declared.Written.{Written}
-use Rattle.record.specs.declared.Written.the-variants.{Done}
-use Rattle.record.specs.Paper.{readingOf, file, asFile, fileOf}
+use Rattle.record.specs.declared.Written.the-variants.{Done, Refused as Write-Refused}
+use Rattle.record.specs.Paper.{versionKnown, Heading, heading, classIn, resolved, readingOf, file, refused, asFile, fileOf}
 use Rattle.record.specs.Layout.{bytesIn, PacketsHeld}
-use Rattle.record.specs.Write.{WriteGives}
+use Rattle.record.specs.Write.{headingRefusal, writtenOf, WriteGives}
 use Rattle.record.specs.Step.{headPiece, headRead, nextPiece, nextRead}
 use Rattle.record.specs.Pieces.{allCalls, told, Answered, wantsMore, headWaits, allAnswers, allInPieces, Depends, HeadDepends}
+use Rattle.record.proofs.Writing.{heading-20, answers-set-up}
+use Rattle.record.proofs.Versions.{first-classes, second-kept, other-20, lone-byte}
 use Rattle.record.proofs.WriteRead.{file-written, written-reads}
 use Rattle.record.proofs.ReadWrite.{file-again, writer-again}
 use Rattle.record.proofs.Answered.{reader-answers, answered-file}
@@ -26,29 +29,53 @@ use Rattle.record.proofs.Waiting as waiting
 
 -- ---- Demand 2: "A record file written and read back gives the same records"
 
--- D2d: for all accepted stream numbers and packets, reading what was written gives the same stream numbers and packets
-pub reading-written : (s : Parameters) (ps : List Packet) (closed : ℕ) → ParametersHeld s → PacketsHeld ps
-    → setUpRefusal s ≡ 0 → declared ps ≡ Fine closed → fileOf (bytesIn s ps) ≡ file s ps
+-- D2d, F12: "demand 2's round trip holds for each" version (document 02, viii): for every heading that the writer accepts, of either
+-- version, and all accepted packets, reading what was written gives the same version, the same stream numbers and the same packets
+pub reading-written : (s : Heading) (ps : List Packet) (closed : ℕ) → ParametersHeld (s .parameters) → PacketsHeld ps
+    → headingRefusal s ≡ 0 → declared ps ≡ Fine closed → fileOf (bytesIn s ps) ≡ file s ps
 reading-written s ps closed hs hp e f = ap asFile (file-written s ps closed hs hp e (scan-declared ps ∙ f))
 
 -- D2d: what the writer writes is accepted, and reads as what it was given
-pub written-accepted : (s : Parameters) (ts ss ms out after : List ℕ) (n : ℕ) → ParametersHeld s
+pub written-accepted : (s : Heading) (ts ss ms out after : List ℕ) (n : ℕ) → ParametersHeld (s .parameters)
     → AllBelow 18446744073709551616 ts → AllBelow 4294967296 ss
     → WriteGives s ts ss ms out (Done n) after → fileOf (take n after) ≡ file s (packets ts ss ms)
 written-accepted = written-reads
 
 -- ---- "an accepted file, read and written, gives the same bytes."
 
--- D2e: for every accepted file, writing what was read gives the same bytes
-pub writing-read : (bytes : List ℕ) → AllBelow 256 bytes → (s : Parameters) (ps : List Packet) → fileOf bytes ≡ file s ps
+-- D2e, F12: for every accepted file, of either version, writing what was read gives the same bytes
+pub writing-read : (bytes : List ℕ) → AllBelow 256 bytes → (s : Heading) (ps : List Packet) → fileOf bytes ≡ file s ps
     → bytesIn s ps ≡ bytes
 writing-read bytes b = file-again bytes (bytes-all bytes b)
 
 -- D2e: and the writer, given what an accepted file reads as and room for it, writes that file
-pub writer-repeats : (bytes : List ℕ) → AllBelow 256 bytes → (s : Parameters) (ts ss ms out after : List ℕ) (r : Written)
+pub writer-repeats : (bytes : List ℕ) → AllBelow 256 bytes → (s : Heading) (ts ss ms out after : List ℕ) (r : Written)
     → OneLength ts ss ms → fileOf bytes ≡ file s (packets ts ss ms) → length bytes ≤ length out → WriteGives s ts ss ms out r after
     → (r ≡ Done (length bytes)) × (take (length bytes) after ≡ bytes)
 writer-repeats bytes b = writer-again bytes (bytes-all bytes b)
+
+-- F7, F8: both versions are read, and any other byte is 20 at offset 0, whatever follows; a version byte alone is 23 at offset 1
+pub version-first : (version : ℕ) (l : List ℕ)
+    → (versionKnown version ≡ false → fileOf (version ∷ l) ≡ refused 20 0)
+    × (versionKnown version ≡ true → fileOf (version ∷ []) ≡ refused 23 1)
+version-first version l = (other-20 version l, lone-byte version)
+
+-- F9: the writer's 20 is first of all: no number, packet or lent byte is asked for
+pub writer-version-first : (s : Heading) (ts ss ms : List ℕ) (room : ℕ) → versionKnown (s .version) ≡ false
+    → writtenOf s ts ss ms room ≡ Write-Refused 20 0
+writer-version-first s ts ss ms room e =
+    sym (answers-set-up s ts ss ms room 20 (sym (heading-20 (s .version) (s .parameters) e)) (omega arith))
+
+-- ---- What a version decides: the class that 0 stands for.
+
+-- F11: "version 1 files keep 0 as wide": on either schedule the class of such a file is document 01's for its number, where "0 means 3"
+pub version-one-class : (class schedule : ℕ)
+    → classOf (classIn 1 class) schedule ≡ getD (Wide ∷ Narrow ∷ NarrowLinear ∷ Wide ∷ []) class Unknown
+version-one-class = first-classes
+
+-- F11: one of version 2 is set up with its numbers as they are
+pub version-two-kept : (p : Parameters) → resolved (heading 2 p) ≡ p
+version-two-kept = second-kept
 
 -- ---- What a file reads as is what the reader gives.
 
@@ -60,7 +87,7 @@ read-by-cursor = reader-answers
 
 -- F6: so an accepted file is answered as its head with the parameters, each packet in order, end
 pub file-by-cursor : (bytes : List ℕ) (calls : ℕ) → length bytes < 2 ^ 64 → length bytes < calls
-    → (s : Parameters) (ps : List Packet) → fileOf bytes ≡ file s ps → allCalls calls bytes ≡ told s ps
+    → (s : Heading) (ps : List Packet) → fileOf bytes ≡ file s ps → allCalls calls bytes ≡ told s ps
 file-by-cursor bytes calls w h s ps e = answered-file (readingOf bytes) _ s ps e (reader-answers bytes calls w h)
 
 -- ---- A file may come in pieces.

@@ -6,7 +6,7 @@ use Rattle.laws.specs.Choose.{pick}
 use Rattle.laws.proofs.Choose.{false-true}
 use Rattle.laws.proofs.Every.{and-left, and-right}
 use Rattle.limits.specs.declared.Parameters.{Parameters}
-use Rattle.limits.specs.Paper.{microsecond, rateOf, frameLength, classOf, allOnes}
+use Rattle.limits.specs.Paper.{microsecond, rateOf, frameLength, senderClass, allOnes}
 use Rattle.limits.specs.Paper.{within, classFits, maxudpKnown, troFits, firstNo, setUpRefusal}
 use Rattle.limits.specs.Accepted.{KnownRate, Accepted}
 use Rattle.limits.proofs.Laws.{past-rates}
@@ -63,7 +63,7 @@ module _ (p : Parameters) where
   accepted e0 =
       let e1 = answered (within 1 8 (p .rate)) 0 _ e0 in
       let e2 = answered (within 0 1 (p .schedule)) 1 _ (e1 .1) in
-      let e3 = answered (classFits (classOf (p .class)) (p .schedule)) 2 _ (e2 .1) in
+      let e3 = answered (classFits (senderClass p) (p .schedule)) 2 _ (e2 .1) in
       let e4 = answered (within 1 65535 (p .height)) 3 _ (e3 .1) in
       let e5 = answered (within 1 20000 (p .n)) 4 _ (e4 .1) in
       let e6 = answered (maxudpKnown (p .maxudp)) 5 _ (e5 .1) in

@@ -5,11 +5,11 @@ use Rattle.laws.specs.Kit.{mul-one, one-mul, mul-comm, mul-assoc, mul-left-comm
 use Rattle.laws.specs.Kit.{div-add-mod', div-le-of-le-mul, List·getD-eq-default}
 use Rattle.laws.proofs.Choose.{false-true}
 use Rattle.limits.specs.Fraction.{whole, _·_, _÷_, int}
-use Rattle.limits.specs.Paper.{second, rates, noRate, rateOf, lengthAt, frameLength, activeRatio, seconds, classes, classOf}
+use Rattle.limits.specs.Paper.{second, rates, noRate, rateOf, lengthAt, frameLength, activeRatio, seconds, strictOn, classes, classOf}
 use Rattle.limits.specs.Paper.{cMax, vrxFull, classFits, firstNo}
 use Rattle.limits.specs.Steps.{Divides}
 use Rattle.limits.specs.declared.Class.{Class}
-use Rattle.limits.specs.declared.Class.the-variants.{Unknown}
+use Rattle.limits.specs.declared.Class.the-variants.{Narrow, NarrowLinear, Unknown}
 
 -- a number from k up that is not k is from k + 1 up
 pub above : {k x : ℕ} → k ≤ x → (x ≡ k → ⊥) → suc k ≤ x
@@ -19,9 +19,19 @@ pub past-rates : (rate : ℕ) → 9 ≤ rate → 0 ≡ frameLength rate
 unfolding rateOf frameLength
 past-rates rate h = sym (ap lengthAt (List·getD-eq-default (noRate ∷ rates) noRate h))
 
-pub past-classes : (class : ℕ) → 4 ≤ class → Unknown ≡ classOf class
+pub past-classes : (class schedule : ℕ) → 4 ≤ class → Unknown ≡ classOf class schedule
 unfolding classOf
-past-classes class h = sym (List·getD-eq-default classes Unknown h)
+past-classes class schedule h = sym (List·getD-eq-default (classes schedule) Unknown h)
+
+-- 0 on either schedule
+pub strict-gapped : (schedule : ℕ) → schedule ≡ 0 → Narrow ≡ strictOn schedule
+unfolding strictOn
+strict-gapped schedule e = sym (ap strictOn e)
+
+pub strict-linear : (schedule : ℕ) → (schedule ≡ 0 → ⊥) → NarrowLinear ≡ strictOn schedule
+unfolding strictOn
+strict-linear zero other = absurd (other refl)
+strict-linear (suc schedule) other = refl
 
 pub not-gapped : (schedule : ℕ) → (schedule ≡ 0 → ⊥) → whole 1 ≡ activeRatio schedule
 unfolding activeRatio
@@ -113,13 +123,13 @@ first (goes-on {t = false} e f) = absurd (false-true (sym e))
 first (stops {t = true} e) = absurd (false-true e)
 first (stops {t = false} e) = refl
 
--- The code stands for `class`; a call found it, and a branch told which: what holds of the class told holds of the code's.
-module _ {class found told : Class} (e : found ≡ class) (t : found ≡ told) where
+-- A branch told which class it is: what holds of the class told holds of it.
+module _ {class told : Class} (t : class ≡ told) where
   pub c-max-told : (schedule F n : ℕ) {r : ℕ} → r ≡ cMax told schedule F n → r ≡ cMax class schedule F n
-  c-max-told schedule F n h = rw (sym e, t) h
+  c-max-told schedule F n h = rw t h
 
   pub vrx-full-told : (maxudp F n : ℕ) {r : ℕ} → r ≡ vrxFull told maxudp F n → r ≡ vrxFull class maxudp F n
-  vrx-full-told maxudp F n h = rw (sym e, t) h
+  vrx-full-told maxudp F n h = rw t h
 
   pub class-fits-told : (schedule : ℕ) {r : Bool} → r ≡ classFits told schedule → r ≡ classFits class schedule
-  class-fits-told schedule h = rw (sym e, t) h
+  class-fits-told schedule h = rw t h

@@ -43,12 +43,22 @@ unfoldable pub activeRatio : ℕ → Fraction
 activeRatio zero = whole 24 ÷ whole 25
 activeRatio (suc schedule) = whole 1
 
--- S2: "Class: 1 narrow (gapped only), 2 narrow linear (linear only), 3 wide (either). 0 means 3."
-abbrev pub classes : List Class
-classes = Wide ∷ Narrow ∷ NarrowLinear ∷ Wide ∷ []
+-- S2: "0 means narrow on a gapped schedule and narrow linear on a linear one" (document 02, viii); a schedule above 1, which set-up
+-- refuses, goes with 1
+unfoldable pub strictOn : ℕ → Class
+strictOn zero = Narrow
+strictOn (suc schedule) = NarrowLinear
 
-unfoldable pub classOf : ℕ → Class
-classOf class = getD classes class Unknown
+-- S2: "Class: 1 narrow (gapped only), 2 narrow linear (linear only), 3 wide (either)."
+abbrev pub classes : ℕ → List Class
+classes schedule = strictOn schedule ∷ Narrow ∷ NarrowLinear ∷ Wide ∷ []
+
+-- S2: what a class number means on a schedule
+unfoldable pub classOf : ℕ → ℕ → Class
+classOf class schedule = getD (classes schedule) class Unknown
+
+abbrev pub senderClass : Parameters → Class
+senderClass p = classOf (p .class) (p .schedule)
 
 -- The six formulas, for any frame length F. A class that set-up refuses has 0, which no sentence of document 01 speaks of.
 
@@ -115,7 +125,7 @@ abbrev pub questions : Parameters → List Bool
 questions p =
     within 1 8 (p .rate)
     ∷ within 0 1 (p .schedule)
-    ∷ classFits (classOf (p .class)) (p .schedule)
+    ∷ classFits (senderClass p) (p .schedule)
     ∷ within 1 65535 (p .height)
     ∷ within 1 20000 (p .n)
     ∷ maxudpKnown (p .maxudp)

@@ -7,7 +7,7 @@
 ghost use Rattle.laws.specs.Kit.{_≡_, _/_, _<_, max};
 ghost use Rattle.limits.specs.Fraction.{whole, _·_, _÷_, int};
 ghost use Rattle.limits.specs.Steps.{Divides};
-ghost use Rattle.limits.specs.Paper.{frameLength, activeRatio, seconds, classOf, cMax, vrxFull, troGrains, readNum, readDen};
+ghost use Rattle.limits.specs.Paper.{frameLength, activeRatio, seconds, strictOn, classOf, cMax, vrxFull, troGrains, readNum, readDen};
 ghost use Rattle.limits.specs.Paper.{within, classFits, maxudpKnown, troFits, setUpRefusal};
 
 const MICROSECOND: u64 = 1000 * grain::GRAINS_PER_NANOSECOND;
@@ -76,16 +76,27 @@ pub fn frame_length(rate: u8) -> u64
     }
 }
 
-// The one place that tells the codes of a class apart: records keep 0 as written, all else asks here.
-pub fn class_of(class: u8) -> Class
-    ensures { λ r. ⌜ r ≡ classOf class ⌝ }
+// The one place that tells what a class number means on a schedule; 0 is the strict class of the schedule. A record keeps 0 as
+// written, and one of a file of version 1 is read as 3 before it comes here.
+pub fn class_of(class: u8, schedule: u8) -> Class
+    ensures { λ r. ⌜ r ≡ classOf class schedule ⌝ }
 {
     match class {
-        0 | 3 => Class::Wide,
+        0 => strict_on(schedule),
         1 => Class::Narrow,
         2 => Class::NarrowLinear,
+        3 => Class::Wide,
         4..=255 => Class::Unknown,
     }
+}
+
+fn strict_on(schedule: u8) -> Class
+    ensures { λ r. ⌜ r ≡ strictOn schedule ⌝ }
+{
+    if schedule == GAPPED {
+        return Class::Narrow;
+    }
+    Class::NarrowLinear
 }
 
 impl Parameters {
@@ -99,7 +110,7 @@ impl Parameters {
         if !is_within(0, 1, self.schedule as u32) {
             return 2;
         }
-        if !class_fits(self.class, self.schedule) {
+        if !class_fits(class_of(self.class, self.schedule), self.schedule) {
             return 3;
         }
         if !is_within(1, 65535, self.height as u32) {
@@ -124,11 +135,10 @@ fn is_within(low: u32, high: u32, x: u32) -> bool
     low <= x && x <= high
 }
 
-fn class_fits(class: u8, schedule: u8) -> bool
-    ensures { λ r. ⌜ r ≡ classFits (classOf class) schedule ⌝ }
+fn class_fits(class: Class, schedule: u8) -> bool
+    ensures { λ r. ⌜ r ≡ classFits class schedule ⌝ }
 {
-    let kind = class_of(class);
-    match kind {
+    match class {
         Class::Narrow => schedule == GAPPED,
         Class::NarrowLinear => schedule == LINEAR,
         Class::Wide => true,
@@ -194,11 +204,10 @@ fn active_den(schedule: u8) -> u64
 }
 
 // C_MAX: a bucket that ever holds more has failed. R is 1 where document 01's formula has none.
-pub fn c_max(class: u8, schedule: u8, frame: u64, n: u32) -> u64
-    ensures { λ r. ⌜ r ≡ cMax (classOf class) schedule frame n ⌝ }
+pub fn c_max(class: Class, schedule: u8, frame: u64, n: u32) -> u64
+    ensures { λ r. ⌜ r ≡ cMax class schedule frame n ⌝ }
 {
-    let kind = class_of(class);
-    match kind {
+    match class {
         Class::Narrow => laws::greater(4, int_over(n, 43200, schedule, frame)),
         Class::NarrowLinear => laws::greater(4, int_over(n, 43200, LINEAR, frame)),
         Class::Wide => laws::greater(16, int_over(n, 21600, LINEAR, frame)),
@@ -207,11 +216,10 @@ pub fn c_max(class: u8, schedule: u8, frame: u64, n: u32) -> u64
 }
 
 // VRX_FULL: a receiver's buffer that ever holds more has failed.
-pub fn vrx_full(class: u8, maxudp: u16, frame: u64, n: u32) -> u64
-    ensures { λ r. ⌜ r ≡ vrxFull (classOf class) maxudp frame n ⌝ }
+pub fn vrx_full(class: Class, maxudp: u16, frame: u64, n: u32) -> u64
+    ensures { λ r. ⌜ r ≡ vrxFull class maxudp frame n ⌝ }
 {
-    let kind = class_of(class);
-    match kind {
+    match class {
         Class::Narrow => full(12000, maxudp, n, 27000, frame),
         Class::NarrowLinear => full(12000, maxudp, n, 27000, frame),
         Class::Wide => full(1080000, maxudp, n, 300, frame),

@@ -10,7 +10,7 @@ use Rattle.limits.specs.declared.Parameters.{Parameters}
 use Rattle.limits.specs.Paper.{setUpRefusal}
 use Rattle.record.specs.declared.Head.{Head}
 use Rattle.record.specs.declared.Head.the-variants as head
-use Rattle.record.specs.Paper.{headBytes, packetsIn}
+use Rattle.record.specs.Paper.{heading, resolved, headBytes, packetsIn}
 use Rattle.record.specs.Step.{headPiece, headRead}
 use Rattle.record.specs.Pieces.{headWaits}
 use Rattle.record.proofs.Saying.{Stood, SaysHead, head-says, reads-refused, reads-packets}
@@ -48,26 +48,31 @@ module _ (w v : List ℕ) (last : Bool) (l : last ≡ true → v ≡ []) where
     nineteen : headBytes ≤ length w
     nineteen = subst (SaysHead w) (sym (head-alone w last (ap headWaits e)) ∙ e) (head-says w) .nineteen
 
-    fresh-tells : setUpRefusal x ≡ 0 → Tells w v (Opens (record { at = c; state = freshOf (ofParameters x) }))
+    -- the parameters that it sets up with
+    abbrev numbers : Parameters
+    numbers = resolved (heading version x)
+
+    fresh-tells : setUpRefusal numbers ≡ 0 → Tells w v (Opens (record { at = c; state = freshOf (ofParameters numbers) }))
     unfolding outputOf restOf
     fresh-tells fine =
-        let rules = rulesOf (ofParameters x) in
-        let state = freshOf (ofParameters x) in (
-          record { sound = sound-fresh (ofParameters x) fine; offset = ap (λ (d : Cursor). d .at) (here .next-19) },
+        let rules = rulesOf (ofParameters numbers) in
+        let state = freshOf (ofParameters numbers) in (
+          record { sound = sound-fresh (ofParameters numbers) fine; offset = ap (λ (d : Cursor). d .at) (here .next-19) },
           ap outputBy (reads-packets here fine)
               ∙ ap (λ (m : List ℕ). linesOf rules state (packetsIn nothing headBytes m)) (drop-append-le headBytes w v nineteen)
               ∙ ap (λ (d : Cursor). linesOf rules state (packetsIn nothing (d .at) (drop headBytes w ++ v))) (sym (here .next-19)),
         )
 
-    refused-tells : 0 < setUpRefusal x → Tells w v (Unopened (setUpRefusal x) 1)
+    refused-tells : 0 < setUpRefusal numbers → Tells w v (Unopened (setUpRefusal numbers) 1)
     unfolding outputOf
-    refused-tells some = ap outputBy (reads-refused here (setUpRefusal x) refl some)
+    refused-tells some = ap outputBy (reads-refused here (setUpRefusal numbers) refl some)
 
-    set-up-tells : Tells w v (readyBy (setUpAs (ofParameters x)) c)
+    set-up-tells : Tells w v (readyBy (setUpAs (ofParameters numbers)) c)
     unfolding setUpAs
     set-up-tells =
-        pick-either (λ (a : SetUp). Tells w v (readyBy a c)) (eqb (setUpRefusal x) 0)
-        (λ g. fresh-tells (eqb-true (setUpRefusal x) 0 g)) (λ g. refused-tells (some (setUpRefusal x) (eqb-false (setUpRefusal x) 0 g)))
+        pick-either (λ (a : SetUp). Tells w v (readyBy a c)) (eqb (setUpRefusal numbers) 0)
+        (λ g. fresh-tells (eqb-true (setUpRefusal numbers) 0 g))
+        (λ g. refused-tells (some (setUpRefusal numbers) (eqb-false (setUpRefusal numbers) 0 g)))
       where
         some : (n : ℕ) → (n ≡ 0 → ⊥) → 0 < n
         some n h = omega arith
@@ -100,7 +105,7 @@ unfolding beginOf
 head-answered w last = go (headPiece w last)
   where
     go : (h : Head) → headWaits h ≡ false → Answered (headBy h)
-    go (head.Ready version kind x c) m = ready-answered x c
+    go (head.Ready version kind x c) m = ready-answered (resolved (heading version x)) c
     go head.More m = absurd (false-true (sym m))
     go (head.Refused n o) m = tt
 

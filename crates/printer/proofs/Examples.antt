@@ -1,17 +1,20 @@
--- Document 01's own file and its whole output, and the empty file's: the definitions compute to the lines as they are printed there.
+-- Document 01's own file and its whole output, and the empty file's: the definitions compute to the lines as they are printed there. And a
+-- file of class 0 in both versions.
 use Rattle.laws.specs.Kit.{_≡_, refl, List, [], _∷_, _++_, ℕ}
+use Prim.Native.String.{String}
 use Rattle.laws.specs.Count.{count}
 use Rattle.laws.specs.Fold.{fold}
 use Rattle.grain.specs.Paper.{nearest, phase, latency}
 use Rattle.limits.specs.Fraction.{int}
-use Rattle.limits.specs.Paper.{rateOf, frameLength, activeRatio, classOf, cMax, vrxFull, defaultTro, troGrains, troFits, firstNo, setUpRefusal}
+use Rattle.limits.specs.Paper.{strictOn, rateOf, frameLength, activeRatio, classOf, cMax, vrxFull, defaultTro, troGrains, troFits}
+use Rattle.limits.specs.Paper.{firstNo, setUpRefusal}
 use Rattle.packet.specs.Step.{refusalOf}
 use Rattle.bucket.specs.Step as B
 use Rattle.frame.specs.Step as F
 use Rattle.endian.specs.Number.{numberOf}
 use Rattle.text.specs.Decimal.{codes, digitsOf}
 use Rattle.text.specs.Lines.{fields, rowLine, summaryLine, refusalLine}
-use Rattle.record.specs.Paper.{isParameters, kindLength, formatRefusal, packetsBy, readingOf}
+use Rattle.record.specs.Paper.{versionKnown, classIn, isParameters, kindLength, formatRefusal, packetsBy, readingOf}
 use Rattle.timing.specs.Answers.{verdictOf}
 use Rattle.timing.specs.Range.{inRange}
 use Rattle.timing.specs.Step.{rulesOf, arriveOf, markOf, stepOf, rowsAfter}
@@ -37,9 +40,33 @@ pub file-output : outputOf (head ++ packets)
 unfolding outputOf rowLines rowLine fields digitsOf summaryLine refusalLine setUpRefusal firstNo troFits rateOf frameLength activeRatio classOf
     cMax vrxFull int troGrains defaultTro nearest phase latency count fold rulesOf arriveOf markOf stepOf rowsAfter B.stepOf F.openedOf
     F.countedOf F.kindOf F.wholeRow F.rowOf F.answerOf F.joined F.arriveOf F.closeOf F.rowsOf readingOf packetsBy formatRefusal
-    isParameters kindLength numberOf refusalOf verdictOf inRange
+    versionKnown classIn isParameters kindLength numberOf refusalOf verdictOf inRange
 file-output = refl
 
+-- a frame sent at once, with class 0: what follows the version byte of examples/class-0-version-1.rec and -2.rec
+abbrev at-once : List ℕ
+at-once =
+    0 ∷ 16 ∷ 1 ∷ 6 ∷ 0 ∷ 0 ∷ 4 ∷ 56 ∷ 0 ∷ 0 ∷ 0 ∷ 4 ∷ 5 ∷ 180 ∷ 255 ∷ 255 ∷ 255 ∷ 255
+    ∷ 0 ∷ 14 ∷ 2 ∷ 0 ∷ 0 ∷ 0 ∷ 0 ∷ 1 ∷ 33 ∷ 234 ∷ 192 ∷ 0 ∷ 0 ∷ 0 ∷ 0 ∷ 1
+    ∷ 0 ∷ 14 ∷ 2 ∷ 0 ∷ 0 ∷ 0 ∷ 0 ∷ 1 ∷ 59 ∷ 219 ∷ 96 ∷ 0 ∷ 0 ∷ 7 ∷ 8 ∷ 0
+    ∷ 0 ∷ 14 ∷ 2 ∷ 0 ∷ 0 ∷ 0 ∷ 0 ∷ 1 ∷ 59 ∷ 219 ∷ 96 ∷ 0 ∷ 0 ∷ 7 ∷ 8 ∷ 0
+    ∷ 0 ∷ 14 ∷ 2 ∷ 0 ∷ 0 ∷ 0 ∷ 0 ∷ 1 ∷ 59 ∷ 219 ∷ 96 ∷ 0 ∷ 0 ∷ 7 ∷ 8 ∷ 0
+    ∷ 0 ∷ 14 ∷ 2 ∷ 0 ∷ 0 ∷ 0 ∷ 0 ∷ 1 ∷ 59 ∷ 219 ∷ 96 ∷ 0 ∷ 0 ∷ 7 ∷ 8 ∷ 1
+    ∷ []
+
+-- the lines of it with this network answer
+abbrev told : String → List ℕ
+told network =
+    codes "frame 0 0 0 18900000 0 18900000 1740000 45900000 4 0 1\npackets 5 frames 1 peak 5 network " ++ codes network ++ codes " buffer pass\n"
+
+-- F11: the same bytes but the version: wide in version 1, narrow in version 2
+pub wide-then-strict : (outputOf (1 ∷ at-once) ≡ told "pass") × (outputOf (2 ∷ at-once) ≡ told "burst 0 4")
+unfolding outputOf rowLines rowLine fields digitsOf summaryLine refusalLine setUpRefusal firstNo troFits rateOf frameLength activeRatio strictOn classOf
+    cMax vrxFull int troGrains defaultTro nearest phase latency count fold rulesOf arriveOf markOf stepOf rowsAfter B.stepOf F.openedOf
+    F.countedOf F.kindOf F.wholeRow F.rowOf F.answerOf F.joined F.arriveOf F.closeOf F.rowsOf readingOf packetsBy formatRefusal
+    versionKnown classIn isParameters kindLength numberOf refusalOf verdictOf inRange
+wide-then-strict = (refl, refl)
+
 pub empty-output : outputOf [] ≡ codes "refused 20 0\n"
-unfolding outputOf readingOf refusalLine digitsOf
+unfolding outputOf versionKnown readingOf refusalLine digitsOf
 empty-output = refl

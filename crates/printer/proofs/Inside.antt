@@ -8,7 +8,7 @@ use Rattle.record.specs.declared.Next.{Next}
 use Rattle.record.specs.declared.Next.the-variants.{Packet, End, More, Refused}
 use Rattle.record.specs.declared.Head.{Head}
 use Rattle.record.specs.declared.Head.the-variants as head
-use Rattle.record.specs.Paper.{packetBytes, headBytes}
+use Rattle.record.specs.Paper.{heading, resolved, packetBytes, headBytes}
 use Rattle.text.specs.Lines.{lineRoom}
 use Rattle.record.specs.Step.{headPiece, nextPiece}
 use Rattle.record.specs.Pieces.{headWaits}
@@ -75,6 +75,6 @@ begin-headed w last = go (headPiece w last) refl
     go : (h : Head) → headPiece w last ≡ h → Headed (headBy h) (length w)
     go (head.Ready version kind x c) e =
         let alone = sym (head-alone w last (ap headWaits e)) ∙ e in
-        ready-headed x c (length w) (subst (SaysHead w) alone (head-says w) .nineteen)
+        ready-headed (resolved (heading version x)) c (length w) (subst (SaysHead w) alone (head-says w) .nineteen)
     go head.More e = tt
     go (head.Refused n o) e = tt

@@ -4,25 +4,29 @@ use Rattle.laws.specs.Kit.{_≡_, refl, sym, ap, subst, _∙_, _⊎_, Bool, tru
 use Rattle.laws.specs.Kit.{arith, length, drop, getD, length-drop}
 use Rattle.laws.specs.Choose.{pick}
 use Rattle.record.specs.declared.Next.the-variants.{More}
-use Rattle.record.specs.Paper.{headBytes}
+use Rattle.record.specs.Paper.{headBytes, Heading, resolved, heading}
 use Rattle.record.specs.Step.{nextPiece}
 use Rattle.record.proofs.InPieces.{last-answers, window-suffices}
 use Rattle.text.specs.Lines.{lineRoom, summaryLine, refusalLine}
 use Rattle.timing.specs.declared.State.{State}
-use Rattle.timing.specs.Step.{rulesOf}
+use Rattle.timing.specs.Step.{rulesOf, ofParameters, freshOf}
 use Rattle.timing.specs.Answers.{answersOf, verdictOf}
 use Rattle.timing.specs.Range.{Sound}
 use Rattle.timing.proofs.InRange.{of-sound}
 use Rattle.printer.specs.declared.Walk.{Walk}
 use Rattle.printer.specs.declared.Opened.{Opened}
 use Rattle.printer.specs.declared.Opened.the-variants.{More as Wanting, Refused as Unopened, Ready}
-use Rattle.printer.specs.Paper.{sumLine, restOf, outputOf}
+use Rattle.printer.specs.Paper.{sumLine, restOf, outputOf, linesOf, outputBy}
 use Rattle.printer.specs.Step.{openedNumber, openedOffset, beginOf, takeOf}
 use Rattle.printer.specs.Drive.{Stands, restFrom, Shows, Drives, last-call, call, Prints, refused, walked}
 use Rattle.printer.proofs.Carrying.{take-carries}
 use Rattle.printer.proofs.Inside.{take-inside}
 use Rattle.printer.proofs.Progress.{take-stuck, take-moves}
 use Rattle.printer.proofs.Beginning.{Tells, begin-tells, Answered, begin-answered}
+use Rattle.record.specs.Layout.{headOf}
+use Rattle.record.proofs.Versions.{Held, read-alike, first-held, second-held, second-kept}
+use Rattle.limits.specs.declared.Parameters.{Parameters}
+use Rattle.limits.specs.Steps.{ParametersHeld}
 
 -- ---- the last line of a measured file: "packets, frames closed, peak, verdicts", the state's own
 
@@ -156,3 +160,18 @@ file-printed file = go (beginOf file true) refl (begin-tells file [] true (λ e.
         let u = subst (Tells file []) e t in
         walked file [] true walk whole e
         (subst (Drives walk (drop headBytes file ++ [])) (sym (output ∙ u .1)) (rest-driven walk (drop headBytes file ++ []) (u .0)))
+
+-- F11: two files that set up alike print the same, whatever bytes follow their heads
+pub outputs-alike : (h k : Heading) → resolved h ≡ resolved k → (l : List ℕ) → Held h → Held k
+    → outputOf (headOf h ++ l) ≡ outputOf (headOf k ++ l)
+unfolding outputOf
+outputs-alike h k e l =
+    read-alike h k e outputBy
+    (λ r. ap (λ (p : Parameters). linesOf (rulesOf (ofParameters p)) (freshOf (ofParameters p)) r) e) l
+
+-- F11: so a file of version 1 prints what that of version 2 prints whose class 0 is written as 3
+pub first-printed : (p : Parameters) (l : List ℕ) → ParametersHeld p
+    → outputOf (headOf (heading 1 p) ++ l) ≡ outputOf (headOf (heading 2 (resolved (heading 1 p))) ++ l)
+first-printed p l held =
+    let q = resolved (heading 1 p) in
+    outputs-alike (heading 1 p) (heading 2 q) (sym (second-kept q)) l (first-held p held) (second-held p held)

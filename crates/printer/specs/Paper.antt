@@ -2,7 +2,7 @@
 use Rattle.laws.specs.Kit.{List, [], _∷_, _++_, ℕ}
 use Rattle.frame.specs.declared.Row.{Row}
 use Rattle.text.specs.Lines.{rowLine, summaryLine, refusalLine}
-use Rattle.record.specs.Paper.{Ending, done, stopped, Packets, packetsIn, Reading, unread, read, readingOf}
+use Rattle.record.specs.Paper.{resolved, Ending, done, stopped, Packets, packetsIn, Reading, unread, read, readingOf}
 use Rattle.timing.specs.declared.Rules.{Rules}
 use Rattle.timing.specs.declared.State.{State}
 use Rattle.timing.specs.declared.Judged.{Judged}
@@ -39,7 +39,7 @@ restOf rules s at l = linesOf rules s (packetsIn (s .past) at l)
 
 abbrev pub outputBy : Reading → List ℕ
 outputBy (unread number offset) = refusalLine number offset
-outputBy (read numbers r) = linesOf (rulesOf (ofParameters numbers)) (freshOf (ofParameters numbers)) r
+outputBy (read h r) = linesOf (rulesOf (ofParameters (resolved h))) (freshOf (ofParameters (resolved h))) r
 
 -- L1: "`vtiming` reads a file on standard input": its whole output
 unfoldable pub outputOf : List ℕ → List ℕ

@@ -10,7 +10,7 @@ use Rattle.record.specs.declared.Head.{Head}
 use Rattle.record.specs.declared.Head.the-variants as head
 use Rattle.record.specs.declared.Next.{Next}
 use Rattle.record.specs.declared.Next.the-variants.{Packet, End, More, Refused}
-use Rattle.record.specs.Paper.{packetBytes, headBytes}
+use Rattle.record.specs.Paper.{packetBytes, headBytes, heading, resolved}
 use Rattle.record.specs.Step.{headPiece, nextPiece}
 use Rattle.record.specs.Pieces.{wantsMore}
 use Rattle.timing.specs.declared.Rules.{Rules}
@@ -37,7 +37,7 @@ unfoldable pub readyOf : Parameters → Cursor → Opened
 readyOf x c = readyBy (setUpAs (ofParameters x)) c
 
 abbrev pub headBy : Head → Opened
-headBy (head.Ready version kind x c) = readyOf x c
+headBy (head.Ready version kind x c) = readyOf (resolved (heading version x)) c
 headBy head.More = Wanting
 headBy (head.Refused number offset) = Unopened number offset
 

@@ -43,7 +43,7 @@ pub struct TakeAnswer {
     pub ended: bool,
 }
 
-// The parameters stand at offset 1, and so does what set-up refuses.
+// The parameters that a file sets up with; they stand at offset 1, and so does what set-up refuses.
 fn ready(numbers: Parameters, next: Cursor) -> Opened
     ensures { λ r. ⌜ r ≡ readyOf numbers next ⌝ }
 {
@@ -66,11 +66,11 @@ pub fn begin(window: &[u8], last: bool) -> Opened
     let head = record::read_head(window, last);
     match head {
         Head::Ready {
-            version: _,
+            version,
             kind: _,
             parameters,
             next,
-        } => ready(parameters, next),
+        } => ready(record::resolved(version, parameters), next),
         Head::More => Opened::More,
         Head::Refused { number, offset } => Opened::Refused {
             number: number,

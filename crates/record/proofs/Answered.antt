@@ -14,7 +14,7 @@ use Rattle.record.specs.declared.Head.{Head}
 use Rattle.record.specs.declared.Head.the-variants as head
 use Rattle.record.specs.declared.Next.{Next}
 use Rattle.record.specs.declared.Next.the-variants.{Packet, End, More, Refused}
-use Rattle.record.specs.Paper.{packetBytes, headBytes, packetAt, formatRefusal, packetRefusal}
+use Rattle.record.specs.Paper.{packetBytes, headBytes, packetAt, Heading, heading, resolved, formatRefusal, packetRefusal}
 use Rattle.record.specs.Paper.{Ending, done, stopped, Packets, packetsIn, Reading, unread, read, readingOf, file, endedFile, asFile}
 use Rattle.record.specs.Step.{cursor, after, packetOf, headRead, nextRead}
 use Rattle.record.specs.Pieces.{goesOn, nextAt, taken, Heard, heard, callsOf, allCalls, answers, allAnswers}
@@ -123,19 +123,19 @@ rest-answers s j w h = go (headRead s) (head-says s)
     l : List ℕ
     l = drop headBytes s
 
-    stood : (version kind : ℕ) (x : Parameters) (c : Cursor) → Stood s version kind x c → Dec (setUpRefusal x ≡ 0)
+    stood : (version kind : ℕ) (x : Parameters) (c : Cursor) → Stood s version kind x c → Dec (setUpRefusal (resolved (heading version x)) ≡ 0)
         → Answered (readingOf s) (heard (head.Ready version kind x c) (λ at. answers j at (drop headBytes s)))
     stood version kind x c q (no n) =
         subst (λ (r : Reading). Answered r (heard (head.Ready version kind x c) (λ at. answers j at (drop headBytes s))))
-        (sym (reads-refused q (setUpRefusal x) refl (omega arith))) (refl, refl)
+        (sym (reads-refused q (setUpRefusal (resolved (heading version x))) refl (omega arith))) (refl, refl)
     stood version kind x c q (yes z) =
         let size : length (drop headBytes s) + headBytes ≡ length s = omega (arith, length-drop headBytes s, q .nineteen) in
         let told = packets-told j nothing headBytes (drop headBytes s) (omega (arith, size)) (omega (arith, size)) in
         subst (λ (r : Reading). Answered r (heard (head.Ready version kind x c) (λ at. answers j at (drop headBytes s))))
-        (sym (reads-packets q z)) (rw (q .version-1, q .kind-is-1, q .next-19), rw (q .next-19) told)
+        (sym (reads-packets q z)) (rw (q .kind-is-1, q .next-19), rw (q .next-19) told)
 
     go : (y : Head) → SaysHead s y → Answered (readingOf s) (heard y (λ at. answers j at (drop headBytes s)))
-    go (head.Ready version kind x c) q = stood version kind x c q (ℕ-discrete (setUpRefusal x) 0)
+    go (head.Ready version kind x c) q = stood version kind x c q (ℕ-discrete (setUpRefusal (resolved (heading version x))) 0)
     go head.More q = absurd q
     go (head.Refused n o) q =
         subst (λ (r : Reading). Answered r (heard (head.Refused n o) (λ at. answers j at (drop headBytes s)))) (sym q) (refl, refl)
@@ -190,15 +190,15 @@ pub reader-answers : (s : List ℕ) (j : ℕ) → length s < 2 ^ 64 → length s
 reader-answers s j w h = subst (Answered (readingOf s)) (sym (all-along j s w)) (rest-answers s j w h)
 
 -- of an accepted file there is nothing but the records and the end
-pub answered-file : (r : Reading) (y : Heard) (s : Parameters) (ps : List packet.Packet) → asFile r ≡ file s ps → Answered r y → y ≡ told s ps
+pub answered-file : (r : Reading) (y : Heard) (s : Heading) (ps : List packet.Packet) → asFile r ≡ file s ps → Answered r y → y ≡ told s ps
 answered-file (unread n o) y s ps e a = absurd (refused-file n o s ps e)
 answered-file (read x r) y s ps e a = go (r .ending) e (a .1)
   where
     go : (d : Ending) → endedFile x (r .accepted) d ≡ file s ps → AnsweredBy nothing headBytes (r .accepted) d (y .after) → y ≡ told s ps
     go (stopped n o) e b = absurd (refused-file n o s ps e)
     go done e b =
-        let same-numbers : x ≡ s = cc in
+        let same-heading : x ≡ s = cc in
         let same-packets : r .accepted ≡ ps = cc in
-        let e-head : y .head ≡ toldHead s = a .0 ∙ rw same-numbers in
+        let e-head : y .head ≡ toldHead s = a .0 ∙ rw same-heading in
         let e-after : y .after ≡ toldPackets headBytes ps ++ (End ∷ []) = b ∙ rw same-packets in
         λ j. record { head = e-head j; after = e-after j }

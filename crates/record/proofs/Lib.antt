@@ -10,6 +10,7 @@ pub mod Opening
 pub mod Stores
 pub mod Writing
 pub mod Fields
+pub mod Versions
 pub mod WriteRead
 pub mod ReadWrite
 pub mod Window

@@ -2,12 +2,12 @@
 use Rattle.laws.specs.Kit.{_≡_, sym, ap, _∙_, List, ℕ}
 use Rattle.laws.proofs.Unique.{one-answer}
 use Rattle.packet.specs.Paper.{packets}
-use Rattle.limits.specs.declared.Parameters.{Parameters}
 use Rattle.record.specs.declared.Written.{Written}
+use Rattle.record.specs.Paper.{Heading}
 use Rattle.record.specs.Layout.{bytesIn}
 use Rattle.record.specs.Write.{leftBy, WriteGives}
 
-pub writes-unique : (s : Parameters) (ts ss ms out : List ℕ) (a b : Written) (p q : List ℕ) → WriteGives s ts ss ms out a p
+pub writes-unique : (s : Heading) (ts ss ms out : List ℕ) (a b : Written) (p q : List ℕ) → WriteGives s ts ss ms out a p
     → WriteGives s ts ss ms out b q → (a ≡ b) × (p ≡ q)
 writes-unique s ts ss ms out a b p q x y =
     let same = one-answer (x .answered) (y .answered) in

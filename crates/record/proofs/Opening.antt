@@ -1,5 +1,5 @@
 -- The check of a whole file from its first byte: what its head makes of it.
-use Rattle.laws.specs.Kit.{_≡_, refl, sym, subst, _∙_, List, [], _∷_, ℕ, _<_, drop}
+use Rattle.laws.specs.Kit.{_≡_, refl, sym, ap, subst, _∙_, List, [], _∷_, ℕ, _<_, drop}
 use types.Run.{OneOf, miss}
 use denote.Enum.Declared.{tagOf}
 use Rattle.limits.specs.declared.Parameters.{Parameters}
@@ -10,17 +10,17 @@ use Rattle.record.specs.declared.Cursor.{Cursor}
 use Rattle.record.specs.declared.Head.{Head}
 use Rattle.record.specs.declared.Head.the-variants.{Ready, More, Refused}
 use Rattle.record.specs.declared.Checked.the-variants as answer
-use Rattle.record.specs.Paper.{headBytes, Ending, done, stopped, Packets, packetsIn, endedFile}
+use Rattle.record.specs.Paper.{headBytes, Heading, heading, resolved, Ending, done, stopped, Packets, packetsIn, endedFile}
 use Rattle.record.specs.Step.{headRead}
 use Rattle.record.specs.Walk.{asChecked, checkedOf, finishBy, finish, refusedBy}
 use Rattle.record.proofs.Head.{the-type}
 use Rattle.record.proofs.Saying.{Stood, SaysHead, head-says, reads-refused, reads-packets}
 
-pub finish-checked : (numbers : Parameters) (r : Packets)
-    → finish numbers noPackets r ≡ asChecked (endedFile numbers (r .accepted) (r .ending))
-finish-checked numbers r = go (r .ending)
+pub finish-checked : (h : Heading) (r : Packets)
+    → finish (resolved h) noPackets r ≡ asChecked (endedFile h (r .accepted) (r .ending))
+finish-checked h r = go (r .ending)
   where
-    go : (e : Ending) → finishBy numbers noPackets (r .accepted) e ≡ asChecked (endedFile numbers (r .accepted) e)
+    go : (e : Ending) → finishBy (resolved h) noPackets (r .accepted) e ≡ asChecked (endedFile h (r .accepted) e)
     go done = rw (tally-declared (r .accepted))
     go (stopped n o) = refl
 
@@ -46,11 +46,14 @@ module _ (s : List ℕ) where
       here : Stood s version kind parameters c
       here = subst (SaysHead s) (sym r ∙ e) (head-says s)
 
-      pub opens-refused : (n : ℕ) → setUpRefusal parameters ≡ n → 0 < n → answer.Refused n 1 ≡ checkedOf s
-      unfolding checkedOf
-      opens-refused n f p = rw (reads-refused here n f p)
+      -- the parameters that it sets up with
+      module _ {numbers : Parameters} (q : numbers ≡ resolved (heading version parameters)) where
+        pub opens-refused : (n : ℕ) → setUpRefusal numbers ≡ n → 0 < n → answer.Refused n 1 ≡ checkedOf s
+        unfolding checkedOf
+        opens-refused n f p = rw (reads-refused here n (sym (ap setUpRefusal q) ∙ f) p)
 
-      pub opens-fine : setUpRefusal parameters ≡ 0 → finish parameters noPackets (packetsIn nothing (c .at) (drop (c .at) s)) ≡ checkedOf s
-      unfolding checkedOf
-      opens-fine f =
-          rw (reads-packets here f, here .next-19) (finish-checked parameters (packetsIn nothing headBytes (drop headBytes s)))
+        pub opens-fine : setUpRefusal numbers ≡ 0 → finish numbers noPackets (packetsIn nothing (c .at) (drop (c .at) s)) ≡ checkedOf s
+        unfolding checkedOf
+        opens-fine f =
+            rw (reads-packets here (sym (ap setUpRefusal q) ∙ f), here .next-19, q)
+            (finish-checked (heading version parameters) (packetsIn nothing headBytes (drop headBytes s)))

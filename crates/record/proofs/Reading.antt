@@ -7,7 +7,7 @@ use Rattle.laws.proofs.Choose.{pick-either}
 use Rattle.packet.specs.declared.Past.{Past}
 use Rattle.packet.specs.Step.{nothing, nextOf}
 use Rattle.record.specs.Paper.{parametersLength, packetLength, parametersBytes, packetBytes, headBytes}
-use Rattle.record.specs.Paper.{versionFits, bodyLength, kindOf, parametersAt, packetAt}
+use Rattle.record.specs.Paper.{versionOf, versionFits, bodyLength, kindOf, parametersAt, packetAt, Heading, heading}
 use Rattle.record.specs.Paper.{formatRefusal, parametersRefusal, packetRefusal, unread, read, readingOf}
 use Rattle.record.specs.Paper.{done, stopped, none, more, packetsBy, packetsIn}
 use Rattle.record.proofs.Format.{formed, kind-1, packet-kind, length-14, length-16}
@@ -119,18 +119,22 @@ module _ (past : Past) (at : ℕ) (l : List ℕ) where
 
 -- the file from its first byte
 
+-- what it tells before its packets
+abbrev pub headingOf : List ℕ → Heading
+headingOf s = heading (versionOf s) (parametersAt (drop 1 s))
+
 module _ (s : List ℕ) where
   pub reading-20 : versionFits s ≡ false → readingOf s ≡ unread 20 0
   unfolding readingOf
   reading-20 v = rw v
 
-  pub reading-stop : (n : ℕ) → versionFits s ≡ true → parametersRefusal (drop 1 s) ≡ n → 0 < n → readingOf s ≡ unread n 1
+  pub reading-stop : (n : ℕ) → versionFits s ≡ true → parametersRefusal (versionOf s) (drop 1 s) ≡ n → 0 < n → readingOf s ≡ unread n 1
   unfolding readingOf
   reading-stop n v e p = rw (v, e, ne-eqb n 0 (λ z. omega arith))
 
-  pub reading-go : versionFits s ≡ true → parametersRefusal (drop 1 s) ≡ 0
-      → readingOf s ≡ read (parametersAt (drop 1 s)) (packetsIn nothing headBytes (drop headBytes s))
+  pub reading-go : versionFits s ≡ true → parametersRefusal (versionOf s) (drop 1 s) ≡ 0
+      → readingOf s ≡ read (headingOf s) (packetsIn nothing headBytes (drop headBytes s))
   unfolding readingOf
   reading-go v e =
       let here = parameters-here (drop 1 s) (neither _ _ e .0) in
-      rw (v, eq-eqb (parametersRefusal (drop 1 s)) 0 e, here .body-16, drop-drop parametersBytes 1 s)
+      rw (v, eq-eqb (parametersRefusal (versionOf s) (drop 1 s)) 0 e, here .body-16, drop-drop parametersBytes 1 s)

@@ -1,6 +1,6 @@
 -- What the reader answers, in the words of the rules: a predicate on the answer, proved once for every answer. By what stands in front.
 use Rattle.laws.specs.Kit.{_≡_, refl, sym, ap, subst, _∙_, Bool, true, false, List, [], _∷_, ℕ, _≤_, _<_, arith, ℕ-discrete, eqb, length}
-use Rattle.laws.specs.Kit.{drop, eqb-true}
+use Rattle.laws.specs.Kit.{drop}
 use Rattle.laws.specs.Choose.{pick}
 use Rattle.laws.proofs.Choose.{pick-either}
 use Rattle.limits.specs.declared.Parameters.{Parameters}
@@ -13,14 +13,15 @@ use Rattle.record.specs.declared.Head.the-variants as head
 use Rattle.record.specs.declared.Next.{Next}
 use Rattle.record.specs.declared.Next.the-variants.{Packet, End, More, Refused}
 use Rattle.record.specs.Paper.{packetBytes, headBytes}
-use Rattle.record.specs.Paper.{versionFits, bodyLength, kindOf, isParameters, kindLength, parametersAt, formatRefusal}
-use Rattle.record.specs.Paper.{parametersRefusal, packetsIn, unread, read, readingOf}
+use Rattle.record.specs.Paper.{versionKnown, versionOf, versionFits, bodyLength, kindOf, isParameters, kindLength, parametersAt}
+use Rattle.record.specs.Paper.{formatRefusal}
+use Rattle.record.specs.Paper.{Heading, heading, resolved, parametersRefusal, packetsIn, unread, read, readingOf}
 use Rattle.record.specs.Step.{cursor, after, packetOf, stepOver, framedOf, Whole, firstOf, headBy, headPiece, headRead}
 use Rattle.record.specs.Step.{wholeOf, nextBy, nextPiece, nextRead}
 use Rattle.record.proofs.Format.{Front, scrap, zero-length, short, whole, front, framed-nothing, framed-byte, framed-zero}
 use Rattle.record.proofs.Format.{framed-short, framed-whole, lone-23, scrap-21, zero-21, short-21, there}
-use Rattle.record.proofs.Ways.{head-cons}
-use Rattle.record.proofs.Reading.{second, before, parameters-here, reading-20, reading-stop, reading-go}
+use Rattle.record.proofs.Ways.{other-version, head-cons}
+use Rattle.record.proofs.Reading.{second, before, parameters-here, headingOf, reading-20, reading-stop, reading-go}
 
 -- ---- after the head
 
@@ -56,9 +57,9 @@ next-says at l = go (front l) (ℕ-discrete (length l) 0)
 
 -- ---- the head
 
--- version 1, and parameters that the format accepts, of kind 1
+-- a version that is known, and parameters that the format accepts, of kind 1
 pub record Stood (s : List ℕ) (version kind : ℕ) (parameters : Parameters) (c : Cursor) : Type 0 where
-  pub version-1 : version ≡ 1
+  pub version-is : version ≡ versionOf s
   pub kind-is-1 : kind ≡ 1
   pub next-19 : c ≡ cursor headBytes
   pub nineteen : headBytes ≤ length s
@@ -72,7 +73,7 @@ SaysHead s (head.Ready version kind parameters c) = Stood s version kind paramet
 SaysHead s head.More = ⊥
 SaysHead s (head.Refused n o) = readingOf s ≡ unread n o
 
-module _ (b : ℕ) (l : List ℕ) (v : eqb b 1 ≡ true) where
+module _ (b : ℕ) (l : List ℕ) (v : versionKnown b ≡ true) where
   stops : (n : ℕ) → formatRefusal true l ≡ n → 0 < n → readingOf (b ∷ l) ≡ unread n 1
   stops n e p = reading-stop (b ∷ l) n v (before _ _ (rw e p) ∙ e) p
 
@@ -80,7 +81,7 @@ module _ (b : ℕ) (l : List ℕ) (v : eqb b 1 ≡ true) where
   stood f =
       let here = parameters-here l f in
       record {
-        version-1 = eqb-true b 1 v;
+        version-is = refl;
         kind-is-1 = here .kind-is-1;
         next-19 = refl;
         nineteen = omega (arith, here .eighteen);
@@ -114,20 +115,27 @@ module _ (b : ℕ) (l : List ℕ) (v : eqb b 1 ≡ true) where
 
 pub head-says : (s : List ℕ) → SaysHead s (headRead s)
 unfolding headPiece
-head-says [] = reading-20 [] refl
-head-says (b ∷ l) = subst (SaysHead (b ∷ l)) (sym (head-cons b l true)) (go (eqb b 1) refl)
+head-says [] = reading-20 [] (sym (other-version 0 (λ e. omega arith) (λ e. omega arith)))
+head-says (b ∷ l) = subst (SaysHead (b ∷ l)) (sym (head-cons b l true)) (go (versionKnown b) refl)
   where
-    go : (t : Bool) → eqb b 1 ≡ t → SaysHead (b ∷ l) (pick t (headBy b l (framedOf l true)) (head.Refused 20 0))
+    go : (t : Bool) → versionKnown b ≡ t → SaysHead (b ∷ l) (pick t (headBy b l (framedOf l true)) (head.Refused 20 0))
     go true v = first-says b l v
     go false v = reading-20 (b ∷ l) v
 
 -- and what a file with such a head reads as: set-up refuses it, or its packets follow
 module _ {s : List ℕ} {version kind : ℕ} {parameters : Parameters} {c : Cursor} (h : Stood s version kind parameters c) where
-  set-up-is : parametersRefusal (drop 1 s) ≡ setUpRefusal parameters
-  set-up-is = second _ _ (h .format-fits) ∙ ap setUpRefusal (sym (h .parameters-are))
+  -- what it tells before its packets
+  heading-is : headingOf s ≡ heading version parameters
+  heading-is = rw (h .version-is, h .parameters-are)
 
-  pub reads-refused : (n : ℕ) → setUpRefusal parameters ≡ n → 0 < n → readingOf s ≡ unread n 1
+  set-up-is : parametersRefusal (versionOf s) (drop 1 s) ≡ setUpRefusal (resolved (heading version parameters))
+  set-up-is = second _ _ (h .format-fits) ∙ ap (λ (x : Heading). setUpRefusal (resolved x)) heading-is
+
+  pub reads-refused : (n : ℕ) → setUpRefusal (resolved (heading version parameters)) ≡ n → 0 < n → readingOf s ≡ unread n 1
   reads-refused n e p = reading-stop s n (h .version-fits) (set-up-is ∙ e) p
 
-  pub reads-packets : setUpRefusal parameters ≡ 0 → readingOf s ≡ read parameters (packetsIn nothing headBytes (drop headBytes s))
-  reads-packets e = reading-go s (h .version-fits) (set-up-is ∙ e) ∙ rw (h .parameters-are)
+  pub reads-packets : setUpRefusal (resolved (heading version parameters)) ≡ 0
+      → readingOf s ≡ read (heading version parameters) (packetsIn nothing headBytes (drop headBytes s))
+  reads-packets e =
+      reading-go s (h .version-fits) (set-up-is ∙ e)
+      ∙ ap (λ (x : Heading). read x (packetsIn nothing headBytes (drop headBytes s))) heading-is

@@ -10,7 +10,7 @@ use Rattle.packet.specs.Paper.{OneLength, lent, packetsFrom}
 use Rattle.packet.proofs.Lent.{packets-cons, packets-none}
 use Rattle.limits.specs.declared.Parameters.{Parameters}
 use Rattle.record.specs.Layout.{packetWith, packetRecord, headOf, recordsOf}
-use Rattle.record.specs.Paper.{parametersLength, packetLength, packetBytes}
+use Rattle.record.specs.Paper.{parametersLength, packetLength, packetBytes, heading}
 
 one-stored : (v : ℕ) (d : List ℕ) (at : ℕ) → sets d at (bytesOf 1 v) ≡ set d at v
 unfolding bytesOf
@@ -27,12 +27,12 @@ pub packet-stored : (t stamp marker : ℕ) (d : List ℕ) (at : ℕ)
 unfolding fieldBytes
 packet-stored t stamp marker d at = sym (simp (sets-join, length-bytes, one-stored, length-stored packetLength (lit< tt), add-assoc))
 
-pub head-stored : (s : Parameters) (d : List ℕ)
-    → sets (sets (sets (sets (set (set (set (set (set (set (set d 0 1) 1 0) 2 parametersLength) 3 1) 4 (s .rate)) 5 (s .schedule)) 6 (s .class))
-    7 (bytesOf 2 (s .height))) 9 (bytesOf 4 (s .n))) 13 (bytesOf 2 (s .maxudp))) 15 (bytesOf 4 (s .tro))
-    ≡ sets d 0 (headOf s)
+pub head-stored : (version : ℕ) (s : Parameters) (d : List ℕ)
+    → sets (sets (sets (sets (set (set (set (set (set (set (set d 0 version) 1 0) 2 parametersLength) 3 1) 4 (s .rate)) 5 (s .schedule))
+    6 (s .class)) 7 (bytesOf 2 (s .height))) 9 (bytesOf 4 (s .n))) 13 (bytesOf 2 (s .maxudp))) 15 (bytesOf 4 (s .tro))
+    ≡ sets d 0 (headOf (heading version s))
 unfolding fieldBytes
-head-stored s d = sym (simp (sets-join, length-bytes, one-stored, length-stored parametersLength (lit< tt)))
+head-stored version s d = sym (simp (sets-join, length-bytes, one-stored, length-stored parametersLength (lit< tt)))
 
 -- the packets' records, one more at a time
 

@@ -9,12 +9,12 @@ use Rattle.record.specs.declared.Framed.the-variants as framed
 use Rattle.record.specs.declared.Head.{Head}
 use Rattle.record.specs.declared.Head.the-variants as head
 use Rattle.record.specs.declared.Next.{Next}
-use Rattle.record.specs.Paper.{bodyLength, kindOf, isParameters, kindLength}
+use Rattle.record.specs.Paper.{versionKnown, bodyLength, kindOf, isParameters, kindLength}
 use Rattle.record.specs.Step.{framedOf, Whole, firstOf, headBy, headPiece, headRead, wholeOf, nextBy, nextPiece, nextRead}
 use Rattle.record.specs.Pieces.{readNumber, wantsMore, headWaits, headNumber, Depends, HeadDepends}
 use Rattle.record.proofs.Format.{Front, scrap, zero-length, short, whole, front, framed-nothing, framed-byte, framed-zero, framed-short}
 use Rattle.record.proofs.Format.{framed-whole}
-use Rattle.record.proofs.Ways.{head-none, head-cons}
+use Rattle.record.proofs.Ways.{known-version, head-none, head-cons}
 use Rattle.record.proofs.Window.{number-front, next-known, head-known}
 
 -- two continuations: nothing there and a length of 0, or a record cut short and the whole of it
@@ -107,7 +107,7 @@ first-not-21 version body kind l =
     (λ e. pick-either P (isParameters kind) (λ p z. omega arith) (λ p z. omega arith)) (λ e z. omega arith)
 
 -- behind the version byte
-module _ (b : ℕ) (v : eqb b 1 ≡ true) where
+module _ (b : ℕ) (v : versionKnown b ≡ true) where
   head-by : (l : List ℕ) {f : Framed} → framedOf l true ≡ f → headNumber (headRead (b ∷ l)) ≡ headNumber (headBy b l f)
   head-by l e = ap headNumber (head-cons b l true) ∙ rw (v, e)
 
@@ -144,14 +144,16 @@ no-byte = record {
   one = [];
   other = 1 ∷ [];
   differ = λ same.
-      let n = sym (ap headNumber (head-none [] true refl refl)) ∙ ap headNumber same ∙ head-by 1 refl [] (framed-nothing [] refl) in omega (arith, n);
+      let known = sym (known-version 1 (omega arith) (omega arith)) in
+      let n = sym (ap headNumber (head-none [] true refl refl)) ∙ ap headNumber same ∙ head-by 1 known [] (framed-nothing [] refl) in
+      omega (arith, n);
 }
 
 pub head-needed : (w : List ℕ) → headWaits (headPiece w false) ≡ true → HeadDepends w
 head-needed [] m = no-byte
-head-needed (b ∷ l) m = go (eqb b 1) refl
+head-needed (b ∷ l) m = go (versionKnown b) refl
   where
-    go : (t : Bool) → eqb b 1 ≡ t → HeadDepends (b ∷ l)
+    go : (t : Bool) → versionKnown b ≡ t → HeadDepends (b ∷ l)
     go true v =
         let same : headPiece (b ∷ l) false ≡ headBy b l (framedOf l false) = head-cons b l false ∙ rw v in
         first-needed b v l (sym (ap headWaits same) ∙ m)

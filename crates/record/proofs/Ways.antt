@@ -1,6 +1,7 @@
 -- One law for each way out of the reader's functions, from the tests before it.
-use Rattle.laws.specs.Kit.{_≡_, refl, sym, ap, subst, _∙_, Bool, true, false, List, _∷_, ℕ, _+_, _-_, _≤_, _<_, arith, ltb, eqb, length}
-use Rattle.laws.specs.Kit.{getD, take, drop, length-drop, drop-of-length-le, take-all, drop-length, eq-eqb, ne-eqb, eqb-true, eqb-false}
+use Rattle.laws.specs.Kit.{_≡_, refl, sym, ap, subst, _∙_, _⊎_, ⊎-elim, Bool, true, false, List, _∷_, ℕ, zero, suc, _+_, _-_, _≤_, _<_}
+use Rattle.laws.specs.Kit.{arith, ltb, eqb, length}
+use Rattle.laws.specs.Kit.{take, drop, length-drop, drop-of-length-le, take-all, drop-length, eq-eqb, ne-eqb, eqb-true, eqb-false}
 use Rattle.laws.specs.Kit.{ltb-false}
 use Rattle.laws.specs.Choose.{pick}
 use Rattle.laws.proofs.Choose.{pick-either}
@@ -8,9 +9,42 @@ use Rattle.record.specs.declared.Framed.{Framed}
 use Rattle.record.specs.declared.Framed.the-variants as framed
 use Rattle.record.specs.declared.Head.the-variants as head
 use Rattle.record.specs.declared.Next.the-variants as next
-use Rattle.record.specs.Paper.{packetBytes, headBytes, bodyLength, isParameters, kindLength, parametersAt}
+use Rattle.record.specs.Paper.{packetBytes, headBytes, versionKnown, versionOf, versionFits, firstClass, classIn, bodyLength}
+use Rattle.record.specs.Paper.{isParameters, kindLength, parametersAt}
 use Rattle.record.specs.Step.{cursor, after, packetOf, scrapOf, framedOf, Whole, firstOf, headBy, headPiece, wholeOf, nextBy, nextPiece}
 use Rattle.record.proofs.Format.{framed-short}
+
+-- ---- versions
+
+pub known-version : (version : ℕ) → 1 ≤ version → version < 3 → true ≡ versionKnown version
+unfolding versionKnown
+known-version zero low high = absurd (omega arith)
+known-version (suc zero) low high = refl
+known-version (suc (suc zero)) low high = refl
+known-version (suc (suc (suc version))) low high = absurd (omega arith)
+
+pub other-version : (version : ℕ) → (version ≡ 1 → ⊥) → (version ≡ 2 → ⊥) → false ≡ versionKnown version
+unfolding versionKnown
+other-version version a b = sym (rw (ne-eqb version 1 a, ne-eqb version 2 b))
+
+pub class-later : (version class : ℕ) → (version ≡ 1 → ⊥) → class ≡ classIn version class
+unfolding classIn
+class-later version class n = sym (rw (ne-eqb version 1 n))
+
+-- version 1: 0 and 3 are both 3, and any other number is itself
+pub class-wide : (version class : ℕ) → version ≡ 1 → (class ≡ 0) ⊎ (class ≡ 3) → 3 ≡ classIn version class
+unfolding classIn
+class-wide version class v e = sym (rw v (⊎-elim (λ z. ap firstClass z) (λ z. ap firstClass z) e))
+
+pub class-kept : (version class : ℕ) → version ≡ 1 → (class ≡ 0 → ⊥) → class ≡ classIn version class
+unfolding classIn
+class-kept version class v n = rw v (go class n)
+  where
+    go : (class : ℕ) → (class ≡ 0 → ⊥) → class ≡ firstClass class
+    go zero n = absurd (n refl)
+    go (suc c) n = refl
+
+-- ---- kinds
 
 pub length-none : (kind : ℕ) → isParameters kind ≡ false → (kind ≡ 2 → ⊥) → kindLength kind ≡ 0
 unfolding kindLength
@@ -112,16 +146,16 @@ module _ (w : List ℕ) (last : Bool) where
   head-waits h e = rw (eq-eqb (length w) 0 h, e)
 
   module _ (h : length w ≡ 0 → ⊥) where
-    pub head-unknown : (getD w 0 0 ≡ 1 → ⊥) → headPiece w last ≡ head.Refused 20 0
+    pub head-unknown : versionFits w ≡ false → headPiece w last ≡ head.Refused 20 0
     unfolding headPiece
-    head-unknown n = rw (ne-eqb (length w) 0 h, ne-eqb (getD w 0 0) 1 n)
+    head-unknown e = rw (ne-eqb (length w) 0 h, e)
 
-    pub head-first : getD w 0 0 ≡ 1 → headPiece w last ≡ headBy (getD w 0 0) (drop 1 w) (framedOf (drop 1 w) last)
+    pub head-first : versionFits w ≡ true → headPiece w last ≡ headBy (versionOf w) (drop 1 w) (framedOf (drop 1 w) last)
     unfolding headPiece
-    head-first e = rw (ne-eqb (length w) 0 h, eq-eqb (getD w 0 0) 1 e)
+    head-first e = rw (ne-eqb (length w) 0 h, e)
 
 pub head-cons : (b : ℕ) (l : List ℕ) (last : Bool)
-    → headPiece (b ∷ l) last ≡ pick (eqb b 1) (headBy b l (framedOf l last)) (head.Refused 20 0)
+    → headPiece (b ∷ l) last ≡ pick (versionKnown b) (headBy b l (framedOf l last)) (head.Refused 20 0)
 unfolding headPiece
 head-cons b l last = rw (ne-eqb (length (b ∷ l)) 0 (λ z. omega arith))
 

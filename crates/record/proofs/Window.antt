@@ -13,7 +13,8 @@ use Rattle.record.specs.declared.Head.{Head}
 use Rattle.record.specs.declared.Head.the-variants as head
 use Rattle.record.specs.declared.Next.{Next}
 use Rattle.record.specs.declared.Next.the-variants.{Packet, End, More, Refused}
-use Rattle.record.specs.Paper.{parametersBytes, packetBytes, headBytes, bodyLength, isParameters, kindLength, parametersAt, packetAt}
+use Rattle.record.specs.Paper.{parametersBytes, packetBytes, headBytes, versionKnown, bodyLength, isParameters, kindLength}
+use Rattle.record.specs.Paper.{parametersAt, packetAt}
 use Rattle.record.specs.Step.{cursor, scrapOf, framedOf, Whole, firstOf, headBy, headPiece, headRead}
 use Rattle.record.specs.Step.{after, packetOf, wholeOf, nextBy, nextPiece, nextRead}
 use Rattle.record.specs.Pieces.{goesOn, taken, wantsMore, headWaits}
@@ -128,12 +129,12 @@ next-same at w v last m = shown (nextBy at) w v last refl (λ body kind a. next-
 
 pub head-same : (w v : List ℕ) (last : Bool) → headWaits (headPiece w false) ≡ false → headPiece (w ++ v) last ≡ headPiece w false
 head-same [] v last m = absurd (false-true (sym m ∙ ap headWaits (head-waits [] false refl refl)))
-head-same (b ∷ l) v last m = head-cons b (l ++ v) last ∙ go (eqb b 1) refl ∙ sym (head-cons b l false)
+head-same (b ∷ l) v last m = head-cons b (l ++ v) last ∙ go (versionKnown b) refl ∙ sym (head-cons b l false)
   where
     r : Bool → Head → Head
     r t h = pick t h (head.Refused 20 0)
 
-    go : (t : Bool) → eqb b 1 ≡ t → r t (headBy b (l ++ v) (framedOf (l ++ v) last)) ≡ r t (headBy b l (framedOf l false))
+    go : (t : Bool) → versionKnown b ≡ t → r t (headBy b (l ++ v) (framedOf (l ++ v) last)) ≡ r t (headBy b l (framedOf l false))
     go false e = refl
     go true e =
         let same : headPiece (b ∷ l) false ≡ headBy b l (framedOf l false) = head-cons b l false ∙ rw e in
@@ -164,7 +165,7 @@ pub head-full : (w : List ℕ) (last : Bool) → Bytes w → 65538 ≤ length w 
 head-full [] last h n = absurd (omega arith)
 head-full (b ∷ l) last h n =
     ap headWaits (head-cons b l last)
-    ∙ pick-either (λ (r : Head). headWaits r ≡ false) (eqb b 1)
+    ∙ pick-either (λ (r : Head). headWaits r ≡ false) (versionKnown b)
     (λ e. head-known b l (framedOf l last) (full l last (h .1) (omega arith))) (λ e. refl)
 
 -- ---- what an answer of the whole rest says: it is not More, and what it took lies within

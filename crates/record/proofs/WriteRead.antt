@@ -1,7 +1,7 @@
 -- Reading what was written: each record stands at the front with its own fields, is accepted as it was, and the rest follows.
 -- By the list of packets.
-use Rattle.laws.specs.Kit.{_≡_, refl, sym, ap, _∙_, true, Bool, false, _||_, List, [], _∷_, _++_, ℕ, _+_, _<_, arith, length, take, drop}
-use Rattle.laws.specs.Kit.{length-append, drop-at}
+use Rattle.laws.specs.Kit.{_≡_, refl, sym, ap, _∙_, Bool, false, _||_, List, [], _∷_, _++_, ℕ, _+_, _<_, arith, length, take, drop}
+use Rattle.laws.specs.Kit.{length-append, drop-at, eq-eqb}
 use Rattle.laws.specs.Choose.{AllBelow}
 use Rattle.packet.specs.declared.Past.{Past}
 use Rattle.packet.specs.declared.Scanned.the-variants as scan
@@ -10,23 +10,23 @@ use Rattle.packet.specs.Paper.{marked, packets}
 use Rattle.packet.specs.Step.{nothing, numberOf, nextOf, closes, scanOf}
 use Rattle.packet.proofs.Refusals.{accepted}
 use Rattle.packet.proofs.Turn.{scan-goes, ready-accepted, fine-ready, scanned-fine}
-use Rattle.limits.specs.declared.Parameters.{Parameters}
 use Rattle.limits.specs.Paper.{setUpRefusal}
-use Rattle.record.specs.Paper.{parametersLength, packetLength, parametersBytes, packetBytes, headBytes}
-use Rattle.record.specs.Paper.{packetAt, formatRefusal, packetRefusal}
+use Rattle.record.specs.Paper.{packetLength, packetBytes, headBytes}
+use Rattle.record.specs.Paper.{packetAt, Heading, resolved, formatRefusal, packetRefusal}
 use Rattle.record.specs.Paper.{done, Packets, more, packetsIn, read, readingOf, file, asFile, fileOf}
 use Rattle.endian.specs.Fields.{Fit}
-use Rattle.record.specs.Layout.{packetWidths, packetFields, parameterRecord, packetRecord, recordsOf, bytesIn}
+use Rattle.record.specs.Layout.{packetWidths, packetFields, packetRecord, recordsOf, bytesIn}
 use Rattle.record.specs.Layout.{PacketsHeld}
 use Rattle.limits.specs.Steps.{ParametersHeld}
 use Rattle.record.specs.declared.Written.the-variants.{Done}
-use Rattle.record.specs.Write.{WriteGives}
+use Rattle.record.specs.Write.{headingRefusal, WriteGives}
 use Rattle.record.specs.Step.{Whole}
-use Rattle.record.proofs.Format.{packet-2, parameters-1, length-14, length-16, there}
-use Rattle.record.proofs.Reading.{second, packets-end, packets-go, reading-go}
+use Rattle.record.proofs.Format.{packet-2, length-14, there}
+use Rattle.record.proofs.Reading.{second, packets-end, packets-go}
 use Rattle.record.proofs.Stores.{length-packet}
-use Rattle.record.proofs.Writing.{length-head, was-written, writes-done, packets-held}
-use Rattle.record.proofs.Fields.{packet-back, parameters-back}
+use Rattle.record.proofs.Writing.{heading-fine, was-written, writes-done, packets-held}
+use Rattle.record.proofs.Fields.{packet-back}
+use Rattle.record.proofs.Versions.{reading-headed}
 
 -- all of some packets
 abbrev pub every : List Packet → Packets
@@ -72,26 +72,16 @@ packets-written (p ∷ ps) past begun closed n at held e =
     packets-go past at l fine ∙ ap (more (packetAt l)) rest ∙ ap (λ q. more q (every ps)) (back .same)
 
 -- the whole file
-pub file-written : (s : Parameters) (ps : List Packet) (n : ℕ) → ParametersHeld s → PacketsHeld ps
-    → setUpRefusal s ≡ 0 → scanOf nothing false 0 ps ≡ scan.Fine n → readingOf (bytesIn s ps) ≡ read s (every ps)
+pub file-written : (s : Heading) (ps : List Packet) (n : ℕ) → ParametersHeld (s .parameters) → PacketsHeld ps
+    → headingRefusal s ≡ 0 → scanOf nothing false 0 ps ≡ scan.Fine n → readingOf (bytesIn s ps) ≡ read s (every ps)
 unfolding bytesIn
 file-written s ps n hs hp e f =
-    let l = parameterRecord s ++ recordsOf ps in
-    let back = parameters-back s (recordsOf ps) hs in
-    let long : length (parameterRecord s) ≡ parametersBytes = omega (arith, length-head s) in
-    let size : length l ≡ parametersBytes + length (recordsOf ps) = length-append (parameterRecord s) (recordsOf ps) ∙ rw long in
-    let here : Whole parametersLength 1 l = record {
-      length-read = sym (back .body-16);
-      kind-read = sym (back .kind-1);
-      some-body = omega arith;
-      all-there = omega arith;
-    } in
-    let format : formatRefusal true l ≡ 0 = there true l here ∙ rw (length-16 1 parameters-1, parameters-1) in
-    reading-go (1 ∷ l) refl (second _ _ format ∙ ap setUpRefusal (back .same) ∙ e)
-    ∙ rw (back .same, drop-at (parameterRecord s) (recordsOf ps) parametersBytes long, packets-written ps nothing false 0 n headBytes hp f)
+    let fine = heading-fine s e in
+    reading-headed s (recordsOf ps) hs (fine .0)
+    ∙ rw (eq-eqb (setUpRefusal (resolved s)) 0 (fine .1), packets-written ps nothing false 0 n headBytes hp f)
 
 -- what the writer writes reads as what it was given
-pub written-reads : (s : Parameters) (ts ss ms out after : List ℕ) (n : ℕ) → ParametersHeld s
+pub written-reads : (s : Heading) (ts ss ms out after : List ℕ) (n : ℕ) → ParametersHeld (s .parameters)
     → AllBelow 18446744073709551616 ts → AllBelow 4294967296 ss
     → WriteGives s ts ss ms out (Done n) after → fileOf (take n after) ≡ file s (packets ts ss ms)
 written-reads s ts ss ms out after n hs ht hm w =

@@ -1,8 +1,8 @@
 -- The writer's answers, one law for each way out, and what it leaves in the lent bytes: the file, and beyond it what was there.
-use Rattle.laws.specs.Kit.{_≡_, refl, sym, ap, _∙_, false, List, [], _∷_, _++_, ℕ, suc, _+_, _*_, _≤_, _<_, arith, zero-add, length, take}
+use Rattle.laws.specs.Kit.{_≡_, refl, sym, ap, _∙_, true, false, List, [], _∷_, _++_, ℕ, suc, _+_, _*_, _≤_, _<_, arith, zero-add, length, take}
 use Rattle.laws.specs.Kit.{drop, getD, length-append, sets, sets-eq, take-at, leb, eqb, eq-eqb, ne-eqb, le-leb, lt-leb, leb-true}
 use Rattle.laws.specs.Kit.{eqb-true}
-use Rattle.laws.specs.Choose.{pick}
+use Rattle.laws.specs.Choose.{pick, orElse}
 use Rattle.laws.proofs.Choose.{pick-either}
 use Rattle.packet.specs.declared.Past.{Past}
 use Rattle.packet.specs.declared.Refusal.{Refusal}
@@ -18,15 +18,15 @@ use Rattle.endian.specs.Fields.{fieldBytes}
 use Rattle.laws.proofs.Lay.{sets-join}
 use Rattle.endian.proofs.Width.{length-bytes}
 use Rattle.limits.specs.declared.Parameters.{Parameters}
+use Rattle.limits.specs.Paper.{setUpRefusal}
 use Rattle.record.specs.declared.Written.{Written}
 use Rattle.record.specs.declared.Written.the-variants.{Done, Refused}
-use Rattle.limits.specs.Paper.{setUpRefusal}
 use Rattle.record.specs.Layout.{packetRecord, headOf, recordsOf, bytesIn, PacketsHeld}
-use Rattle.record.specs.Write.{fileLength, scanning, writtenOf, WriteGives}
+use Rattle.record.specs.Write.{fileLength, versionRefusal, headingRefusal, scanning, writtenOf, WriteGives}
 use Rattle.record.proofs.Stores.{length-packet}
-use Rattle.record.specs.Paper.{packetBytes, headBytes}
+use Rattle.record.specs.Paper.{packetBytes, headBytes, versionKnown, Heading, heading, resolved}
 
-pub length-head : (s : Parameters) → length (headOf s) ≡ headBytes
+pub length-head : (s : Heading) → length (headOf s) ≡ headBytes
 unfolding fieldBytes
 length-head s = simp (length-append, length-bytes)
 
@@ -37,16 +37,16 @@ length-records (p ∷ ps) =
     rw (length-append (packetRecord p) (recordsOf ps), length-packet p, length-records ps) (omega arith)
 
 -- F1: 19 bytes, and 16 for each packet
-pub length-file : (s : Parameters) (ps : List Packet) → length (bytesIn s ps) ≡ fileLength (length ps)
+pub length-file : (s : Heading) (ps : List Packet) → length (bytesIn s ps) ≡ fileLength (length ps)
 unfolding bytesIn
 length-file s ps = rw (length-append (headOf s) (recordsOf ps), length-head s, length-records ps)
 
-one-run : (s : Parameters) (ps : List Packet) (d : List ℕ) → sets (sets d 0 (headOf s)) headBytes (recordsOf ps) ≡ sets d 0 (bytesIn s ps)
+one-run : (s : Heading) (ps : List Packet) (d : List ℕ) → sets (sets d 0 (headOf s)) headBytes (recordsOf ps) ≡ sets d 0 (bytesIn s ps)
 unfolding bytesIn
 one-run s ps d = sym (sets-join (headOf s) (recordsOf ps) d 0 ∙ rw (length-head s))
 
 -- the head stored, and the records after it, are the file stored: it stands in front of what was there
-pub file-stored : (s : Parameters) (ps : List Packet) (d : List ℕ) → fileLength (length ps) ≤ length d
+pub file-stored : (s : Heading) (ps : List Packet) (d : List ℕ) → fileLength (length ps) ≤ length d
     → sets (sets d 0 (headOf s)) headBytes (recordsOf ps) ≡ bytesIn s ps ++ drop (fileLength (length ps)) d
 file-stored s ps d h =
     one-run s ps d ∙ sets-eq (bytesIn s ps) d 0 (omega (arith, length-file s ps)) ∙ rw (zero-add (length (bytesIn s ps)), length-file s ps)
@@ -56,17 +56,39 @@ pub scan-of : (ts ss ms : List ℕ) {past : Past} {a : Scanned} → past ≡ not
     → scannedOf nothing false ts ss ms ≡ a
 scan-of ts ss ms e f = sym (f ∙ ap (λ p. scannedOf p false ts ss ms) e)
 
+-- the version first of all, then what set-up refuses
+module _ (version : ℕ) (s : Parameters) where
+  pub heading-20 : versionKnown version ≡ false → 20 ≡ headingRefusal (heading version s)
+  unfolding headingRefusal versionRefusal
+  heading-20 e = sym (rw e)
+
+  pub heading-set-up : versionKnown version ≡ true → setUpRefusal (resolved (heading version s)) ≡ headingRefusal (heading version s)
+  unfolding headingRefusal versionRefusal
+  heading-set-up e = sym (rw e)
+
+  -- both numbers as the code finds them
+  pub heading-both : {a b : ℕ} {numbers : Parameters} → a ≡ versionRefusal version → numbers ≡ resolved (heading version s)
+      → b ≡ setUpRefusal numbers → orElse a b ≡ headingRefusal (heading version s)
+  unfolding headingRefusal
+  heading-both e q f = rw (e, f, q)
+
+pub heading-fine : (s : Heading) → headingRefusal s ≡ 0 → (versionKnown (s .version) ≡ true) × (setUpRefusal (resolved s) ≡ 0)
+unfolding headingRefusal versionRefusal
+heading-fine s =
+    pick-either (λ n. orElse n (setUpRefusal (resolved s)) ≡ 0 → (versionKnown (s .version) ≡ true) × (setUpRefusal (resolved s) ≡ 0))
+    (versionKnown (s .version)) (λ v e. (v, e)) (λ v e. absurd (omega arith))
+
 -- the answer, for so many lent bytes
-module _ (s : Parameters) (ts ss ms : List ℕ) (room : ℕ) where
-  pub answers-set-up : (n : ℕ) → setUpRefusal s ≡ n → 0 < n → Refused n 0 ≡ writtenOf s ts ss ms room
+module _ (s : Heading) (ts ss ms : List ℕ) (room : ℕ) where
+  pub answers-set-up : (n : ℕ) → headingRefusal s ≡ n → 0 < n → Refused n 0 ≡ writtenOf s ts ss ms room
   unfolding writtenOf
   answers-set-up n e p = rw (e, ne-eqb n 0 (λ z. omega arith))
 
-  module _ (fine : setUpRefusal s ≡ 0) where
+  module _ (fine : headingRefusal s ≡ 0) where
     scanned : {a : Scanned} → scannedOf nothing false ts ss ms ≡ a
         → writtenOf s ts ss ms room ≡ scanning a (fileLength (length ts)) room
     unfolding writtenOf
-    scanned e = rw (eq-eqb (setUpRefusal s) 0 fine, e)
+    scanned e = rw (eq-eqb (headingRefusal s) 0 fine, e)
 
     pub answers-scan : {r : Refusal} {w : Written} → scannedOf nothing false ts ss ms ≡ scan.Refused r → w ≡ Refused (r .number) (r .place)
         → w ≡ writtenOf s ts ss ms room
@@ -103,20 +125,20 @@ fitting-done needed room n =
     pick-either (λ w. Done n ≡ w → (needed ≤ room) × (n ≡ needed)) (leb needed room)
     (λ t e. (leb-true needed room t, cc)) (λ t e. absurd (done-refused n 24 0 e))
 
-pub record WasWritten (s : Parameters) (ts ss ms : List ℕ) (room n : ℕ) : Type 0 where
-  pub set-up : setUpRefusal s ≡ 0
+pub record WasWritten (s : Heading) (ts ss ms : List ℕ) (room n : ℕ) : Type 0 where
+  pub set-up : headingRefusal s ≡ 0
   pub closed : ℕ
   pub scan-fine : scannedOf nothing false ts ss ms ≡ scan.Fine closed
   pub enough : fileLength (length ts) ≤ room
   pub size : n ≡ fileLength (length ts)
 
-pub was-written : (s : Parameters) (ts ss ms : List ℕ) (room n : ℕ) → Done n ≡ writtenOf s ts ss ms room → WasWritten s ts ss ms room n
+pub was-written : (s : Heading) (ts ss ms : List ℕ) (room n : ℕ) → Done n ≡ writtenOf s ts ss ms room → WasWritten s ts ss ms room n
 unfolding writtenOf
 was-written s ts ss ms room n =
-    pick-either (λ w. Done n ≡ w → WasWritten s ts ss ms room n) (eqb (setUpRefusal s) 0)
-    (λ t e. go (scannedOf nothing false ts ss ms) refl (eqb-true (setUpRefusal s) 0 t) e) (λ t e. absurd (done-refused n _ 0 e))
+    pick-either (λ w. Done n ≡ w → WasWritten s ts ss ms room n) (eqb (headingRefusal s) 0)
+    (λ t e. go (scannedOf nothing false ts ss ms) refl (eqb-true (headingRefusal s) 0 t) e) (λ t e. absurd (done-refused n _ 0 e))
   where
-    go : (a : Scanned) → scannedOf nothing false ts ss ms ≡ a → setUpRefusal s ≡ 0
+    go : (a : Scanned) → scannedOf nothing false ts ss ms ≡ a → headingRefusal s ≡ 0
         → Done n ≡ scanning a (fileLength (length ts)) room → WasWritten s ts ss ms room n
     go (scan.Fine k) f u e =
         let d = fitting-done (fileLength (length ts)) room n e in
@@ -124,11 +146,11 @@ was-written s ts ss ms room n =
     go (scan.Refused r) f u e = absurd (done-refused n _ _ e)
 
 -- refused, the lent bytes stay; else they are the file and what was beyond it
-pub leaves-all : (s : Parameters) (ts ss ms out : List ℕ) {w : Written} {n o : ℕ} → w ≡ writtenOf s ts ss ms (length out) → w ≡ Refused n o
+pub leaves-all : (s : Heading) (ts ss ms out : List ℕ) {w : Written} {n o : ℕ} → w ≡ writtenOf s ts ss ms (length out) → w ≡ Refused n o
     → WriteGives s ts ss ms out w out
 leaves-all s ts ss ms out e f = record { answered = e; left = rw f refl }
 
-pub writes-file : (s : Parameters) (ts ss ms out : List ℕ) {after : List ℕ} {n : ℕ} → WasWritten s ts ss ms (length out) n
+pub writes-file : (s : Heading) (ts ss ms out : List ℕ) {after : List ℕ} {n : ℕ} → WasWritten s ts ss ms (length out) n
     → Done n ≡ writtenOf s ts ss ms (length out)
     → after ≡ sets (sets out 0 (headOf s)) headBytes (recordsOf (packets ts ss ms)) → WriteGives s ts ss ms out (Done n) after
 writes-file s ts ss ms out w e g =
@@ -139,7 +161,7 @@ writes-file s ts ss ms out w e g =
     }
 
 -- then the file stands in front
-pub writes-done : (s : Parameters) (ts ss ms out after : List ℕ) (n : ℕ) → WriteGives s ts ss ms out (Done n) after
+pub writes-done : (s : Heading) (ts ss ms out after : List ℕ) (n : ℕ) → WriteGives s ts ss ms out (Done n) after
     → take n after ≡ bytesIn s (packets ts ss ms)
 writes-done s ts ss ms out after n w =
     let was = was-written s ts ss ms (length out) n (w .answered) in

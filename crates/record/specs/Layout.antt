@@ -4,7 +4,7 @@ use Rattle.endian.specs.declared.Order.the-variants.{Big}
 use Rattle.endian.specs.Fields.{fieldBytes}
 use Rattle.packet.specs.declared.Packet.{Packet}
 use Rattle.limits.specs.declared.Parameters.{Parameters}
-use Rattle.record.specs.Paper.{parametersLength, packetLength}
+use Rattle.record.specs.Paper.{parametersLength, packetLength, Heading}
 
 -- F1, F3: "length (two bytes, big-endian, of the body), body. Kind 1, 16 bytes: kind, rate, schedule, class, height (2), n (4), MAXUDP (2),
 -- TRO (4"
@@ -31,16 +31,17 @@ parameterRecord s = fieldBytes Big parameterWidths (parameterFields s)
 abbrev pub packetRecord : Packet → List ℕ
 packetRecord p = fieldBytes Big packetWidths (packetFields p)
 
--- F1: the packets' records, and the whole file: "Version byte 1, then records"
+-- F1: the packets' records, and the whole file: the version byte, "then records"
 unfoldable pub recordsOf : List Packet → List ℕ
 recordsOf [] = []
 recordsOf (p ∷ ps) = packetRecord p ++ recordsOf ps
 
-abbrev pub headOf : Parameters → List ℕ
-headOf s = 1 ∷ parameterRecord s
+-- F12: "the writer writes the one asked for" (document 02, viii)
+abbrev pub headOf : Heading → List ℕ
+headOf h = h .version ∷ parameterRecord (h .parameters)
 
-unfoldable pub bytesIn : Parameters → List Packet → List ℕ
-bytesIn s ps = headOf s ++ recordsOf ps
+unfoldable pub bytesIn : Heading → List Packet → List ℕ
+bytesIn h ps = headOf h ++ recordsOf ps
 
 -- what packets of lent slices hold; no refusal but 11 bounds a marker, which then is 0 or 1
 abbrev pub PacketsHeld : List Packet → Type 0

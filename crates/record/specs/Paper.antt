@@ -1,17 +1,24 @@
 -- The record file: the sentences of document 01, each above what renders it. A list of bytes is read from its front:
 -- `l` is the rest of a file from one record's length on, and `at` that record's offset.
-use Rattle.laws.specs.Kit.{Bool, true, false, not, _&&_, List, [], _∷_, ℕ, zero, suc, _+_, ltb, eqb, length, drop, getD}
+use Rattle.laws.specs.Kit.{Bool, true, false, not, _&&_, _||_, List, [], _∷_, ℕ, zero, suc, _+_, ltb, eqb, length, drop, getD}
 use Rattle.laws.specs.Choose.{pick, orElse}
-use Rattle.limits.specs.Paper.{setUpRefusal}
+use Rattle.limits.specs.Paper.{setUpRefusal, given}
 use Rattle.packet.specs.declared.Past.{Past}
 use Rattle.packet.specs.declared.Packet.{Packet}
 use Rattle.packet.specs.Step.{nothing, numberOf, nextOf}
 use Rattle.endian.specs.Number.{numberAt}
 use Rattle.limits.specs.declared.Parameters.{Parameters}
 
--- F1: "Version byte 1": the empty file has no byte 1 either
+-- F1: "Version byte 1"; "Record files get version byte 2" (document 02, viii)
+unfoldable pub versionKnown : ℕ → Bool
+versionKnown version = eqb version 1 || eqb version 2
+
+-- F1: a file's first byte; the empty file has neither 1 nor 2
+abbrev pub versionOf : List ℕ → ℕ
+versionOf s = getD s 0 0
+
 abbrev pub versionFits : List ℕ → Bool
-versionFits s = eqb (getD s 0 0) 1
+versionFits s = versionKnown (versionOf s)
 
 -- F1: "then records: length (two bytes, big-endian, of the body), body."
 abbrev pub bodyLength : List ℕ → ℕ
@@ -51,6 +58,29 @@ parametersAt l = record {
   tro = numberAt 4 l 14;
 }
 
+-- F5: what a file tells before its packets, both as written
+pub record Heading : Type 0 where
+  pub version : ℕ
+  pub parameters : Parameters
+
+abbrev pub heading : ℕ → Parameters → Heading
+heading version parameters = record { version = version; parameters = parameters }
+
+-- F11: "version 1 files keep 0 as wide", whose number is 3
+abbrev pub firstClass : ℕ → ℕ
+firstClass zero = 3
+firstClass (suc class) = suc class
+
+-- F11: the class that a file of a version sets up with
+unfoldable pub classIn : ℕ → ℕ → ℕ
+classIn version class = pick (eqb version 1) (firstClass class) class
+
+-- F11: the parameters that it sets up with: set-up knows no version
+abbrev pub resolved : Heading → Parameters
+resolved h =
+    let p = h .parameters in
+    given (p .rate) (p .schedule) (classIn (h .version) (p .class)) (p .height) (p .n) (p .maxudp) (p .tro)
+
 -- F4: "Kind 2, 14 bytes: kind, arrival (8), timestamp (4), marker."
 abbrev pub packetAt : List ℕ → Packet
 packetAt l = record { time = numberAt 8 l 3; stamp = numberAt 4 l 11; marker = getD l 15 0 }
@@ -84,8 +114,8 @@ formatRefusal first l =
     22))))
 
 -- F7: 21 to 23 come "before set-up and packet refusals"
-abbrev pub parametersRefusal : List ℕ → ℕ
-parametersRefusal l = orElse (formatRefusal true l) (setUpRefusal (parametersAt l))
+abbrev pub parametersRefusal : ℕ → List ℕ → ℕ
+parametersRefusal version l = orElse (formatRefusal true l) (setUpRefusal (resolved (heading version (parametersAt l))))
 
 abbrev pub packetRefusal : Past → List ℕ → ℕ
 packetRefusal past l = orElse (formatRefusal false l) (numberOf past (packetAt l))
@@ -120,34 +150,34 @@ packetsBy (suc k) past at l =
 abbrev pub packetsIn : Past → ℕ → List ℕ → Packets
 packetsIn past at l = packetsBy (length l) past at l
 
--- what the bytes of a file read as: no stream numbers, with the number and offset of the refusal; or the stream numbers,
--- and the packets up to the first refusal or the end
+-- what the bytes of a file read as: no heading, with the number and offset of the refusal; or the heading, and the packets up to the
+-- first refusal or the end
 pub data Reading : Type 0 where
   unread : ℕ → ℕ → Reading
-  read : Parameters → Packets → Reading
+  read : Heading → Packets → Reading
 
-abbrev pub parametersIn : List ℕ → Reading
-parametersIn l =
-    pick (eqb (parametersRefusal l) 0)
-    (read (parametersAt l) (packetsIn nothing (1 + (2 + bodyLength l)) (drop (2 + bodyLength l) l)))
-    (unread (parametersRefusal l) 1)
+abbrev pub parametersIn : ℕ → List ℕ → Reading
+parametersIn version l =
+    pick (eqb (parametersRefusal version l) 0)
+    (read (heading version (parametersAt l)) (packetsIn nothing (1 + (2 + bodyLength l)) (drop (2 + bodyLength l) l)))
+    (unread (parametersRefusal version l) 1)
 
--- N1, F6, F7: "20 file empty, or version byte not 1": "its offset (0 for 20)"
+-- N1, F6, F7: "20 is given, first of all, for a version other than 1 or 2" (document 02, viii), as for "file empty": "its offset (0 for 20)"
 unfoldable pub readingOf : List ℕ → Reading
-readingOf s = pick (versionFits s) (parametersIn (drop 1 s)) (unread 20 0)
+readingOf s = pick (versionFits s) (parametersIn (versionOf s) (drop 1 s)) (unread 20 0)
 
--- a file as a whole: the stream numbers and the packets, or the number and the offset
+-- a file as a whole: the heading and the packets, or the number and the offset
 pub data File : Type 0 where
-  file : Parameters → List Packet → File
+  file : Heading → List Packet → File
   refused : ℕ → ℕ → File
 
-abbrev pub endedFile : Parameters → List Packet → Ending → File
-endedFile numbers ps done = file numbers ps
-endedFile numbers ps (stopped number offset) = refused number offset
+abbrev pub endedFile : Heading → List Packet → Ending → File
+endedFile h ps done = file h ps
+endedFile h ps (stopped number offset) = refused number offset
 
 abbrev pub asFile : Reading → File
 asFile (unread number offset) = refused number offset
-asFile (read numbers r) = endedFile numbers (r .accepted) (r .ending)
+asFile (read h r) = endedFile h (r .accepted) (r .ending)
 
 abbrev pub fileOf : List ℕ → File
 fileOf s = asFile (readingOf s)

@@ -1,7 +1,6 @@
 -- A file read by the cursor, call after call: whole, and in pieces, where the next piece is put behind what is held if more is wanted.
 use Rattle.laws.specs.Kit.{_≡_, Bool, true, false, List, [], _∷_, _++_, ℕ, zero, suc, _+_, _*_, _<_, length, drop}
 use Rattle.laws.specs.Choose.{pick}
-use Rattle.limits.specs.declared.Parameters.{Parameters}
 use Rattle.limits.specs.Paper.{setUpRefusal}
 use Rattle.packet.specs.declared.Past.{Past}
 use Rattle.packet.specs.declared.Packet as packet
@@ -11,7 +10,7 @@ use Rattle.record.specs.declared.Head.{Head}
 use Rattle.record.specs.declared.Head.the-variants as head
 use Rattle.record.specs.declared.Next.{Next}
 use Rattle.record.specs.declared.Next.the-variants.{Packet, End, More, Refused}
-use Rattle.record.specs.Paper.{packetBytes, headBytes, Ending, done, stopped, Reading, unread, read}
+use Rattle.record.specs.Paper.{packetBytes, headBytes, Heading, heading, resolved, Ending, done, stopped, Reading, unread, read}
 use Rattle.record.specs.Step.{cursor, headPiece, headRead, nextPiece, nextRead}
 
 -- whether reading goes on after an answer, at what offset, and how many bytes it took
@@ -136,17 +135,18 @@ unfoldable pub toldPackets : ℕ → List packet.Packet → List Next
 toldPackets at [] = []
 toldPackets at (p ∷ ps) = Packet p (cursor (at + packetBytes)) ∷ toldPackets (at + packetBytes) ps
 
--- version 1 and kind 1 with the parameters
-abbrev pub toldHead : Parameters → Head
-toldHead parameters = head.Ready 1 1 parameters (cursor headBytes)
+-- the version and kind 1 with the parameters
+abbrev pub toldHead : Heading → Head
+toldHead h = head.Ready (h .version) 1 (h .parameters) (cursor headBytes)
 
 -- the head, each packet in order, the end
-abbrev pub told : Parameters → List packet.Packet → Heard
-told parameters ps = record { head = toldHead parameters; after = toldPackets headBytes ps ++ (End ∷ []) }
+abbrev pub told : Heading → List packet.Packet → Heard
+told h ps = record { head = toldHead h; after = toldPackets headBytes ps ++ (End ∷ []) }
 
 -- a head is refused with this number and offset: by the reader itself, or by set-up, which refuses the parameters at offset 1
 abbrev pub HeadRefused : ℕ → ℕ → Head → Type 0
-HeadRefused number offset (head.Ready version kind parameters c) = (setUpRefusal parameters ≡ number) × (offset ≡ 1)
+HeadRefused number offset (head.Ready version kind parameters c) =
+    (setUpRefusal (resolved (heading version parameters)) ≡ number) × (offset ≡ 1)
 HeadRefused number offset head.More = ⊥
 HeadRefused number offset (head.Refused n o) = (n ≡ number) × (o ≡ offset)
 
@@ -175,4 +175,4 @@ AnsweredBy past at ps (stopped number offset) l =
 -- F6: the answers of a file are its records: all of them and the end, or those up to the refusal, with its number and offset
 abbrev pub Answered : Reading → Heard → Type 0
 Answered (unread number offset) y = HeadRefused number offset (y .head)
-Answered (read parameters r) y = (y .head ≡ toldHead parameters) × AnsweredBy nothing headBytes (r .accepted) (r .ending) (y .after)
+Answered (read h r) y = (y .head ≡ toldHead h) × AnsweredBy nothing headBytes (r .accepted) (r .ending) (y .after)

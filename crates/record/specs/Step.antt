@@ -1,6 +1,6 @@
 -- What the reader answers: how a record is framed, and from that the head of a file and what comes after it, of the whole rest of a file
 -- and of a piece of it. What the contracts cite; proofs/Saying.antt says what it is in document 01's words.
-use Rattle.laws.specs.Kit.{_≡_, Bool, true, _&&_, List, ℕ, _+_, _%_, _^_, _≤_, _<_, ltb, leb, eqb, length, drop, getD}
+use Rattle.laws.specs.Kit.{_≡_, Bool, true, _&&_, List, ℕ, _+_, _%_, _^_, _≤_, _<_, ltb, leb, eqb, length, drop}
 use Rattle.laws.specs.Choose.{pick}
 use Rattle.record.specs.declared.Cursor.{Cursor}
 use Rattle.record.specs.declared.Framed.{Framed}
@@ -10,7 +10,7 @@ use Rattle.record.specs.declared.Head.the-variants as head
 use Rattle.record.specs.declared.Next.{Next}
 use Rattle.record.specs.declared.Next.the-variants as next
 use Rattle.record.specs.Paper.{packetLength, packetBytes, headBytes}
-use Rattle.record.specs.Paper.{versionFits, bodyLength, kindOf, parametersAt, packetAt, isParameters, kindLength}
+use Rattle.record.specs.Paper.{versionOf, versionFits, bodyLength, kindOf, parametersAt, packetAt, isParameters, kindLength}
 
 -- ---- framing: what stands in front of a window, after which more may come unless it is the last
 
@@ -54,7 +54,7 @@ headBy version l framed.More = head.More
 unfoldable pub headPiece : List ℕ → Bool → Head
 headPiece w last =
     pick (eqb (length w) 0) (pick last (head.Refused 20 0) head.More)
-    (pick (versionFits w) (headBy (getD w 0 0) (drop 1 w) (framedOf (drop 1 w) last)) (head.Refused 20 0))
+    (pick (versionFits w) (headBy (versionOf w) (drop 1 w) (framedOf (drop 1 w) last)) (head.Refused 20 0))
 
 abbrev pub headRead : List ℕ → Head
 headRead s = headPiece s true

@@ -17,12 +17,12 @@ use Rattle.record.specs.declared.Next.{Next}
 use Rattle.record.specs.declared.Next.the-variants as next
 use Rattle.record.specs.declared.Checked.{Checked}
 use Rattle.record.specs.declared.Checked.the-variants.{Fine, Refused}
-use Rattle.record.specs.Paper.{packetBytes, packetAt, Ending, done, stopped, Packets, File, file, refused, fileOf}
+use Rattle.record.specs.Paper.{packetBytes, packetAt, Ending, done, stopped, Packets, resolved, File, file, refused, fileOf}
 use Rattle.record.specs.Step.{standsIn}
 
--- a file is fine with its stream numbers, how many packets it has, and how many frames they close
+-- a file is fine with the stream numbers that it sets up with, how many packets it has, and how many frames they close
 abbrev pub asChecked : File → Checked
-asChecked (file numbers ps) = Fine numbers (length ps) (count (closesAt ps) (length ps))
+asChecked (file h ps) = Fine (resolved h) (length ps) (count (closesAt ps) (length ps))
 asChecked (refused number offset) = Refused number offset
 
 unfoldable pub checkedOf : List ℕ → Checked

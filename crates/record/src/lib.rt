@@ -14,16 +14,18 @@ use packet::Ran;
 use packet::Scanned;
 use packet::Tally;
 ghost use Rattle.laws.specs.Kit.{_≡_, true, false, _+_, _*_, _≤_, _<_, length, drop, sets};
+ghost use Rattle.laws.specs.Choose.{orElse};
 ghost use Rattle.endian.specs.Number.{Room};
 ghost use Rattle.record.specs.declared.Head.the-variants.{Refused};
 ghost use Rattle.packet.specs.Paper.{packets};
 ghost use Rattle.packet.specs.Quick.{startOf};
 ghost use Rattle.packet.specs.Step.{nothing, noPackets};
 ghost use Rattle.record.specs.Paper.{parametersBytes, packetBytes, headBytes};
-ghost use Rattle.record.specs.Paper.{parametersAt, packetAt, isParameters, kindLength, packetsIn};
+ghost use Rattle.record.specs.Paper.{versionKnown, heading, classIn, resolved, parametersAt, packetAt, isParameters, kindLength};
+ghost use Rattle.record.specs.Paper.{packetsIn};
 ghost use Rattle.record.specs.Step.{scrapOf, framedOf, Whole, firstOf, headBy, headPiece, after, packetOf, wholeOf, nextPiece, standsIn};
 ghost use Rattle.record.specs.Layout.{packetWith, packetRecord, headOf, recordsOf};
-ghost use Rattle.record.specs.Write.{writtenOf, WriteGives, Fitting};
+ghost use Rattle.record.specs.Write.{versionRefusal, headingRefusal, writtenOf, WriteGives, Fitting};
 ghost use Rattle.record.specs.Walk.{ranIn, recordsLeft, closing, refusedBy, finish, checkedOf};
 
 // Where the reader stands after the head of a file: at a packet, or at the end.
@@ -64,7 +66,8 @@ pub enum Next {
     Refused { number: u8, offset: u64, size: u64 },
 }
 
-// A whole file: fine, with the numbers of packets and of frames that close; or the number and offset of its first refusal.
+// A whole file: fine, with the parameters that it sets up with (`resolved`) and the numbers of packets and of frames that close; or
+// the number and offset of its first refusal.
 pub enum Checked {
     Fine {
         numbers: Parameters,
@@ -77,13 +80,14 @@ pub enum Checked {
     },
 }
 
-// The bytes that were written, or document 01's number and the refused packet's place; place 0 for 1 to 10 and 24.
+// The bytes that were written, or document 01's number and the refused packet's place; place 0 for 1 to 10, 20 and 24.
 pub enum Written {
     Done { bytes: usize },
     Refused { number: u8, place: u64 },
 }
 
-const VERSION: u8 = 1;
+// The class number that a version 1 file's 0 stands for.
+const WIDE: u8 = 3;
 
 const PARAMETERS: u8 = 1;
 
@@ -99,6 +103,44 @@ pub const PACKET_BYTES: usize = 2 + PACKET_LENGTH as usize;
 
 // The bytes of a file's head, its version byte and its parameters: `headBytes`.
 pub const HEAD_BYTES: usize = 1 + (2 + PARAMETERS_LENGTH as usize);
+
+// The one place that tells which versions there are.
+fn version_known(version: u8) -> bool
+    ensures { λ r. ⌜ r ≡ versionKnown version ⌝ }
+{
+    match version {
+        1 | 2 => true,
+        _ => false,
+    }
+}
+
+// The class that a file of a version sets up with: one of version 1 keeps 0 as wide.
+fn class_in(version: u8, class: u8) -> u8
+    ensures { λ r. ⌜ r ≡ classIn version class ⌝ }
+{
+    if version != 1 {
+        return class;
+    }
+    match class {
+        0 | 3 => WIDE,
+        1..=2 | 4..=255 => class,
+    }
+}
+
+// The parameters that a file of a version sets up with. A state knows no version.
+pub fn resolved(version: u8, written: Parameters) -> Parameters
+    ensures { λ r. ⌜ r ≡ resolved (heading version written) ⌝ }
+{
+    Parameters {
+        rate: written.rate,
+        schedule: written.schedule,
+        class: class_in(version, written.class),
+        height: written.height,
+        n: written.n,
+        maxudp: written.maxudp,
+        tro: written.tro,
+    }
+}
 
 // The one place that tells which kinds hold the parameters.
 fn is_parameters(kind: u8) -> bool
@@ -281,7 +323,7 @@ pub fn read_head(window: &[u8], last: bool) -> Head
         }
         return Head::More;
     }
-    if window[0] != VERSION {
+    if !version_known(window[0]) {
         return head_refused(20, 0);
     }
     first(window[0], &window[1..], last)
@@ -400,7 +442,7 @@ pub fn check(s: &[u8]) -> Checked
 {
     let head = read_head(s, true);
     let Head::Ready {
-        version: _,
+        version,
         kind: _,
         parameters,
         next,
@@ -408,14 +450,15 @@ pub fn check(s: &[u8]) -> Checked
     else {
         return refused_by(head);
     };
-    let number = parameters.refusal();
+    let numbers = resolved(version, parameters);
+    let number = numbers.refusal();
     if number != 0 {
         return Checked::Refused {
             number: number,
             offset: 1,
         };
     }
-    check_packets(parameters, next, s)
+    check_packets(numbers, next, s)
 }
 
 // How many packets' records fill the file from an offset on; 0 where there is none, or some bytes are too few for one.
@@ -497,17 +540,41 @@ fn walk_packets(numbers: Parameters, from: Cursor, s: &[u8]) -> Checked
     }
 }
 
+// Of two refusals the one that goes before, and the other where there is none.
+fn first_of(number: u8, later: u8) -> u8
+    ensures { λ r. ⌜ r ≡ orElse number later ⌝ }
+{
+    if number == 0 { later } else { number }
+}
+
+fn version_refusal(version: u8) -> u8
+    ensures { λ r. ⌜ r ≡ versionRefusal version ⌝ }
+{
+    if version_known(version) { 0 } else { 20 }
+}
+
+// What the writer refuses before it looks at a packet: the version first of all, then what set-up refuses; 0 where nothing is.
+fn heading_refusal(version: u8, written: Parameters) -> u8
+    ensures { λ r. ⌜ r ≡ headingRefusal (heading version written) ⌝ }
+{
+    let of_version = version_refusal(version);
+    let numbers = resolved(version, written);
+    let of_numbers = numbers.refusal();
+    first_of(of_version, of_numbers)
+}
+
 // What the writer would answer for so many lent bytes. It writes nothing.
 pub fn would_write(
+    version: u8,
     numbers: Parameters,
     arrivals: &[u64],
     stamps: &[u32],
     markers: &[u8],
     room: usize,
 ) -> Written
-    ensures { λ r. ⌜ r ≡ writtenOf numbers (now (arrivals .entry)) (now (stamps .entry)) (now (markers .entry)) room ⌝ }
+    ensures { λ r. ⌜ r ≡ writtenOf (heading version numbers) (now (arrivals .entry)) (now (stamps .entry)) (now (markers .entry)) room ⌝ }
 {
-    let number = numbers.refusal();
+    let number = heading_refusal(version, numbers);
     if number != 0 {
         return Written::Refused {
             number: number,
@@ -533,32 +600,33 @@ pub fn would_write(
     }
 }
 
-// The whole record file of these stream numbers and packets into lent bytes, or nothing where it is refused.
+// The whole record file of this version, these stream numbers and packets into lent bytes, or nothing where it is refused.
 pub fn write(
+    version: u8,
     numbers: Parameters,
     arrivals: &[u64],
     stamps: &[u32],
     markers: &[u8],
     out: &mut [u8],
 ) -> Written
-    ensures { λ r. ⌜ WriteGives numbers (now (arrivals .entry)) (now (stamps .entry)) (now (markers .entry))
+    ensures { λ r. ⌜ WriteGives (heading version numbers) (now (arrivals .entry)) (now (stamps .entry)) (now (markers .entry))
         (now (out .entry)) r (now (out .exit)) ⌝ }
 {
-    let answer = would_write(numbers, arrivals, stamps, markers, out.len());
+    let answer = would_write(version, numbers, arrivals, stamps, markers, out.len());
     let Written::Done { bytes } = answer else {
         return answer;
     };
-    write_parameters(numbers, out);
+    write_head(version, numbers, out);
     write_packets(arrivals, stamps, markers, out);
     Written::Done { bytes: bytes }
 }
 
 // The version byte and the parameters.
-fn write_parameters(numbers: Parameters, out: &mut [u8])
+fn write_head(version: u8, numbers: Parameters, out: &mut [u8])
     requires { ⌜ Room headBytes (now out) 0 ⌝ }
-    ensures { λ _. ⌜ now (out .exit) ≡ sets (now (out .entry)) 0 (headOf numbers) ⌝ }
+    ensures { λ _. ⌜ now (out .exit) ≡ sets (now (out .entry)) 0 (headOf (heading version numbers)) ⌝ }
 {
-    out[0] = VERSION;
+    out[0] = version;
     out[1] = 0;
     out[2] = PARAMETERS_LENGTH;
     out[3] = PARAMETERS;

@@ -1,23 +1,29 @@
 -- What the C calls do with a file and lent bytes: by cases on what the file reads as.
 use Rattle.laws.specs.Kit.{_≡_, refl, sym, ap, _∙_, Bool, true, false, List, _++_, map, append-nil, ℕ, _+_, _*_, _≤_, arith, leb}
-use Rattle.laws.specs.Kit.{ℤ, pos, length, drop, sets, drop-length, le-leb}
+use Rattle.laws.specs.Kit.{ℤ, pos, length, drop, sets, drop-length, length-append, le-leb}
 use Rattle.laws.specs.Choose.{pick}
 use Rattle.laws.proofs.Lay.{sets-front}
 use Rattle.packet.specs.declared.Packet.{Packet}
 use Rattle.timing.specs.declared.State.{State}
 use Rattle.timing.specs.declared.Fed.the-variants.{Accepted}
 use Rattle.frame.specs.Step.{rowWidth}
-use Rattle.timing.specs.Step.{ofParameters, rulesOf, freshOf, numbers}
+use Rattle.timing.specs.Step.{rulesOf, freshOf, numbers, ofParameters}
 use Rattle.timing.specs.Answers.{summaryOf}
 use Rattle.timing.specs.Feed.{feedAll}
 use Rattle.timing.proofs.InRange.{sound-fresh, of-sound}
 use Rattle.timing.proofs.Scanning.{numbers-length, scan-runs}
-use Rattle.limits.specs.declared.Parameters.{Parameters}
-use Rattle.record.specs.Paper.{File, file, refused, fileOf}
+use Rattle.record.specs.Paper.{Heading, File, file, refused, fileOf, resolved, Ending, done, stopped, endedFile, asFile, heading}
+use Rattle.record.specs.Paper.{firstClass, classIn}
 use Rattle.record.specs.Walk.{asChecked, checkedOf, checkedNumber, checkedOffset}
 use Rattle.record.proofs.ReadWrite.{file-holds}
-use Rattle.report.specs.Paper.{stateOf, rowsOf, encoded, bytesFor, answer, answered, answerOf}
-use Rattle.report.specs.Paper.{filled, filledBy}
+use Rattle.report.specs.Paper.{streamOf, stateOf, rowsOf, encoded, bytesFor, answer, answered, answerOf}
+use Rattle.report.specs.Paper.{Answer, reportOf, filled, filledBy}
+use Rattle.record.specs.Layout.{headOf}
+use Rattle.record.proofs.Writing.{length-head}
+use Rattle.record.proofs.Versions.{Held, Untold, read-alike, first-held, second-held, second-kept}
+use Rattle.limits.specs.declared.Parameters.{Parameters}
+use Rattle.limits.specs.Paper.{given}
+use Rattle.limits.specs.Steps.{ParametersHeld}
 
 module _ (s : List ℕ) where
   -- a refusal is the check's own, for each number that it gives
@@ -47,14 +53,14 @@ module _ (s : List ℕ) where
 
 -- the numbers are those of the measurement: one call of `feed` with the file's packets, from the fresh state and with just enough row
 -- numbers lent, is accepted, and the bytes are the nine numbers of its state and the row numbers that it wrote
-pub as-fed : (s : List ℕ) (w : Parameters) (ps : List Packet) → fileOf s ≡ file w ps → (rows : List ℤ)
-    → length rows ≡ length (numbers (rowsOf (ofParameters w) ps))
+pub as-fed : (s : List ℕ) (w : Heading) (ps : List Packet) → fileOf s ≡ file w ps → (rows : List ℤ)
+    → length rows ≡ length (numbers (rowsOf (streamOf w) ps))
     → (state : State) × (written : List ℤ)
-    × (feedAll (freshOf (ofParameters w)) rows ps ≡ record { answer = Accepted state; rows = written })
+    × (feedAll (freshOf (streamOf w)) rows ps ≡ record { answer = Accepted state; rows = written })
     × (bytesFor w ps ≡ encoded (map pos (summaryOf state) ++ written))
 unfolding feedAll
 as-fed s w ps e rows same =
-    let x = ofParameters w in
+    let x = streamOf w in
     let all = numbers (rowsOf x ps) in
     let holds = file-holds s w ps e in
     let counted = scan-runs ps (rulesOf x) (freshOf x) 0 (holds .closed) (holds .scan-fine) .1 in
@@ -71,4 +77,51 @@ as-fed s w ps e rows same =
         in-order,
       ),
       refl,
+    )
+
+-- F11: two files that set up alike are answered alike, whatever bytes follow their heads
+module _ (h k : Heading) (e : resolved h ≡ resolved k) where
+  file-untold : {A : Type 0} (g : File → A) → ((ps : List Packet) → g (file h ps) ≡ g (file k ps)) → Untold h k e (λ r. g (asFile r))
+  file-untold g same r = go (r .ending)
+    where
+      go : (d : Ending) → g (endedFile h (r .accepted) d) ≡ g (endedFile k (r .accepted) d)
+      go done = same (r .accepted)
+      go (stopped n o) = refl
+
+  bytes-alike : (ps : List Packet) → bytesFor h ps ≡ bytesFor k ps
+  bytes-alike ps = ap (λ (p : Parameters). encoded (reportOf (ofParameters p) ps)) e
+
+  module _ (l : List ℕ) (a : Held h) (b : Held k) where
+    pub answers-alike : (room : ℕ) → answerOf (headOf h ++ l) room ≡ answerOf (headOf k ++ l) room
+    unfolding answerOf
+    answers-alike room =
+        let long : length (headOf h ++ l) ≡ length (headOf k ++ l) =
+        length-append (headOf h) l ∙ rw (length-head h, ← length-head k) (sym (length-append (headOf k) l)) in
+        let by : File → Answer = answered (length (headOf h ++ l)) room in
+        read-alike h k e (λ r. by (asFile r)) (file-untold by (λ ps. rw (bytes-alike ps))) l a b
+        ∙ ap (λ (n : ℕ). answered n room (fileOf (headOf k ++ l))) long
+
+    pub filled-alike : (out : List ℕ) → filledBy (headOf h ++ l) out ≡ filledBy (headOf k ++ l) out
+    unfolding filledBy
+    filled-alike out =
+        read-alike h k e (λ r. filled out (asFile r)) (file-untold (filled out) (λ ps. rw (bytes-alike ps))) l a b
+
+-- F11: a file of version 1, and that of version 2 whose class 0 is written as 3
+pub first-measured : (p : Parameters) (ps : List Packet)
+    → bytesFor (heading 1 p) ps
+    ≡ encoded (reportOf (ofParameters (given (p .rate) (p .schedule) (firstClass (p .class)) (p .height) (p .n) (p .maxudp) (p .tro))) ps)
+unfolding classIn
+first-measured p ps = refl
+
+pub first-answered : (p : Parameters) (l out : List ℕ) → ParametersHeld p
+    → let s = headOf (heading 1 p) ++ l in
+    let t = headOf (heading 2 (resolved (heading 1 p))) ++ l in
+    (answerOf s (length out) ≡ answerOf t (length out)) × (filledBy s out ≡ filledBy t out)
+first-answered p l out held =
+    let q = resolved (heading 1 p) in
+    let same : q ≡ resolved (heading 2 q) = sym (second-kept q) in
+    let a = first-held p held in
+    let b = second-held p held in (
+      answers-alike (heading 1 p) (heading 2 q) same l a b (length out),
+      filled-alike (heading 1 p) (heading 2 q) same l a b out,
     )

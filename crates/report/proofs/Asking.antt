@@ -19,14 +19,14 @@ use Rattle.timing.specs.Answers.{summaryWidth, summaryOf}
 use Rattle.timing.proofs.Scanning.{numbers-length, scan-runs}
 use Rattle.limits.specs.declared.Parameters.{Parameters}
 use Rattle.record.specs.declared.Checked.the-variants as checked
-use Rattle.record.specs.Paper.{Packets, File, file, refused, fileOf}
+use Rattle.record.specs.Paper.{resolved, Heading, Packets, File, file, refused, fileOf}
 use Rattle.record.specs.Walk.{asChecked, checkedOf}
 use Rattle.record.specs.Write.{fileLength}
 use Rattle.record.proofs.Writing.{length-file}
 use Rattle.record.proofs.ReadWrite.{FileHolds, file-holds, file-again}
 use Rattle.report.specs.declared.Asked.{Asked}
 use Rattle.report.specs.declared.Asked.the-variants.{Fine, Refused}
-use Rattle.report.specs.Paper.{stateOf, rowsOf, reportOf, inBytes, encoded, bytesFor, answer, answered, answerOf}
+use Rattle.report.specs.Paper.{streamOf, stateOf, rowsOf, reportOf, inBytes, encoded, bytesFor, answer, answered, answerOf}
 use Rattle.report.specs.Paper.{numberBytes, roomFor, roomOf, filled, filledBy}
 use Rattle.report.specs.Step.{neededBehind, needed, asAsked, askedOf, askedNumber, askedOffset, packetsOf, MeasureAsks, MeasureGives}
 use Rattle.report.proofs.Bytes.{nine, length-stored, length-encoded, encoded-append, naturals, front-last}
@@ -63,14 +63,14 @@ rows-closed x ps n e =
     let runs = scan-runs ps (rulesOf x) (freshOf x) 0 n e in
     omega (arith, runs .1, fine-count ps n (sym (scan-declared ps) ∙ e))
 
-length-needed : (s : List ℕ) (x : Parameters) (ps : List Packet) → FileHolds s x ps
+length-needed : (s : List ℕ) (x : Heading) (ps : List Packet) → FileHolds s x ps
     → length (bytesFor x ps) ≡ needed (count (closesAt ps) (length ps))
 length-needed s x ps h =
-    length-report (ofParameters x) ps
-    ∙ rw (numbers-length (rowsOf (ofParameters x) ps), rows-closed (ofParameters x) ps (h .closed) (h .scan-fine))
+    length-report (streamOf x) ps
+    ∙ rw (numbers-length (rowsOf (streamOf x) ps), rows-closed (streamOf x) ps (h .closed) (h .scan-fine))
 
 -- X1: the bytes of the nine numbers, and of a row for each packet that closes a frame
-pub room-counted : (s : List ℕ) (x : Parameters) (ps : List Packet) → fileOf s ≡ file x ps
+pub room-counted : (s : List ℕ) (x : Heading) (ps : List Packet) → fileOf s ≡ file x ps
     → roomOf s ≡ needed (count (closesAt ps) (length ps))
 unfolding roomOf
 room-counted s x ps e = ap roomFor e ∙ length-needed s x ps (file-holds s x ps e)
@@ -90,8 +90,10 @@ room-at-most s b = go (fileOf s) refl
 
 -- a file that the check finds fine, and the frames that it counts
 pub record FineFile (s : List ℕ) (x : Parameters) (closed : ℕ) : Type 0 where
+  pub told : Heading
   pub ps : List Packet
-  pub is-file : fileOf s ≡ file x ps
+  pub is-file : fileOf s ≡ file told ps
+  pub resolves : resolved told ≡ x
   pub as-many : count (closesAt ps) (length ps) ≡ closed
 
 checked-file : (s : List ℕ) (x : Parameters) (packets closed : ℕ) → checkedOf s ≡ checked.Fine x packets closed → FineFile s x closed
@@ -100,16 +102,16 @@ checked-file s x packets closed e = go (fileOf s) refl e
   where
     go : (f : File) → fileOf s ≡ f → asChecked f ≡ checked.Fine x packets closed → FineFile s x closed
     go (refused m p) g e = let z : _≡_ {A = ℕ} 0 1 = cc in absurd (omega arith)
-    go (file y ps) g e = let same : y ≡ x = cc in record { ps = ps; is-file = g ∙ rw same; as-many = cc }
+    go (file y ps) g e = record { told = y; ps = ps; is-file = g; resolves = cc; as-many = cc }
 
 module _ (s : List ℕ) (x : Parameters) (closed : ℕ) (f : FineFile s x closed) where
-  fine-long : length (bytesFor x (f .ps)) ≡ needed closed
-  fine-long = length-needed s x (f .ps) (file-holds s x (f .ps) (f .is-file)) ∙ ap needed (f .as-many)
+  fine-long : length (bytesFor (f .told) (f .ps)) ≡ needed closed
+  fine-long = length-needed s (f .told) (f .ps) (file-holds s (f .told) (f .ps) (f .is-file)) ∙ ap needed (f .as-many)
 
   -- no more frames than packets, of which there are at most 1,000,000,000
   fine-closed : closed ≤ 1000000000
   fine-closed =
-      let holds = file-holds s x (f .ps) (f .is-file) in
+      let holds = file-holds s (f .told) (f .ps) (f .is-file) in
       let few = fine-few (f .ps) (holds .closed) (sym (scan-declared (f .ps)) ∙ holds .scan-fine) in
       omega (arith, few, f .as-many, count-le (closesAt (f .ps)) (length (f .ps)))
 
@@ -149,7 +151,7 @@ module _ (s : List ℕ) (room : ℕ) where
   unfolding askedOf
   asked-by x packets closed e =
       let f = checked-file s x packets closed e in
-      sym (ap (asAsked (length s) room) (f .is-file) ∙ rw (fine-long s x closed f))
+      sym (ap (asAsked (length s) room) (f .is-file) ∙ rw (fine-long s x closed f, f .resolves))
 
   pub asked-room : (x : Parameters) (packets closed : ℕ) → checkedOf s ≡ checked.Fine x packets closed → leb (needed closed) room ≡ true
       → Fine (ofParameters x) ≡ askedOf s room
@@ -161,11 +163,11 @@ module _ (s : List ℕ) (room : ℕ) where
 
   -- a file that is fine, with room for its report
   pub record Fits (x : StreamNumbers) : Type 0 where
-    pub written : Parameters
+    pub written : Heading
     pub ps : List Packet
     pub is-file : fileOf s ≡ file written ps
     pub enough : length (bytesFor written ps) ≤ room
-    pub stream : ofParameters written ≡ x
+    pub stream : streamOf written ≡ x
 
   pub asked-fine : (x : StreamNumbers) → askedOf s room ≡ Fine x → Fits x
   unfolding askedOf
@@ -176,7 +178,7 @@ module _ (s : List ℕ) (room : ℕ) where
       go (file y ps) g e = by (leb (length (bytesFor y ps)) room) refl e
         where
           by : (t : Bool) → leb (length (bytesFor y ps)) room ≡ t
-              → pick t (Fine (ofParameters y)) (Refused 15 (length s)) ≡ Fine x → Fits x
+              → pick t (Fine (streamOf y)) (Refused 15 (length s)) ≡ Fine x → Fits x
           by true q e = record { written = y; ps = ps; is-file = g; enough = leb-true _ _ q; stream = cc }
           by false q e = let z : _≡_ {A = ℕ} 0 1 = cc in absurd (omega arith)
 
@@ -191,8 +193,8 @@ module _ (s : List ℕ) (room : ℕ) where
       go (file y ps) = by (leb (length (bytesFor y ps)) room)
         where
           by : (t : Bool) → pick t (answer 0 0) (answer 15 (length s))
-              ≡ answer (askedNumber (pick t (Fine (ofParameters y)) (Refused 15 (length s))))
-              (askedOffset (pick t (Fine (ofParameters y)) (Refused 15 (length s))))
+              ≡ answer (askedNumber (pick t (Fine (streamOf y)) (Refused 15 (length s))))
+              (askedOffset (pick t (Fine (streamOf y)) (Refused 15 (length s))))
           by true = refl
           by false = refl
 
@@ -205,12 +207,12 @@ module _ (s : List ℕ) (room : ℕ) where
   pub fits-measurable : (x : StreamNumbers) → Fits x → MeasureAsks x s room
   fits-measurable x h =
       let holds = file-holds s (h .written) (h .ps) (h .is-file) in
-      let long = length-report (ofParameters (h .written)) (h .ps) in
+      let long = length-report (streamOf (h .written)) (h .ps) in
       record {
         set-up = rw (← h .stream) (holds .set-up);
         whole = ap (λ (r : Packets). r .ending) (holds .all-read);
         fits = rw (← h .stream, fits-packets x h)
-            (omega (arith, h .enough, long, length-encoded (numbers (rowsOf (ofParameters (h .written)) (h .ps)))));
+            (omega (arith, h .enough, long, length-encoded (numbers (rowsOf (streamOf (h .written)) (h .ps)))));
       }
 
 -- ---- the lent bytes
@@ -223,7 +225,7 @@ refused-leaves s out n o e = go (fileOf s) e
     go (refused m p) e = refl
     go (file y ps) e = by (leb (length (bytesFor y ps)) (length out)) e
       where
-        by : (t : Bool) → pick t (Fine (ofParameters y)) (Refused 15 (length s)) ≡ Refused n o
+        by : (t : Bool) → pick t (Fine (streamOf y)) (Refused 15 (length s)) ≡ Refused n o
             → out ≡ pick t (bytesFor y ps ++ drop (length (bytesFor y ps)) out) out
         by true e = let z : _≡_ {A = ℕ} 0 1 = cc in absurd (omega arith)
         by false e = refl
@@ -233,7 +235,7 @@ pub report-filled : (s out : List ℕ) (x : StreamNumbers) {state : State} {rows
     → MeasureGives x s out state rows → after ≡ sets rows 0 (inBytes (summaryOf state)) → after ≡ filledBy s out
 unfolding filledBy
 report-filled s out x {state} {rows} {after} h m e =
-    let y = ofParameters (h .written) in
+    let y = streamOf (h .written) in
     let front = inBytes (summaryOf (stateOf y (h .ps))) in
     let behind = encoded (numbers (rowsOf y (h .ps))) in
     let whole : bytesFor (h .written) (h .ps) ≡ front ++ behind =

@@ -1,5 +1,6 @@
 -- The other C functions, one law for each way out: the writer's answer as a number, the four limits, the next read, the three
 -- doubles.
+use Rattle.record.specs.Paper.{Heading}
 use Rattle.laws.specs.Kit.{_≡_, refl, sym, ap, _∙_, Bool, true, false, List, [], _∷_, _++_, ℕ, _≤_, _<_, arith, leb, eqb, ℤ, length}
 use Rattle.laws.specs.Kit.{drop, sets, sets-eq, ne-eqb}
 use Rattle.laws.specs.Kit.{eqb-false, le-leb, lt-leb}
@@ -23,16 +24,14 @@ use Rattle.timing.specs.Step.{setUpOf}
 use Rattle.timing.specs.Answers.{graphOf, nextOf, awaitedNumber}
 use Rattle.timing.proofs.Awaiting.{refused-some}
 use Rattle.timing.proofs.Answering.{set-up-first, room-short, room-there}
-use Rattle.limits.specs.declared.Parameters.{Parameters}
 use Rattle.record.specs.declared.Written.{Written}
 use Rattle.record.specs.declared.Written.the-variants.{Done}
-use Rattle.limits.specs.Paper.{setUpRefusal}
 use Rattle.record.specs.Layout.{bytesIn}
 use Rattle.record.specs.Write as record-write
 use Rattle.report.specs.Paper.{limitsOf, limitsNumber, limitsLeft, awaitedNumbers, nextReadNumber, nextReadLeft}
 use Rattle.report.specs.Step.{WriteGives, LimitsGives, ThreeGive, NextReadGives, drawNumber, drawLeft, DrawGives}
 
-pub writes-as : (s : Parameters) (ts ss ms out : List ℕ) {w v : Written} {after : List ℕ} → record-write.WriteGives s ts ss ms out w after
+pub writes-as : (s : Heading) (ts ss ms out : List ℕ) {w v : Written} {after : List ℕ} → record-write.WriteGives s ts ss ms out w after
     → w ≡ v → WriteGives s ts ss ms out (record-write.writtenNumber v) after
 writes-as s ts ss ms out h e = record {
   number-is = ap record-write.writtenNumber (sym e ∙ h .answered);
@@ -40,12 +39,12 @@ writes-as s ts ss ms out h e = record {
 }
 
 -- a number of 0 says that the file was written: every refusal of the writer's has another
-number-zero : (s : Parameters) (ts ss ms : List ℕ) (room : ℕ) → record-write.writtenNumber (record-write.writtenOf s ts ss ms room) ≡ 0
+number-zero : (s : Heading) (ts ss ms : List ℕ) (room : ℕ) → record-write.writtenNumber (record-write.writtenOf s ts ss ms room) ≡ 0
     → record-write.writtenOf s ts ss ms room ≡ Done (record-write.fileLength (length ts))
 unfolding record-write.writtenOf
 number-zero s ts ss ms room =
-    let set-up = setUpRefusal s in
-    pick-either P (eqb set-up 0) (λ t. by (scannedOf nothing false ts ss ms) refl) (λ t e. absurd (eqb-false set-up 0 t e))
+    let number = record-write.headingRefusal s in
+    pick-either P (eqb number 0) (λ t. by (scannedOf nothing false ts ss ms) refl) (λ t e. absurd (eqb-false number 0 t e))
   where
     size : ℕ
     size = record-write.fileLength (length ts)
@@ -57,7 +56,7 @@ number-zero s ts ss ms room =
     by (scan.Fine n) f = pick-either P (leb size room) (λ t e. refl) (λ t e. absurd (omega arith))
     by (scan.Refused r) f = λ e. absurd (scanned-some nothing false ts ss ms r f e)
 
-pub written-whole : (s : Parameters) (ts ss ms out : List ℕ) {after : List ℕ} → WriteGives s ts ss ms out 0 after
+pub written-whole : (s : Heading) (ts ss ms out : List ℕ) {after : List ℕ} → WriteGives s ts ss ms out 0 after
     → record-write.WriteGives s ts ss ms out (Done (record-write.fileLength (length ts))) after
 written-whole s ts ss ms out h =
     let done = number-zero s ts ss ms (length out) (sym (h .number-is)) in

@@ -1,10 +1,10 @@
 -- Each contract here that is a record of equations admits one answer: what meets it is what it names. The other contracts are
 -- equations, or what a run gives and what is put (timing's `ran-unique`, laws' `put-unique`).
+use Rattle.record.specs.Paper.{Heading}
 use Rattle.laws.specs.Kit.{_≡_, List, ℕ, ℤ}
 use lib.Ieee.{Float}
 use Rattle.laws.proofs.Unique.{one-answer}
 use Rattle.timing.specs.declared.StreamNumbers.{StreamNumbers}
-use Rattle.limits.specs.declared.Parameters.{Parameters}
 use Rattle.report.specs.Step.{CallGives, WriteGives, LimitsGives, NextReadGives, DrawGives}
 
 -- ---- the C functions: the number, and what the lent slice holds then
@@ -12,7 +12,7 @@ use Rattle.report.specs.Step.{CallGives, WriteGives, LimitsGives, NextRe
 pub measures-unique : (s out : List ℕ) (a b : ℕ) (p q : List ℕ) → CallGives s out a p → CallGives s out b q → (a ≡ b) × (p ≡ q)
 measures-unique s out a b p q x y = (one-answer (x .number-is) (y .number-is), one-answer (x .bytes-are) (y .bytes-are))
 
-pub writes-unique : (s : Parameters) (ts ss ms out : List ℕ) (a b : ℕ) (p q : List ℕ) → WriteGives s ts ss ms out a p
+pub writes-unique : (s : Heading) (ts ss ms out : List ℕ) (a b : ℕ) (p q : List ℕ) → WriteGives s ts ss ms out a p
     → WriteGives s ts ss ms out b q → (a ≡ b) × (p ≡ q)
 writes-unique s ts ss ms out a b p q x y = (one-answer (x .number-is) (y .number-is), one-answer (x .bytes-are) (y .bytes-are))
 

@@ -9,22 +9,21 @@ use Rattle.endian.specs.Number.{numberOf, bytesOf}
 use Rattle.endian.proofs.Width.{length-bytes, number-bytes}
 use Rattle.packet.specs.declared.Packet.{Packet}
 use Rattle.frame.proofs.RowsFit.{AllFit, fit-append, fit-at}
-use Rattle.timing.specs.Step.{ofParameters, rulesOf, freshOf}
+use Rattle.timing.specs.Step.{rulesOf, freshOf}
 use Rattle.timing.specs.Answers.{summaryOf}
 use Rattle.timing.proofs.InRange.{sound-fresh}
 use Rattle.timing.proofs.Dealing.{sound-after}
 use Rattle.timing.proofs.Scanning.{scan-runs}
 use Rattle.timing.proofs.Fitting.{summary-fits, rows-fit}
-use Rattle.limits.specs.declared.Parameters.{Parameters}
-use Rattle.record.specs.Paper.{file, fileOf}
+use Rattle.record.specs.Paper.{Heading, file, fileOf}
 use Rattle.record.proofs.ReadWrite.{file-holds}
-use Rattle.report.specs.Paper.{numberBytes, stateOf, reportOf, signed, inBytes, encoded}
+use Rattle.report.specs.Paper.{streamOf, numberBytes, stateOf, reportOf, signed, inBytes, encoded}
 
 -- ---- the numbers of a report
 
-pub report-fits : (s : List ℕ) (w : Parameters) (ps : List Packet) → fileOf s ≡ file w ps → AllFit (reportOf (ofParameters w) ps)
+pub report-fits : (s : List ℕ) (w : Heading) (ps : List Packet) → fileOf s ≡ file w ps → AllFit (reportOf (streamOf w) ps)
 report-fits s w ps e =
-    let x = ofParameters w in
+    let x = streamOf w in
     let holds = file-holds s w ps e in
     let sound = sound-fresh x (holds .set-up) in
     let passes = scan-runs ps (rulesOf x) (freshOf x) 0 (holds .closed) (holds .scan-fine) .0 in

@@ -13,8 +13,7 @@ use Rattle.timing.specs.declared.Awaited.{Awaited}
 use Rattle.timing.specs.declared.Awaited.the-variants.{In, NoneLeft, Refused}
 use Rattle.timing.specs.Answers.{summaryWidth, summaryOf, setUpAs, setUpNumber, nextOf, awaitedNumber}
 use Rattle.frame.specs.declared.Row.{Row}
-use Rattle.limits.specs.declared.Parameters.{Parameters}
-use Rattle.record.specs.Paper.{File, file, refused, fileOf}
+use Rattle.record.specs.Paper.{Heading, resolved, File, file, refused, fileOf}
 
 -- the state after the packets of a stream, and the rows of the frames that they close
 abbrev pub stateOf : StreamNumbers → List Packet → State
@@ -49,9 +48,13 @@ numberBytes = 8
 abbrev pub summaryBytes : ℕ
 summaryBytes = numberBytes * summaryWidth
 
+-- F11: the stream numbers that a file sets up with
+abbrev pub streamOf : Heading → StreamNumbers
+streamOf h = ofParameters (resolved h)
+
 -- the bytes of a file's report
-abbrev pub bytesFor : Parameters → List Packet → List ℕ
-bytesFor s ps = encoded (reportOf (ofParameters s) ps)
+abbrev pub bytesFor : Heading → List Packet → List ℕ
+bytesFor h ps = encoded (reportOf (streamOf h) ps)
 
 -- C5: the refusal number and the offset: "both are 0 when accepted"
 pub record Answer : Type 0 where
@@ -63,7 +66,7 @@ answer number offset = record { number = number; offset = offset }
 
 -- C4: "Too few bytes is 15 at the file's length, after all else"
 abbrev pub answered : ℕ → ℕ → File → Answer
-answered size room (file s ps) = pick (leb (length (bytesFor s ps)) room) (answer 0 0) (answer 15 size)
+answered size room (file h ps) = pick (leb (length (bytesFor h ps)) room) (answer 0 0) (answer 15 size)
 answered size room (refused number offset) = answer number offset
 
 -- what is answered of a file and so many lent bytes
@@ -72,7 +75,7 @@ answerOf s room = answered (length s) room (fileOf s)
 
 -- X1: how many lent bytes are enough: those of the report; none are needed to be told of a refusal
 abbrev pub roomFor : File → ℕ
-roomFor (file s ps) = length (bytesFor s ps)
+roomFor (file h ps) = length (bytesFor h ps)
 roomFor (refused number offset) = 0
 
 unfoldable pub roomOf : List ℕ → ℕ
@@ -80,7 +83,7 @@ roomOf s = roomFor (fileOf s)
 
 -- C1, C4: "bytes beyond stay"; "refused, it writes nothing"
 abbrev pub filled : List ℕ → File → List ℕ
-filled out (file s ps) = pick (leb (length (bytesFor s ps)) (length out)) (bytesFor s ps ++ drop (length (bytesFor s ps)) out) out
+filled out (file h ps) = pick (leb (length (bytesFor h ps)) (length out)) (bytesFor h ps ++ drop (length (bytesFor h ps)) out) out
 filled out (refused number offset) = out
 
 -- and what the lent bytes hold then

@@ -10,16 +10,16 @@ use Rattle.timing.specs.declared.StreamNumbers.{StreamNumbers}
 use Rattle.timing.specs.declared.State.{State}
 use Rattle.timing.specs.declared.Drawn.{Drawn}
 use Rattle.timing.specs.declared.Drawn.the-variants.{Figures, Refused as Not-Drawn}
-use Rattle.timing.specs.Step.{ofParameters, setUpOf, rulesOf, freshOf}
+use Rattle.timing.specs.Step.{setUpOf, rulesOf, freshOf}
 use Rattle.timing.specs.Answers.{summaryWidth, graphOf, drawnNumber}
 use Rattle.timing.specs.Feed.{RunGives}
-use Rattle.limits.specs.declared.Parameters.{Parameters}
-use Rattle.record.specs.Paper.{headBytes, done, packetsIn, File, file, refused, fileOf}
+use Rattle.record.specs.Paper.{headBytes, Heading, done, packetsIn, File, file, refused, fileOf}
 use Rattle.record.specs.Layout.{bytesIn}
 use Rattle.record.specs.Write.{writtenOf, writtenNumber, leftBy}
 use Rattle.report.specs.declared.Asked.{Asked}
 use Rattle.report.specs.declared.Asked.the-variants.{Fine, Refused}
-use Rattle.report.specs.Paper.{rowsOf, rowBytes, numberBytes, summaryBytes, bytesFor, answerOf, filledBy, limitsNumber, limitsLeft}
+use Rattle.report.specs.Paper.{rowsOf, rowBytes, numberBytes, summaryBytes, streamOf, bytesFor, answerOf, filledBy, limitsNumber}
+use Rattle.report.specs.Paper.{limitsLeft}
 use Rattle.report.specs.Paper.{nextReadNumber, nextReadLeft}
 
 -- the bytes of some numbers in front, and of a row for each frame closed; nine stand in front of a file's rows
@@ -31,7 +31,7 @@ needed closed = neededBehind summaryWidth closed
 
 -- a file and the room for its report
 abbrev pub asAsked : ℕ → ℕ → File → Asked
-asAsked size room (file s ps) = pick (leb (length (bytesFor s ps)) room) (Fine (ofParameters s)) (Refused 15 size)
+asAsked size room (file h ps) = pick (leb (length (bytesFor h ps)) room) (Fine (streamOf h)) (Refused 15 size)
 asAsked size room (refused number offset) = Refused number offset
 
 unfoldable pub askedOf : List ℕ → ℕ → Asked
@@ -68,9 +68,9 @@ pub record CallGives (s out : List ℕ) (number : ℕ) (after : List ℕ) : Type
   pub bytes-are : after ≡ filledBy s out
 
 -- X4: the writer for C: the number, and what it leaves in the lent bytes
-pub record WriteGives (s : Parameters) (ts ss ms out : List ℕ) (number : ℕ) (after : List ℕ) : Type 0 where
-  pub number-is : number ≡ writtenNumber (writtenOf s ts ss ms (length out))
-  pub bytes-are : after ≡ leftBy (writtenOf s ts ss ms (length out)) (bytesIn s (packets ts ss ms)) out
+pub record WriteGives (h : Heading) (ts ss ms out : List ℕ) (number : ℕ) (after : List ℕ) : Type 0 where
+  pub number-is : number ≡ writtenNumber (writtenOf h ts ss ms (length out))
+  pub bytes-are : after ≡ leftBy (writtenOf h ts ss ms (length out)) (bytesIn h (packets ts ss ms)) out
 
 pub record LimitsGives (x : StreamNumbers) (out : List ℕ) (number : ℕ) (after : List ℕ) : Type 0 where
   pub number-is : number ≡ limitsNumber x (length out)

@@ -21,6 +21,7 @@ ghost use Rattle.timing.specs.Feed.{closing, LayAsks};
 ghost use Rattle.timing.specs.Range.{inRange};
 ghost use Rattle.timing.specs.Step.{ofParameters};
 ghost use Rattle.limits.specs.Paper.{given};
+ghost use Rattle.record.specs.Paper.{heading};
 ghost use Rattle.record.specs.Write.{writtenOf, writtenPlace};
 ghost use Rattle.report.specs.Paper.{inBytes, encoded, rowBytes, summaryBytes, answerOf, roomOf};
 ghost use Rattle.report.specs.Step.{neededBehind, askedOf, MeasureAsks, MeasureGives, CallGives, WriteGives, LimitsGives, DrawGives};
@@ -206,6 +207,7 @@ pub extern "C" fn vtiming_measure_room(file: &[u8]) -> u64
 // A record file written: the refusal number and nothing written; or 0, and the file stands in front.
 #[no_mangle]
 pub extern "C" fn vtiming_write(
+    version: u8,
     rate: u8,
     schedule: u8,
     class: u8,
@@ -218,7 +220,7 @@ pub extern "C" fn vtiming_write(
     markers: &[u8],
     out: &mut [u8],
 ) -> u32
-    ensures { λ r. ⌜ WriteGives (given rate schedule class height n maxudp tro)
+    ensures { λ r. ⌜ WriteGives (heading version (given rate schedule class height n maxudp tro))
         (now (arrivals .entry)) (now (stamps .entry)) (now (markers .entry)) (now (out .entry)) r (now (out .exit)) ⌝ }
 {
     let numbers = Parameters {
@@ -230,7 +232,7 @@ pub extern "C" fn vtiming_write(
         maxudp,
         tro,
     };
-    let written = record::write(numbers, arrivals, stamps, markers, out);
+    let written = record::write(version, numbers, arrivals, stamps, markers, out);
     match written {
         Written::Done { bytes: _ } => 0,
         Written::Refused { number, place: _ } => number as u32,
@@ -240,6 +242,7 @@ pub extern "C" fn vtiming_write(
 // The twin: the place of the packet that is refused.
 #[no_mangle]
 pub extern "C" fn vtiming_write_place(
+    version: u8,
     rate: u8,
     schedule: u8,
     class: u8,
@@ -252,7 +255,7 @@ pub extern "C" fn vtiming_write_place(
     markers: &[u8],
     room: usize,
 ) -> u64
-    ensures { λ r. ⌜ r ≡ writtenPlace (writtenOf (given rate schedule class height n maxudp tro)
+    ensures { λ r. ⌜ r ≡ writtenPlace (writtenOf (heading version (given rate schedule class height n maxudp tro))
         (now (arrivals .entry)) (now (stamps .entry)) (now (markers .entry)) room) ⌝ }
 {
     let numbers = Parameters {
@@ -264,7 +267,7 @@ pub extern "C" fn vtiming_write_place(
         maxudp,
         tro,
     };
-    let written = record::would_write(numbers, arrivals, stamps, markers, room);
+    let written = record::would_write(version, numbers, arrivals, stamps, markers, room);
     match written {
         Written::Done { bytes: _ } => 0,
         Written::Refused { number: _, place } => place,

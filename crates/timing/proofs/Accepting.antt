@@ -10,7 +10,7 @@ use Rattle.grain.specs.declared.NextRead.{NextRead}
 use Rattle.grain.specs.Paper.{InstantBy}
 use Rattle.grain.specs.Carry.{nextAfter}
 use Rattle.limits.specs.Fraction.{Same}
-use Rattle.limits.specs.Paper.{classOf, readSpacing}
+use Rattle.limits.specs.Paper.{senderClass, readSpacing}
 use Rattle.limits.specs.Accepted.{Accepted}
 use Rattle.limits.proofs.Accepting.{accepted}
 use Rattle.limits.proofs.Facts.{spacing}
@@ -70,19 +70,19 @@ module _ (h : AcceptedHistory) where
   long : 0 < frameOf (h .stream)
   long = omega (arith, frame-long (h .stream) (h .set-up))
 
-  pub limit-exact : CMaxIs (classOf (h .stream .parameters .class)) (h .stream .parameters .schedule) (frameOf (h .stream))
+  pub limit-exact : CMaxIs (senderClass (h .stream .parameters)) (h .stream .parameters .schedule) (frameOf (h .stream))
       (h .stream .parameters .n) (limit h)
   unfolding rulesOf
   limit-exact =
       let p = h .stream .parameters in
-      c-max-is (frameOf (h .stream)) (p .n) long (classOf (p .class)) (p .schedule) (is-accepted .class-fits)
+      c-max-is (frameOf (h .stream)) (p .n) long (senderClass p) (p .schedule) (is-accepted .class-fits)
 
-  pub full-exact : VrxFullIs (classOf (h .stream .parameters .class)) (h .stream .parameters .maxudp) (frameOf (h .stream))
+  pub full-exact : VrxFullIs (senderClass (h .stream .parameters)) (h .stream .parameters .maxudp) (frameOf (h .stream))
       (h .stream .parameters .n) (plan h .full)
   unfolding rulesOf
   full-exact =
       let p = h .stream .parameters in
-      vrx-full-is (frameOf (h .stream)) (p .n) long (classOf (p .class)) (p .schedule) (p .maxudp) (is-accepted .class-fits) some
+      vrx-full-is (frameOf (h .stream)) (p .n) long (senderClass p) (p .schedule) (p .maxudp) (is-accepted .class-fits) some
     where
       some : 0 < h .stream .parameters .maxudp
       some = ⊎-elim (λ e. omega arith) (λ e. omega arith) (is-accepted .maxudp-known)

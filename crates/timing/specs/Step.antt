@@ -3,7 +3,7 @@ use Rattle.laws.specs.Kit.{List, [], _∷_, _++_, ℕ, _+_, _*_, _/_, _%_, ℤ}
 use Rattle.laws.specs.Choose.{pick}
 use Rattle.laws.specs.Fold.{fold}
 use Rattle.grain.specs.Paper.{grains}
-use Rattle.limits.specs.Paper.{frameLength, classOf, cMax, vrxFull, troGrains, readNum, readDen, setUpRefusal}
+use Rattle.limits.specs.Paper.{frameLength, senderClass, cMax, vrxFull, troGrains, readNum, readDen, setUpRefusal}
 use Rattle.limits.specs.declared.Parameters.{Parameters}
 use Rattle.packet.specs.declared.Packet.{Packet}
 use Rattle.packet.specs.Paper.{marked}
@@ -35,10 +35,10 @@ rulesOf x = record {
     packets = x .parameters .n;
     tro = troGrains (frameOf x) (x .parameters .height) (x .parameters .tro);
     reads = record { num = readNum (x .parameters .schedule) (frameOf x); den = readDen (x .parameters .schedule) (x .parameters .n) };
-    full = vrxFull (classOf (x .parameters .class)) (x .parameters .maxudp) (frameOf x) (x .parameters .n);
+    full = vrxFull (senderClass (x .parameters)) (x .parameters .maxudp) (frameOf x) (x .parameters .n);
   };
   drains = record { num = 10 * frameOf x; den = 11 * x .parameters .n };
-  limit = cMax (classOf (x .parameters .class)) (x .parameters .schedule) (frameOf x) (x .parameters .n);
+  limit = cMax (senderClass (x .parameters)) (x .parameters .schedule) (frameOf x) (x .parameters .n);
 }
 
 -- B7: the state before the first packet

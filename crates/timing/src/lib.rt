@@ -132,6 +132,7 @@ impl StreamNumbers {
     {
         let frame = self.frame_length();
         let p = self.parameters;
+        let class = limits::class_of(p.class, p.schedule);
         let plan = Plan {
             period: frame,
             packets: p.n as u64,
@@ -140,7 +141,7 @@ impl StreamNumbers {
                 num: limits::read_num(p.schedule, frame),
                 den: limits::read_den(p.schedule, p.n),
             },
-            full: limits::vrx_full(p.class, p.maxudp, frame, p.n),
+            full: limits::vrx_full(class, p.maxudp, frame, p.n),
         };
         Rules {
             plan,
@@ -148,7 +149,7 @@ impl StreamNumbers {
                 num: 10 * frame,
                 den: 11 * (p.n as u64),
             },
-            limit: limits::c_max(p.class, p.schedule, frame, p.n),
+            limit: limits::c_max(class, p.schedule, frame, p.n),
         }
     }
 

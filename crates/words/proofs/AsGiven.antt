@@ -1,12 +1,14 @@
 -- Nine numbers put in their places are refused, and measured, as they are given, whatever their size: set-up, the offset's test and so the
 -- whole output are the same. By one law: what cannot tell a number too large from what stands instead of it cannot tell it from the number.
-use Rattle.laws.specs.Kit.{_≡_, refl, sym, ap, _∙_, _⊎_, inl, inr, Bool, true, false, and-false, List, [], _∷_, ℕ, _*_, _≤_, _<_, arith}
+use Rattle.laws.specs.Kit.{_≡_, refl, sym, ap, _∙_, _⊎_, inl, inr, Bool, true, false, and-false, List, [], _∷_, ℕ, zero, suc, _*_, _≤_}
+use Rattle.laws.specs.Kit.{_<_, arith}
 use Rattle.laws.specs.Kit.{leb, eqb, leb-false, leb-true, lt-leb, le-ltb, ne-eqb, eqb-true}
 use Rattle.laws.specs.Choose.{pick}
 use Rattle.laws.proofs.Choose.{false-true}
 use Rattle.limits.specs.declared.Class.{Class}
 use Rattle.limits.specs.declared.Class.the-variants.{Narrow, NarrowLinear, Wide, Unknown}
-use Rattle.limits.specs.Paper.{microsecond, frameLength, classOf, allOnes, within, classFits, maxudpKnown, troFits, firstNo, setUpRefusal}
+use Rattle.limits.specs.Paper.{microsecond, frameLength, strictOn, classOf, allOnes, within, classFits, maxudpKnown, troFits, firstNo}
+use Rattle.limits.specs.Paper.{setUpRefusal}
 use Rattle.limits.proofs.Laws.{past-rates, past-classes}
 use Rattle.limits.proofs.Rates.{frame-most}
 use Rattle.limits.proofs.Accepting.{accepted}
@@ -37,20 +39,31 @@ rate-alike = alike (within 1 8) 255 255 (λ x h. above 1 8 x (omega arith))
 schedule-alike : (x : ℕ) → within 0 1 (placed 255 255 x) ≡ within 0 1 x
 schedule-alike = alike (within 0 1) 255 255 (λ x h. above 0 1 x (omega arith))
 
-class-alike : (x : ℕ) → classOf (placed 255 255 x) ≡ classOf x
-class-alike = alike classOf 255 255 (λ x h. sym (past-classes 255 (omega arith)) ∙ past-classes x (omega arith))
+class-alike : (s x : ℕ) → classOf (placed 255 255 x) s ≡ classOf x s
+class-alike s =
+    alike (λ (x : ℕ). classOf x s) 255 255 (λ x h. sym (past-classes 255 s (omega arith)) ∙ past-classes x s (omega arith))
 
-against-alike : (k : Class) (x : ℕ) → classFits k (placed 255 255 x) ≡ classFits k x
-against-alike k = alike (classFits k) 255 255 (go k)
+-- no class means another thing on another schedule above 0
+same-class : (x a b : ℕ) → 0 < a → 0 < b → classOf x a ≡ classOf x b
+unfolding classOf strictOn
+same-class x zero b h k = absurd (omega arith)
+same-class x (suc a) zero h k = absurd (omega arith)
+same-class x (suc a) (suc b) h k = refl
+
+against-alike : (x y : ℕ) → classFits (classOf x (placed 255 255 y)) (placed 255 255 y) ≡ classFits (classOf x y) y
+against-alike x =
+    alike (λ (y : ℕ). classFits (classOf x y) y) 255 255
+    (λ y h. go (classOf x 255) y h ∙ ap (λ (k : Class). classFits k y) (same-class x 255 y (omega arith) (omega arith)))
   where
-    go : (k : Class) (x : ℕ) → 255 < x → classFits k 255 ≡ classFits k x
-    go Narrow x h = sym (ne-eqb x 0 (omega arith))
-    go NarrowLinear x h = sym (ne-eqb x 1 (omega arith))
-    go Wide x h = refl
-    go Unknown x h = refl
+    go : (k : Class) (y : ℕ) → 255 < y → classFits k 255 ≡ classFits k y
+    go Narrow y h = sym (ne-eqb y 0 (omega arith))
+    go NarrowLinear y h = sym (ne-eqb y 1 (omega arith))
+    go Wide y h = refl
+    go Unknown y h = refl
 
-class-fits-alike : (x y : ℕ) → classFits (classOf (placed 255 255 x)) (placed 255 255 y) ≡ classFits (classOf x) y
-class-fits-alike x y = ap (λ (k : Class). classFits k (placed 255 255 y)) (class-alike x) ∙ against-alike (classOf x) y
+class-fits-alike : (x y : ℕ) → classFits (classOf (placed 255 255 x) (placed 255 255 y)) (placed 255 255 y) ≡ classFits (classOf x y) y
+class-fits-alike x y =
+    ap (λ (k : Class). classFits k (placed 255 255 y)) (class-alike (placed 255 255 y) x) ∙ against-alike x y
 
 height-alike : (x : ℕ) → within 1 65535 (placed 65535 insteadHeight x) ≡ within 1 65535 x
 height-alike = alike (within 1 65535) 65535 insteadHeight (λ x h. above 1 65535 x h)
@@ -104,13 +117,13 @@ module _ (x : Nine) where
   offset-as-given = offset-alike (x .offset)
 
   -- where nothing is refused, each number fits in its place
-  class-small : classFits (classOf (x .class)) (x .schedule) ≡ true → x .class ≤ 255
+  class-small : classFits (classOf (x .class) (x .schedule)) (x .schedule) ≡ true → x .class ≤ 255
   class-small e = go (leb (x .class) 255) refl
     where
       go : (t : Bool) → leb (x .class) 255 ≡ t → x .class ≤ 255
       go true f = leb-true (x .class) 255 f
       go false f =
-          let past = past-classes (x .class) (omega (arith, leb-false (x .class) 255 f)) in
+          let past = past-classes (x .class) (x .schedule) (omega (arith, leb-false (x .class) 255 f)) in
           absurd (false-true (ap (λ (k : Class). classFits k (x .schedule)) past ∙ e))
 
   tro-small : (x .tro ≡ allOnes) ⊎ (microsecond * x .tro < frameLength (x .rate)) → x .tro ≤ 4294967295

@@ -1,12 +1,9 @@
--- The class that the code stands for is known in each arm.
+-- The class is known in each arm.
 use Rattle.laws.specs.Kit.{refl}
 use Rattle.limits.proofs.Laws.{class-fits-told}
 use borrow.Author.Needs.{needs}
 use Rattle.limits.proofs.class_fits.Statement.{statement}
 use Rattle.limits.proofs.class_fits.Tie as tie
-
-class-of-requires : tie.Need-class-of-requires
-class-of-requires c κs = search needs
 
 enum-told : tie.Need-enum-told
 enum-told c = search needs
@@ -21,22 +18,21 @@ enum-told-4 : tie.Need-enum-told-4
 enum-told-4 c = search needs
 
 returns : tie.Need-returns
-returns c = class-fits-told (c .before .before .class-of .ensures) (c .enum-told .given .1) _ refl
+returns c = class-fits-told (c .enum-told .given .1) _ refl
 
 returns-2 : tie.Need-returns-2
-returns-2 c = class-fits-told (c .before .before .class-of .ensures) (c .enum-told2 .given .1) _ refl
+returns-2 c = class-fits-told (c .enum-told2 .given .1) _ refl
 
 returns-3 : tie.Need-returns-3
-returns-3 c = class-fits-told (c .before .before .class-of .ensures) (c .enum-told3 .given .1) _ refl
+returns-3 c = class-fits-told (c .enum-told3 .given .1) _ refl
 
 returns-4 : tie.Need-returns-4
-returns-4 c = class-fits-told (c .before .before .class-of .ensures) (c .enum-told4 .given .1) _ refl
+returns-4 c = class-fits-told (c .enum-told4 .given .1) _ refl
 
 pub class-fits-spec : {M : Type 1} → statement M
 class-fits-spec =
     tie.close
     (tie.spec
-    class-of-requires
     enum-told
     enum-told-2
     enum-told-3

@@ -1,13 +1,10 @@
--- The class that the code stands for is known in each arm; there document 01's formula is what was computed.
+-- The class is known in each arm; there document 01's formula is what was computed.
 use Rattle.laws.specs.Kit.{refl}
 use Rattle.limits.specs.Paper.{vrxFull}
 use Rattle.limits.proofs.Laws.{vrx-full-told}
 use borrow.Author.Needs.{needs}
 use Rattle.limits.proofs.vrx_full.Statement.{statement}
 use Rattle.limits.proofs.vrx_full.Tie as tie
-
-class-of-requires : tie.Need-class-of-requires
-class-of-requires c κs = search needs
 
 enum-told : tie.Need-enum-told
 enum-told c = search needs
@@ -32,25 +29,24 @@ enum-told-4 c = search needs
 
 returns : tie.Need-returns
 unfolding vrxFull
-returns c = vrx-full-told (c .before .before .before .class-of .ensures) (c .before .enum-told .given .1) _ _ _ (c .full .ensures)
+returns c = vrx-full-told (c .before .enum-told .given .1) _ _ _ (c .full .ensures)
 
 returns-2 : tie.Need-returns-2
 unfolding vrxFull
-returns-2 c = vrx-full-told (c .before .before .before .class-of .ensures) (c .before .enum-told2 .given .1) _ _ _ (c .full2 .ensures)
+returns-2 c = vrx-full-told (c .before .enum-told2 .given .1) _ _ _ (c .full2 .ensures)
 
 returns-3 : tie.Need-returns-3
 unfolding vrxFull
-returns-3 c = vrx-full-told (c .before .before .before .class-of .ensures) (c .before .enum-told3 .given .1) _ _ _ (c .full3 .ensures)
+returns-3 c = vrx-full-told (c .before .enum-told3 .given .1) _ _ _ (c .full3 .ensures)
 
 returns-4 : tie.Need-returns-4
 unfolding vrxFull
-returns-4 c = vrx-full-told (c .before .before .class-of .ensures) (c .enum-told4 .given .1) _ _ _ refl
+returns-4 c = vrx-full-told (c .enum-told4 .given .1) _ _ _ refl
 
 pub vrx-full-spec : {M : Type 1} → statement M
 vrx-full-spec =
     tie.close
     (tie.spec
-    class-of-requires
     enum-told
     full-requires
     enum-told-2

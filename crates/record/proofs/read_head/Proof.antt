@@ -1,5 +1,5 @@
 -- The version byte, and then the first record: each return is one law, from the tests before it.
-use Rattle.laws.specs.Kit.{sym, _∙_, arith}
+use Rattle.laws.specs.Kit.{sym, _∙_, arith, not-true, not-false}
 use Rattle.record.proofs.Ways.{head-none, head-waits, head-unknown, head-first, rest-all}
 use borrow.Author.Needs.{needs}
 use Rattle.record.proofs.read_head.Statement.{statement}
@@ -14,14 +14,19 @@ returns c = c .head-refused .ensures ∙ sym (head-none _ _ (omega arith) (cc))
 returns-2 : tie.Need-returns-2
 returns-2 c = sym (head-waits _ _ (omega arith) (cc))
 
-shared-slice-read-if3 : tie.Need-shared-slice-read-if3
-shared-slice-read-if3 c = search needs
+shared-slice-read-version-known : tie.Need-shared-slice-read-version-known
+shared-slice-read-version-known c = search needs
+
+version-known-requires : tie.Need-version-known-requires
+version-known-requires c κs = search needs
 
 head-refused-requires-2 : tie.Need-head-refused-requires-2
 head-refused-requires-2 c κs = search needs
 
 returns-3 : tie.Need-returns-3
-returns-3 c = c .head-refused2 .ensures ∙ sym (head-unknown _ _ (omega arith) (c .before .if3 .taken))
+returns-3 c =
+    let unknown = sym (c .before .before .version-known .ensures) ∙ not-true _ (c .before .if3 .taken) in
+    c .head-refused2 .ensures ∙ sym (head-unknown _ _ (omega arith) unknown)
 
 shared-slice-read-first : tie.Need-shared-slice-read-first
 shared-slice-read-first c = search needs
@@ -39,7 +44,10 @@ first-requires : tie.Need-first-requires
 first-requires c κs = search needs
 
 returns-4 : tie.Need-returns-4
-returns-4 c = c .first .ensures ∙ rw (rest-all _ _) (sym (head-first _ _ (omega arith) (cc)))
+returns-4 c =
+    let seen = c .before .before .before in
+    let known = sym (seen .before .version-known .ensures) ∙ not-false _ (seen .if3 .left) in
+    c .first .ensures ∙ rw (rest-all _ _) (sym (head-first _ _ (omega arith) known))
 
 pub read-head-spec : {M : Type 1} → statement M
 read-head-spec =
@@ -48,7 +56,8 @@ read-head-spec =
     head-refused-requires
     returns
     returns-2
-    shared-slice-read-if3
+    shared-slice-read-version-known
+    version-known-requires
     head-refused-requires-2
     returns-3
     shared-slice-read-first

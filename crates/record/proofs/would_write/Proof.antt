@@ -5,11 +5,11 @@ use Rattle.record.proofs.Writing.{scan-of, answers-set-up, answers-scan
 use Rattle.record.proofs.would_write.Statement.{statement}
 use Rattle.record.proofs.would_write.Tie as tie
 
-refusal-requires : tie.Need-refusal-requires
-refusal-requires c κs = search needs
+heading-refusal-requires : tie.Need-heading-refusal-requires
+heading-refusal-requires c κs = search needs
 
 returns : tie.Need-returns
-returns c = answers-set-up _ _ _ _ _ _ (sym (c .before .refusal .ensures)) (omega arith)
+returns c = answers-set-up _ _ _ _ _ _ (sym (c .before .heading-refusal .ensures)) (omega arith)
 
 none-requires : tie.Need-none-requires
 none-requires c κs = search needs
@@ -28,7 +28,7 @@ add-needed c =
     let told = c in
     let after-scan = told .before .before in
     let set-up = after-scan .before .before in
-    let fine = sym (set-up .before .refusal .ensures) ∙ set-up .if1 .left in
+    let fine = sym (set-up .before .heading-refusal .ensures) ∙ set-up .if1 .left in
     let scanned = scan-of _ _ _ (after-scan .before .none .ensures) (after-scan .scan .ensures) ∙ told .enum-told .given .1 in
     omega (arith, few-packets _ _ _ scanned)
 
@@ -37,7 +37,7 @@ returns-2 c =
     let told = c .before in
     let after-scan = told .before .before in
     let set-up = after-scan .before .before in
-    let fine = sym (set-up .before .refusal .ensures) ∙ set-up .if1 .left in
+    let fine = sym (set-up .before .heading-refusal .ensures) ∙ set-up .if1 .left in
     let scanned = scan-of _ _ _ (after-scan .before .none .ensures) (after-scan .scan .ensures) ∙ told .enum-told .given .1 in
     answers-24 _ _ _ _ _ fine scanned (omega arith)
 
@@ -46,7 +46,7 @@ returns-3 c =
     let told = c .before in
     let after-scan = told .before .before in
     let set-up = after-scan .before .before in
-    let fine = sym (set-up .before .refusal .ensures) ∙ set-up .if1 .left in
+    let fine = sym (set-up .before .heading-refusal .ensures) ∙ set-up .if1 .left in
     let scanned = scan-of _ _ _ (after-scan .before .none .ensures) (after-scan .scan .ensures) ∙ told .enum-told .given .1 in
     answers-done _ _ _ _ _ fine scanned (omega arith)
 
@@ -58,7 +58,7 @@ returns-4 c =
     let told = c .before in
     let after-scan = told .before .before in
     let set-up = after-scan .before .before in
-    let fine = sym (set-up .before .refusal .ensures) ∙ set-up .if1 .left in
+    let fine = sym (set-up .before .heading-refusal .ensures) ∙ set-up .if1 .left in
     let scanned = scan-of _ _ _ (after-scan .before .none .ensures) (after-scan .scan .ensures) ∙ told .scanned .given .1 in
     answers-scan _ _ _ _ _ fine scanned refl
 
@@ -66,7 +66,7 @@ pub would-write-spec : {M : Type 1} → statement M
 would-write-spec =
     tie.close
     (tie.spec
-    refusal-requires
+    heading-refusal-requires
     returns
     none-requires
     scan-requires

@@ -17,8 +17,8 @@ enum-told c = search needs
 returns : tie.Need-returns
 returns c = leaves-all _ _ _ _ _ (c .before .before .would-write .ensures) (c .enum-told .given .1)
 
-write-parameters-requires : tie.Need-write-parameters-requires
-write-parameters-requires c κs =
+write-head-requires : tie.Need-write-head-requires
+write-head-requires c κs =
     let told = c .before .before in
     let was = was-written _ _ _ _ _ _ (sym (told .answer .given .1) ∙ told .before .before .would-write .ensures) in
     record { inside = omega (arith, was .enough) }
@@ -46,7 +46,7 @@ write-spec =
     enum-known-answer
     enum-told
     returns
-    write-parameters-requires
+    write-head-requires
     write-packets-requires
     same-length
     returns-2)

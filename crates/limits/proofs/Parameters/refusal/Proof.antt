@@ -1,8 +1,9 @@
 -- The seven questions, asked one after another. Where the code has passed k of them (`past1`, `past2`, ..), what answers those left answers
 -- all seven, so that each return adds one answer.
 use Rattle.laws.specs.Kit.{_≡_, ap, _∙_, ℕ, suc, drop}
+use Rattle.limits.specs.declared.Class.{Class}
 use Rattle.limits.specs.declared.Parameters.{Parameters}
-use Rattle.limits.specs.Paper.{troFits, questions, setUpRefusal}
+use Rattle.limits.specs.Paper.{classFits, troFits, questions, setUpRefusal}
 use Rattle.limits.proofs.Laws.{First, passes, asked, refused, first}
 use borrow.Author.Needs.{needs}
 use Rattle.limits.proofs.Parameters.refusal.Statement.{statement}
@@ -46,16 +47,23 @@ past2 q =
     let p = past1 (q .before .before .before) in
     record { numbers = p .numbers; so = λ f. p .so (asked (q .before .is-within2 .ensures) (q .if2 .left) f) }
 
+class-of-requires : tie.Need-class-of-requires
+class-of-requires c κs = search needs
+
 class-fits-requires : tie.Need-class-fits-requires
 class-fits-requires c κs = search needs
 
 returns-3 : tie.Need-returns-3
-returns-3 q = past2 (q .before .before) .so (refused (q .before .class-fits .ensures) (q .if3 .taken))
+returns-3 q =
+    let p = past2 (q .before .before .before) in
+    p .so (refused (q .before .class-fits .ensures ∙ ap (λ (k : Class). classFits k (p .numbers .schedule)) (q .before .before .class-of .ensures))
+    (q .if3 .taken))
 
 abbrev past3 : tie.Else3 → Past 3
 past3 q =
-    let p = past2 (q .before .before) in
-    record { numbers = p .numbers; so = λ f. p .so (asked (q .before .class-fits .ensures) (q .if3 .left) f) }
+    let p = past2 (q .before .before .before) in
+    let fits = q .before .class-fits .ensures ∙ ap (λ (k : Class). classFits k (p .numbers .schedule)) (q .before .before .class-of .ensures) in
+    record { numbers = p .numbers; so = λ f. p .so (asked fits (q .if3 .left) f) }
 
 cast-is-within-3 : tie.Need-cast-is-within-3
 cast-is-within-3 c = search needs
@@ -121,6 +129,7 @@ refusal-spec =
     cast-is-within-2
     is-within-requires-2
     returns-2
+    class-of-requires
     class-fits-requires
     returns-3
     cast-is-within-3

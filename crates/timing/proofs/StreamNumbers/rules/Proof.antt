@@ -9,14 +9,17 @@ use Rattle.timing.proofs.StreamNumbers.rules.Tie as tie
 frame-length-requires : tie.Need-frame-length-requires
 frame-length-requires c κs = search needs
 
-cast-t5 : tie.Need-cast-t5
-cast-t5 c = search needs
+cast-t6 : tie.Need-cast-t6
+cast-t6 c = search needs
+
+class-of-requires : tie.Need-class-of-requires
+class-of-requires c κs = search needs
 
 tro-grains-requires : tie.Need-tro-grains-requires
-tro-grains-requires c κs = omega (arith, frame-most (c .before .before .before .args .self .parameters .rate))
+tro-grains-requires c κs = omega (arith, frame-most (c .before .before .before .before .args .self .parameters .rate))
 
 read-num-requires : tie.Need-read-num-requires
-read-num-requires c κs = omega (arith, frame-most (c .before .before .before .before .args .self .parameters .rate))
+read-num-requires c κs = omega (arith, frame-most (c .before .before .before .before .before .args .self .parameters .rate))
 
 read-den-requires : tie.Need-read-den-requires
 read-den-requires c κs = search needs
@@ -24,14 +27,14 @@ read-den-requires c κs = search needs
 vrx-full-requires : tie.Need-vrx-full-requires
 vrx-full-requires c κs = search needs
 
-mul-t5 : tie.Need-mul-t5
-mul-t5 c = omega (arith, frame-most (c .before .before .before .before .before .before .before .args .self .parameters .rate))
-
-cast-t10 : tie.Need-cast-t10
-cast-t10 c = search needs
-
 mul-t6 : tie.Need-mul-t6
-mul-t6 c = search needs
+mul-t6 c = omega (arith, frame-most (c .before .before .before .before .before .before .before .before .args .self .parameters .rate))
+
+cast-t11 : tie.Need-cast-t11
+cast-t11 c = search needs
+
+mul-t7 : tie.Need-mul-t7
+mul-t7 c = search needs
 
 c-max-requires : tie.Need-c-max-requires
 c-max-requires c κs = search needs
@@ -45,13 +48,14 @@ rules-spec =
     tie.close
     (tie.spec
     frame-length-requires
-    cast-t5
+    class-of-requires
+    cast-t6
     tro-grains-requires
     read-num-requires
     read-den-requires
     vrx-full-requires
-    mul-t5
-    cast-t10
     mul-t6
+    cast-t11
+    mul-t7
     c-max-requires
     returns)

@@ -4,8 +4,8 @@ use Rattle.laws.specs.Kit.{_≡_, ap, _∙_, List, ℕ, arith, length, length-s
 use denote.Ref.{now}
 use borrow.Author.Needs.{needs}
 use Rattle.record.proofs.Stores.{head-stored}
-use Rattle.record.proofs.write_parameters.Statement.{statement}
-use Rattle.record.proofs.write_parameters.Tie as tie
+use Rattle.record.proofs.write_head.Statement.{statement}
+use Rattle.record.proofs.write_head.Tie as tie
 
 slice-write-out : tie.Need-slice-write-out
 slice-write-out c = search needs
@@ -60,10 +60,10 @@ same-length c =
     (simp length-sets at (ap length (stored .write322 .ensures))) ∙ long162 (stored .before .before .before .before)
 
 returns : tie.Need-returns
-returns c = cc (head-stored _ _)
+returns c = cc (head-stored _ _ _)
 
-pub write-parameters-spec : {M : Type 1} → statement M
-write-parameters-spec =
+pub write-head-spec : {M : Type 1} → statement M
+write-head-spec =
     tie.close
     (tie.spec
     slice-write-out

@@ -1,0 +1,138 @@
+-- What a version decides: by which class a file is set up, and nothing else. By reading a head that was written, whatever bytes follow it.
+use Rattle.laws.specs.Kit.{_≡_, refl, sym, ap, _∙_, Bool, true, false, List, [], _∷_, _++_, ℕ, zero, suc, _+_, _<_, arith, eqb, length, getD}
+use Rattle.laws.specs.Kit.{length-append, drop-at, eq-eqb, ne-eqb, ℕ-discrete}
+use Rattle.laws.specs.Choose.{pick}
+use Rattle.limits.specs.declared.Class.the-variants.{Narrow, NarrowLinear, Wide, Unknown}
+use Rattle.limits.specs.declared.Parameters.{Parameters}
+use Rattle.limits.specs.Paper.{classOf, setUpRefusal}
+use Rattle.limits.specs.Steps.{ParametersHeld}
+use Rattle.packet.specs.Step.{nothing}
+use Rattle.record.specs.Paper.{parametersLength, parametersBytes, headBytes, versionKnown, Heading, heading, firstClass, classIn, resolved}
+use Rattle.record.specs.Paper.{formatRefusal, parametersRefusal, Packets, packetsIn, Reading, unread, read, readingOf, refused}
+use Rattle.record.specs.Paper.{asFile, fileOf}
+use Rattle.record.specs.Layout.{parameterRecord, headOf}
+use Rattle.record.specs.Step.{Whole}
+use Rattle.record.proofs.Format.{lone-23, parameters-1, length-16, there}
+use Rattle.record.proofs.Reading.{second, before, reading-20, reading-stop, reading-go}
+use Rattle.record.proofs.Writing.{length-head}
+use Rattle.record.proofs.Fields.{ParametersBack, parameters-back}
+
+-- ---- classes
+
+-- F11: of version 1, document 01's table: "0 means 3", whatever the schedule
+pub first-classes : (class schedule : ℕ) → classOf (classIn 1 class) schedule ≡ getD (Wide ∷ Narrow ∷ NarrowLinear ∷ Wide ∷ []) class Unknown
+unfolding classIn classOf
+first-classes zero schedule = refl
+first-classes (suc class) schedule = refl
+
+-- F11: of version 2, the numbers as they are
+pub second-kept : (p : Parameters) → resolved (heading 2 p) ≡ p
+unfolding classIn
+second-kept p = refl
+
+-- ---- a head that was written, and any bytes behind it
+
+-- what its fields always hold, and a version that is known
+abbrev pub Held : Heading → Type 0
+Held h = ParametersHeld (h .parameters) × (versionKnown (h .version) ≡ true)
+
+-- what it reads as: set-up refuses it, or the packets follow
+abbrev pub headed : Heading → List ℕ → Reading
+headed h l =
+    pick (eqb (setUpRefusal (resolved h)) 0) (read h (packetsIn nothing headBytes l)) (unread (setUpRefusal (resolved h)) 1)
+
+pub reading-headed : (h : Heading) (l : List ℕ) → ParametersHeld (h .parameters) → versionKnown (h .version) ≡ true
+    → readingOf (headOf h ++ l) ≡ headed h l
+reading-headed h rest held known = go (ℕ-discrete (setUpRefusal (resolved h)) 0)
+  where
+    x : Parameters
+    x = h .parameters
+
+    l : List ℕ
+    l = parameterRecord x ++ rest
+
+    back : ParametersBack x l
+    back = parameters-back x rest held
+
+    long : length (parameterRecord x) ≡ parametersBytes
+    long = omega (arith, length-head h)
+
+    format : formatRefusal true l ≡ 0
+    format =
+        let size : length l ≡ parametersBytes + length rest = length-append (parameterRecord x) rest ∙ rw long in
+        let here : Whole parametersLength 1 l = record {
+          length-read = sym (back .body-16);
+          kind-read = sym (back .kind-1);
+          some-body = omega arith;
+          all-there = omega arith;
+        } in
+        there true l here ∙ rw (length-16 1 parameters-1, parameters-1)
+
+    set-up : parametersRefusal (h .version) l ≡ setUpRefusal (resolved h)
+    set-up = second _ _ format ∙ ap (λ (q : Parameters). setUpRefusal (resolved (heading (h .version) q))) (back .same)
+
+    go : Dec (setUpRefusal (resolved h) ≡ 0) → readingOf (headOf h ++ rest) ≡ headed h rest
+    go (yes e) =
+        reading-go (h .version ∷ l) known (set-up ∙ e)
+        ∙ rw (back .same, drop-at (parameterRecord x) rest parametersBytes long, eq-eqb (setUpRefusal (resolved h)) 0 e)
+    go (no n) =
+        reading-stop (h .version ∷ l) (setUpRefusal (resolved h)) known set-up (omega arith)
+        ∙ rw (ne-eqb (setUpRefusal (resolved h)) 0 n)
+
+-- ---- two files that set up alike, with the same bytes behind their heads
+
+module _ (h k : Heading) (e : resolved h ≡ resolved k) where
+  -- what cannot tell their headings apart
+  abbrev pub Untold : {A : Type 0} → (Reading → A) → Type 0
+  Untold f = (r : Packets) → f (read h r) ≡ f (read k r)
+
+  headed-alike : {A : Type 0} (f : Reading → A) → Untold f → (l : List ℕ) → f (headed h l) ≡ f (headed k l)
+  headed-alike f same l =
+      ap (λ (p : Parameters). f (pick (eqb (setUpRefusal p) 0) (read h r) (unread (setUpRefusal p) 1))) e
+      ∙ go (eqb (setUpRefusal (resolved k)) 0) (setUpRefusal (resolved k))
+    where
+      r : Packets
+      r = packetsIn nothing headBytes l
+
+      go : (t : Bool) (n : ℕ) → f (pick t (read h r) (unread n 1)) ≡ f (pick t (read k r) (unread n 1))
+      go true n = same r
+      go false n = refl
+
+  -- F11: tells nothing of the two files
+  pub read-alike : {A : Type 0} (f : Reading → A) → Untold f → (l : List ℕ) → Held h → Held k
+      → f (readingOf (headOf h ++ l)) ≡ f (readingOf (headOf k ++ l))
+  read-alike f same l a b =
+      ap f (reading-headed h l (a .0) (a .1)) ∙ headed-alike f same l ∙ sym (ap f (reading-headed k l (b .0) (b .1)))
+
+-- a file of version 1, and that of version 2 with the class that it sets up with
+
+pub first-held : (p : Parameters) → ParametersHeld p → Held (heading 1 p)
+unfolding versionKnown
+first-held p h = (h, refl)
+
+pub second-held : (p : Parameters) → ParametersHeld p → Held (heading 2 (resolved (heading 1 p)))
+unfolding versionKnown classIn
+second-held p h = (
+  record {
+    rate = h .rate;
+    schedule = h .schedule;
+    class = go (p .class) (h .class);
+    height = h .height;
+    n = h .n;
+    maxudp = h .maxudp;
+    tro = h .tro;
+  },
+  refl,
+)
+  where
+    go : (class : ℕ) → class < 256 → firstClass class < 256
+    go zero h = omega arith
+    go (suc class) h = h
+
+-- ---- the byte itself
+
+pub other-20 : (version : ℕ) (l : List ℕ) → versionKnown version ≡ false → fileOf (version ∷ l) ≡ refused 20 0
+other-20 version l e = ap asFile (reading-20 (version ∷ l) e)
+
+pub lone-byte : (version : ℕ) → versionKnown version ≡ true → fileOf (version ∷ []) ≡ refused 23 1
+lone-byte version e = ap asFile (reading-stop (version ∷ []) 23 e (before _ _ (omega (arith, lone-23 [] refl)) ∙ lone-23 [] refl) (omega arith))
