@@ -79,7 +79,7 @@ as-fed s w ps e rows same =
       refl,
     )
 
--- F11: two files that set up alike are answered alike, whatever bytes follow their heads
+-- two files that set up alike are answered alike, whatever bytes follow their heads
 module _ (h k : Heading) (e : resolved h ≡ resolved k) where
   file-untold : {A : Type 0} (g : File → A) → ((ps : List Packet) → g (file h ps) ≡ g (file k ps)) → Untold h k e (λ r. g (asFile r))
   file-untold g same r = go (r .ending)
@@ -92,6 +92,7 @@ module _ (h k : Heading) (e : resolved h ≡ resolved k) where
   bytes-alike ps = ap (λ (p : Parameters). encoded (reportOf (ofParameters p) ps)) e
 
   module _ (l : List ℕ) (a : Held h) (b : Held k) where
+    -- F11: the same number and offset
     pub answers-alike : (room : ℕ) → answerOf (headOf h ++ l) room ≡ answerOf (headOf k ++ l) room
     unfolding answerOf
     answers-alike room =
@@ -101,6 +102,7 @@ module _ (h k : Heading) (e : resolved h ≡ resolved k) where
         read-alike h k e (λ r. by (asFile r)) (file-untold by (λ ps. rw (bytes-alike ps))) l a b
         ∙ ap (λ (n : ℕ). answered n room (fileOf (headOf k ++ l))) long
 
+    -- F11: and the same bytes
     pub filled-alike : (out : List ℕ) → filledBy (headOf h ++ l) out ≡ filledBy (headOf k ++ l) out
     unfolding filledBy
     filled-alike out =
