@@ -2,9 +2,9 @@
    with each room of the case, and holds the answer against the one the case brings: host DIRECTORY <cases
 
    It knows how to lend and to compare, and nothing of measuring; of a state, which it carries from call to call, it knows
-   where docs/STATE.md puts the summary's numbers. Whatever is lent ends at a page that cannot be touched or begins after one,
-   by turns, and has guard bytes on its other side. A call may write what the case says at the front of its room and nothing
-   else: no byte behind it, none at all where it refuses, none of its input.
+   where docs/STATE.md puts the summary's numbers, and of a file where version, schedule and class stand. Whatever is lent ends
+   at a page that cannot be touched or begins after one, by turns, and has guard bytes on its other side. A call may write what
+   the case says at the front of its room and nothing else: no byte behind it, none at all where it refuses, none of its input.
 
    The first case that differs is kept in DIRECTORY, and the host stops there with status 1. */
 #define _DEFAULT_SOURCE /* mmap without a file */
@@ -73,6 +73,7 @@ static struct {
     uint16_t port;
     uint32_t offset;
     unsigned parts; /* bits: what some frame that is handed on has */
+    uint8_t version; /* that the lists are to be written as */
     struct numbers numbers;
     uint64_t *arrivals;
     uint32_t *stamps;
@@ -145,6 +146,7 @@ static _Noreturn void differs(const char *format, ...) {
     vprintf(format, rest);
     printf("\n");
     va_end(rest);
+    if (now.call == WRITE) printf("  version %u\n", now.version);
     if (now.call == WRITE || now.call == LIMITS || now.call >= SET_UP) show_numbers();
     if (now.call == CAPTURE) printf("  port %u, offset %" PRIu32 "\n", now.port, now.offset);
     if (now.call == WRITE || now.call == FEED)
@@ -260,6 +262,53 @@ static void count_next_read(struct bytes answer) {
     else read_now++;
 }
 
+/* Class 0 where it was accepted, by the file's version, which is 0 without a file, and by schedule. */
+static uint64_t class_0[CALLS][3][2];
+
+/* Files of class 0 that pass in version 1, where it is wide, and not in version 2, where it is strict; by schedule. An input's
+   cases come one after the other and have its index, version 1 first. */
+static struct meaning {
+    uint64_t index, network, buffer; /* of the last in version 1 */
+    uint64_t bursts[2], overflows[2];
+} as_read, as_written;
+
+static void count_meaning(struct meaning *meaning, struct bytes answer, unsigned version, unsigned schedule) {
+    uint64_t network = big_endian(answer.at + 24, 8), buffer = big_endian(answer.at + 48, 8);
+    if (version == 1) {
+        meaning->index = now.index, meaning->network = network, meaning->buffer = buffer;
+    } else if (meaning->index == now.index) {
+        meaning->bursts[schedule] += meaning->network == VTIMING_NETWORK_PASS && network == VTIMING_NETWORK_BURST;
+        meaning->overflows[schedule] += meaning->buffer == VTIMING_BUFFER_PASS && buffer == VTIMING_BUFFER_OVER;
+    }
+}
+
+/* Of an accepted case. A file's parameters come after its version and their length: kind, rate, schedule, class. */
+static void count_class_0(void) {
+    const uint8_t *file = now.file.at;
+    unsigned version = now.call == MEASURE ? file[0] : now.call == WRITE ? now.version : 0;
+    unsigned schedule = now.call == MEASURE ? file[5] : now.numbers.schedule;
+    unsigned stream_class = now.call == MEASURE ? file[6] : now.numbers.stream_class;
+    if (stream_class != 0 || version > 2 || schedule > 1) return;
+    class_0[now.call][version][schedule]++;
+    if (now.call == MEASURE) count_meaning(&as_read, now.filled, version, schedule);
+    if (now.call == WRITE) count_meaning(&as_written, now.measured, version, schedule);
+}
+
+/* Versions that there are not, as cases have them for every fixed input. */
+static const uint8_t other_versions[] = {0, 3, 255};
+#define OTHER_VERSIONS (sizeof other_versions / sizeof *other_versions)
+static uint64_t with_version[CALLS][OTHER_VERSIONS], of_nothing;
+
+/* Of a case that is refused by 20. */
+static void count_version(void) {
+    if (now.call == MEASURE && !now.file.count) {
+        of_nothing++;
+        return;
+    }
+    uint8_t version = now.call == MEASURE ? now.file.at[0] : now.version;
+    for (size_t i = 0; i < OTHER_VERSIONS; i++) with_version[now.call][i] += version == other_versions[i];
+}
+
 static void count_room(const struct room *room, uint64_t needed) {
     if (room->number == 0) accepted_room[room->lent > needed]++;
     else if (room->number == 15 || room->number == 24) refused_room[room->lent == 0 ? 0 : room->lent + 1 == needed ? 1 : 2]++;
@@ -300,13 +349,13 @@ static void write_file(const struct room *room, int fill) {
     struct lent markers = lend(MARKERS, now.markers.count, now.markers.at, fill);
     struct lent out = lend(OUT, room->lent, NULL, fill);
     at_step = "vtiming_write";
-    answers(vtiming_write(SEVEN(n), pointer(&arrivals), now.arrival_count, pointer(&stamps), now.stamp_count, pointer(&markers),
-                          now.markers.count, pointer(&out), out.size),
+    answers(vtiming_write(now.version, SEVEN(n), pointer(&arrivals), now.arrival_count, pointer(&stamps), now.stamp_count,
+                          pointer(&markers), now.markers.count, pointer(&out), out.size),
             room->number, "number");
     room_holds(&out, room->number ? (struct bytes){NULL, 0} : now.filled);
     at_step = "vtiming_write_place";
-    answers(vtiming_write_place(SEVEN(n), pointer(&arrivals), now.arrival_count, pointer(&stamps), now.stamp_count,
-                                pointer(&markers), now.markers.count, out.size),
+    answers(vtiming_write_place(now.version, SEVEN(n), pointer(&arrivals), now.arrival_count, pointer(&stamps),
+                                now.stamp_count, pointer(&markers), now.markers.count, out.size),
             room->place, "place");
     unchanged(&arrivals, now.arrivals, "the arrivals");
     unchanged(&stamps, now.stamps, "the timestamps");
@@ -492,8 +541,8 @@ static void ample_rooms(int fill) {
         struct lent markers = lend(MARKERS, now.markers.count, now.markers.at, fill);
         at_step = "vtiming_write_place";
         for (size_t i = 0; i < LARGE_ROOMS; i++, large_rooms++)
-            answers(vtiming_write_place(SEVEN(n), pointer(&arrivals), now.arrival_count, pointer(&stamps), now.stamp_count,
-                                        pointer(&markers), now.markers.count, large[i]),
+            answers(vtiming_write_place(now.version, SEVEN(n), pointer(&arrivals), now.arrival_count, pointer(&stamps),
+                                        now.stamp_count, pointer(&markers), now.markers.count, large[i]),
                     wanted, "place with ample room");
     } else if (now.call == CAPTURE) {
         struct lent in = lend(FILE_BYTES, now.file.count, now.file.at, fill);
@@ -550,6 +599,13 @@ static void try_feeds(const int *fills, int times) {
     }
 }
 
+/* Whether some room is enough. The numbers of a stream that is fed are accepted. */
+static int accepted(void) {
+    for (unsigned i = 0; i < now.room_count; i++)
+        if (!now.rooms[i].number) return 1;
+    return now.call == FEED;
+}
+
 /* Small cases against both edges of a page; large ones take turns. */
 static void try_case(void) {
     static const int fills[2] = {0xA5, 0x5A};
@@ -570,6 +626,8 @@ static void try_case(void) {
     if (now.call == MEASURE && now.filled.count) count_answer(&of_files, now.filled, SUMMARY_BYTES);
     if (now.call == CAPTURE && now.filled.count) count_capture(now.filled);
     if (now.call == NEXT_READ && now.filled.count) count_next_read(now.filled);
+    if (accepted()) count_class_0();
+    if (now.room_count && now.rooms[0].number == VTIMING_REFUSED_VERSION) count_version();
     at_step = "reading";
 }
 
@@ -673,7 +731,7 @@ static int next_case(void) {
     at_room = now.room_count = 0;
     switch (now.call) {
     case MEASURE: now.file = take_bytes(take_number(4)); break;
-    case WRITE: take_numbers(), take_lists(); break;
+    case WRITE: now.version = take_number(1), take_numbers(), take_lists(); break;
     case LIMITS:
     case SET_UP: take_numbers(); break;
     case GRAPH:
@@ -699,7 +757,7 @@ static void told(const char *what, uint64_t count) {
 
 static void tell_numbers(int call, const char *needed) {
     char word[16], list[64];
-    printf("  %-17s %" PRIu64 " inputs; answers:", call_names[call], cases[call]);
+    printf("  %-17s %" PRIu64 " cases; answers:", call_names[call], cases[call]);
     snprintf(list, sizeof list, "%s", needed);
     for (char *number = strtok(list, " "); number; number = strtok(NULL, " ")) {
         snprintf(word, sizeof word, "%s:", number);
@@ -718,12 +776,40 @@ static void tell_answers(const char *what, const struct said *said) {
     printf("\n");
 }
 
+static void tell_schedules(const char *what, const uint64_t by_schedule[2]) {
+    printf("%s:", what), told("gapped", by_schedule[0]), told("linear", by_schedule[1]);
+}
+
+static void tell_meaning(const char *what, int call, const struct meaning *meaning) {
+    printf("    %s ", what);
+    tell_schedules("in version 1", class_0[call][1]), tell_schedules("; in 2", class_0[call][2]);
+    tell_schedules("; pass in 1 and burst in 2", meaning->bursts), tell_schedules("; pass in 1 and over in 2", meaning->overflows);
+    printf("\n");
+}
+
+/* Request (viii): what class 0 means, and versions that there are not. */
+static void tell_versions(void) {
+    static const int without_file[] = {LIMITS, SET_UP, FEED, CAPTURE, NEXT_READ};
+    static const char *const names[OTHER_VERSIONS] = {"version 0", "version 3", "version 255"};
+    printf("  class 0 accepted\n");
+    for (size_t i = 0; i < sizeof without_file / sizeof *without_file; i++)
+        printf(i ? "; " : "    "), tell_schedules(call_names[without_file[i]], class_0[without_file[i]][0]);
+    printf("\n");
+    tell_meaning("files", MEASURE, &as_read), tell_meaning("written", WRITE, &as_written);
+    printf("  refused by 20: files");
+    for (size_t i = 0; i < OTHER_VERSIONS; i++) told(names[i], with_version[MEASURE][i]);
+    told("no byte", of_nothing);
+    printf("; written");
+    for (size_t i = 0; i < OTHER_VERSIONS; i++) told(names[i], with_version[WRITE][i]);
+    printf("\n");
+}
+
 static int tell(void) {
-    uint64_t inputs = 0;
-    for (int i = MEASURE; i < CALLS; i++) inputs += cases[i];
+    uint64_t all = 0;
+    for (int i = MEASURE; i < CALLS; i++) all += cases[i];
     printf("outcomes seen (number: times):\n");
     tell_numbers(MEASURE, "0 1 2 3 4 5 6 7 11 12 13 15 20 21 22 23");
-    tell_numbers(WRITE, "0 1 2 3 4 5 6 7 10 11 12 13 24");
+    tell_numbers(WRITE, "0 1 2 3 4 5 6 7 10 11 12 13 20 24");
     tell_numbers(LIMITS, "0 1 2 3 4 5 6 7 15");
     tell_numbers(GRAPH, "0 15 16");
     tell_numbers(SET_UP, "0 1 2 3 4 5 6 7 15");
@@ -732,6 +818,7 @@ static int tell(void) {
     tell_numbers(NEXT_READ, "0 1 2 3 4 5 6 7 12 13 15");
     tell_answers("files", &of_files);
     tell_answers("captures", &of_captures);
+    tell_versions();
     printf("  captures that"), told("skip a frame", with_skipped);
     printf("; that hand on a frame with"), told("a tag", with_part[0]), told("options", with_part[1]);
     told("contributors", with_part[2]), told("an extension", with_part[3]);
@@ -741,7 +828,7 @@ static int tell(void) {
     told("near the greatest size", large_rooms);
     printf("\n  files"), told("written and then measured", round_trips);
     printf("; states"), told("reached again by another cutting", cuttings);
-    printf("\nhost: %" PRIu64 " inputs, %" PRIu64 " calls, 0 different%s\n", inputs, calls_made,
+    printf("\nhost: %" PRIu64 " cases, %" PRIu64 " calls, 0 different%s\n", all, calls_made,
            unseen ? "; but an outcome was NEVER SEEN" : "");
     return unseen;
 }

@@ -1,16 +1,19 @@
 //! Cases for the C host: a call, what it lends, and all that must come of it.
 //!
-//! First the fixed ones, which are document 01's own and reach every outcome;
-//! then as many generated ones as are asked for. A case is handed over as
-//! bytes, big-endian throughout:
+//! First those of the fixed inputs, which are document 01's own and reach every
+//! outcome; then those of as many generated inputs as are asked for. An input is
+//! one case, or several where a file is measured or written: the same under
+//! version 1, then under 2, then under others, which are refused. A file that is
+//! of no version stays as it is. A case is handed over as bytes, big-endian
+//! throughout:
 //!
 //!   size of what follows (4), index (8), call (1), the call's input, rooms
 //!
-//! with the input by call
+//! with the index of its input, and the input by call
 //!
 //!   1 measure: length (4), file
-//!   2 write:   seven numbers (15), three counts (4 each), arrivals (8 each),
-//!              timestamps (4 each), markers (1 each)
+//!   2 write:   version (1), seven numbers (15), three counts (4 each), arrivals
+//!              (8 each), timestamps (4 each), markers (1 each)
 //!   3 limits:  seven numbers (15)
 //!   4 graph:   three figures (8 each)
 //!   5 set-up:  seven numbers (15)
@@ -38,28 +41,28 @@
 use crate::capture::{expected_capture_call, parts_seen, Asked};
 use crate::feed::{cut_everywhere, dealt, ranges_after, Feed, Lists};
 use crate::fixed_captures::fixed_captures;
-use crate::generate::{damaged, file, front, random_bytes};
+use crate::generate::{damaged, file, front, other_version, random_bytes, under, OTHER_VERSIONS};
 use crate::graph::graph;
-use crate::next_read::{accepted, next_read, three_numbers, Wait, NEXT_READ_NUMBERS};
+use crate::next_read::{next_read, three_numbers, Wait};
 use crate::numbers::{set_up, Numbers};
 use crate::output::expected_c_call;
 use crate::packet::{Packet, LONGEST_HISTORY};
 use crate::random::Random;
 use crate::ranges::STATE_WORDS;
-use crate::record::{parameters_body, write, writer};
-use crate::stream::{accepted_numbers, limit_numbers, refused_numbers, stream};
+use crate::record::{packet_body, parameters_body, record, write, writer, VERSIONS};
+use crate::stream::{accepted_numbers, limit_numbers, mended_numbers, refused_numbers, stream};
 use crate::traffic::capture;
 use crate::waits::{fixed_waits, wait};
+use crate::Refusal;
 
 /// What is called, and with what.
 #[derive(Clone, Debug, PartialEq)]
 pub enum Call {
     Measure(Vec<u8>),
     Write {
+        version: u8,
         numbers: Numbers,
-        arrivals: Vec<u64>,
-        timestamps: Vec<u32>,
-        markers: Vec<u8>,
+        lists: Lists,
     },
     Limits(Numbers),
     Graph {
@@ -99,11 +102,12 @@ pub struct Case {
     pub measured: Vec<u8>,
 }
 
-/// In so many cases in a row each kind of call has its share.
+/// In so many inputs in a row each kind of call has its share.
 pub const ROUND: u64 = 31;
 
-/// Generated case `index` of a seed.
-pub fn case(seed: u64, index: u64) -> Case {
+/// The cases of generated input `index` of a seed: of a file or lists under each
+/// version, and under another one.
+pub fn cases(seed: u64, index: u64) -> Vec<Case> {
     // The files of `generate` depend on seed and number too; the other cases
     // must not repeat their choices.
     let mut random = Random::new(seed ^ 0x6361_7365, index);
@@ -120,77 +124,127 @@ pub fn case(seed: u64, index: u64) -> Case {
             Call::Capture { asked, bytes }
         }
     };
-    answered(&mut random, call)
+    let [one, two] = VERSIONS;
+    let versions = [one, two, other_version(&mut random)];
+    answered_under(&versions, &mut random, call)
+}
+
+fn answered_under(versions: &[u8], random: &mut Random, call: Call) -> Vec<Case> {
+    let calls = of_versions(versions, call).into_iter();
+    calls.map(|call| answered(random, call)).collect()
+}
+
+/// The same file, or the same lists, under each of these versions; any other
+/// call has none.
+fn of_versions(versions: &[u8], call: Call) -> Vec<Call> {
+    match call {
+        Call::Measure(file) => under(versions, &file)
+            .into_iter()
+            .map(Call::Measure)
+            .collect(),
+        Call::Write { numbers, lists, .. } => versions
+            .iter()
+            .map(|&version| Call::Write {
+                version,
+                numbers,
+                lists: lists.clone(),
+            })
+            .collect(),
+        _ => vec![call],
+    }
 }
 
 /// The call with each room that is worth lending, and the answers.
 fn answered(random: &mut Random, call: Call) -> Case {
-    let (needed, filled, measured) = outcome(&call);
+    let outcome = outcome(&call);
     let rooms = match call {
         Call::Feed { .. } => vec![],
-        _ => rooms(random, needed),
+        _ => rooms(
+            random,
+            outcome.as_ref().ok().map(|written| written.elements),
+        ),
     };
-    let rooms = rooms.into_iter().map(|lent| room(&call, lent)).collect();
+    let rooms = rooms
+        .into_iter()
+        .map(|lent| room(&call, &outcome, lent))
+        .collect();
+    let written = outcome.unwrap_or_default();
     Case {
         call,
         rooms,
-        filled,
-        measured,
+        filled: written.filled,
+        measured: written.measured,
     }
 }
 
-/// How many elements an accepted call writes, what they are, and what
-/// `measure` makes of them; none where no room is enough.
-type Outcome = (Option<u64>, Vec<u8>, Vec<u8>);
+/// How many elements an accepted call writes, what they are, and what `measure`
+/// makes of them.
+#[derive(Default)]
+struct Written {
+    elements: u64,
+    filled: Vec<u8>,
+    measured: Vec<u8>,
+}
 
-fn outcome(call: &Call) -> Outcome {
-    let nothing = (None, vec![], vec![]);
+/// What comes of a call that is lent all that it needs. Each call of a row of
+/// them has an answer of its own.
+fn outcome(call: &Call) -> Result<Written, Refusal> {
     match call {
-        Call::Measure(file) => of_bytes(expected_c_call(file, usize::MAX).2),
-        Call::Capture { asked, bytes } => {
-            of_bytes(expected_capture_call(asked, bytes, usize::MAX).2)
-        }
+        Call::Measure(file) => of_bytes(expected_c_call(file, usize::MAX)),
+        Call::Capture { asked, bytes } => of_bytes(expected_capture_call(asked, bytes, usize::MAX)),
         Call::Write {
+            version,
             numbers,
-            arrivals,
-            timestamps,
-            markers,
-        } => match writer(numbers, (arrivals, timestamps, markers), usize::MAX) {
-            Ok(written) => {
-                let measured = expected_c_call(&written, usize::MAX).2;
-                let measured = measured.expect("what is written is accepted");
-                (Some(written.len() as u64), written, measured)
-            }
-            Err(_) => nothing,
-        },
-        Call::Limits(numbers) => set_up(numbers).map_or(nothing, |limits| {
+            lists,
+        } => {
+            let file = writer(*version, numbers, lists.lent(), usize::MAX)?;
+            let measured = expected_c_call(&file, usize::MAX).2;
+            Ok(Written {
+                elements: file.len() as u64,
+                filled: file,
+                measured: measured.expect("what is written is accepted"),
+            })
+        }
+        Call::Limits(numbers) => of_eights(set_up(numbers).map(|limits| {
             let four = [limits.frame, limits.tro, limits.c_max, limits.vrx_full];
-            of_eights(&four.map(|number| number as u64))
-        }),
+            four.map(|number| number as u64)
+        })),
         Call::Graph {
             first_packet_time,
             margin,
             latency,
-        } => graph(*first_packet_time, *margin, *latency).map_or(nothing, |graph| {
+        } => of_eights(graph(*first_packet_time, *margin, *latency).map(|graph| {
             let three = [graph.first_packet_time, graph.margin, graph.latency];
-            of_eights(&three.map(f64::to_bits))
+            three.map(f64::to_bits)
+        })),
+        Call::NextRead(wait) => of_eights(next_read(wait).map(three_numbers)),
+        // What stands in the words is the library's own.
+        Call::SetUp(numbers) => of_eights(set_up(numbers).map(|_| [])).map(|nothing| Written {
+            elements: STATE_WORDS,
+            ..nothing
         }),
-        Call::NextRead(wait) => {
-            next_read(wait).map_or(nothing, |next| of_eights(&three_numbers(next)))
-        }
-        Call::SetUp(numbers) if set_up(numbers).is_ok() => (Some(STATE_WORDS), vec![], vec![]),
-        Call::SetUp(_) | Call::Feed { .. } => nothing,
+        Call::Feed { .. } => Ok(Written::default()),
     }
 }
 
-fn of_bytes(filled: Option<Vec<u8>>) -> Outcome {
-    let count = filled.as_ref().map(|bytes| bytes.len() as u64);
-    (count, filled.unwrap_or_default(), vec![])
+fn of_bytes((number, place, filled): (u8, u64, Option<Vec<u8>>)) -> Result<Written, Refusal> {
+    let filled = filled.ok_or(Refusal::new(number, place))?;
+    Ok(Written {
+        elements: filled.len() as u64,
+        filled,
+        ..Written::default()
+    })
 }
 
-fn of_eights(numbers: &[u64]) -> Outcome {
+/// Numbers of 8 bytes; the refusals of these calls name no place.
+fn of_eights<const COUNT: usize>(answer: Result<[u64; COUNT], u8>) -> Result<Written, Refusal> {
+    let numbers = answer.map_err(|number| Refusal::new(number, 0))?;
     let bytes = numbers.iter().flat_map(|number| number.to_be_bytes());
-    (Some(numbers.len() as u64), bytes.collect(), vec![])
+    Ok(Written {
+        elements: COUNT as u64,
+        filled: bytes.collect(),
+        ..Written::default()
+    })
 }
 
 /// Exactly enough, one too few, none, more than enough. Where the call is
@@ -206,42 +260,12 @@ fn rooms(random: &mut Random, needed: Option<u64>) -> Vec<u64> {
     }
 }
 
-fn room(call: &Call, lent: u64) -> Room {
-    let elements = lent as usize;
-    let (number, place) = match call {
-        Call::Measure(file) => {
-            let (number, offset, _) = expected_c_call(file, elements);
-            (number, offset)
-        }
-        Call::Write {
-            numbers,
-            arrivals,
-            timestamps,
-            markers,
-        } => match writer(numbers, (arrivals, timestamps, markers), elements) {
-            Ok(_) => (0, 0),
-            Err(refusal) => (refusal.number, refusal.place),
-        },
-        // "refused by 1 to 7", then by 15 as every lent row.
-        Call::Limits(numbers) => (refused_or_short(set_up(numbers), lent, 4), 0),
-        Call::SetUp(numbers) => (refused_or_short(set_up(numbers), lent, STATE_WORDS), 0),
-        Call::Graph {
-            first_packet_time,
-            margin,
-            latency,
-        } => {
-            let graph = graph(*first_packet_time, *margin, *latency);
-            (refused_or_short(graph, lent, 3), 0)
-        }
-        Call::NextRead(wait) => {
-            let number = refused_or_short(accepted(wait), lent, NEXT_READ_NUMBERS);
-            (number, 0)
-        }
-        Call::Capture { asked, bytes } => {
-            let (number, place, _) = expected_capture_call(asked, bytes, elements);
-            (number, place)
-        }
-        Call::Feed { .. } => unreachable!("a row of calls has no rooms"),
+/// Too little room is refused after all else.
+fn room(call: &Call, outcome: &Result<Written, Refusal>, lent: u64) -> Room {
+    let (number, place) = match outcome {
+        Err(refusal) => (refusal.number, refusal.place),
+        Ok(written) if lent < written.elements => too_few(call),
+        Ok(_) => (0, 0),
     };
     Room {
         lent,
@@ -250,12 +274,13 @@ fn room(call: &Call, lent: u64) -> Room {
     }
 }
 
-/// The refusal's number, else 15 where fewer are lent than are needed.
-fn refused_or_short<T>(answer: Result<T, u8>, lent: u64, needed: u64) -> u8 {
-    match answer {
-        Err(number) => number,
-        Ok(_) if lent < needed => 15,
-        Ok(_) => 0,
+/// "Too few bytes is 15 at the file's length"; "24: the writer's lent bytes are
+/// fewer than the file needs", and its place is 0 as that of every other 15 here.
+fn too_few(call: &Call) -> (u8, u64) {
+    match call {
+        Call::Measure(file) => (15, file.len() as u64),
+        Call::Write { .. } => (24, 0),
+        _ => (15, 0),
     }
 }
 
@@ -272,29 +297,28 @@ fn lists(random: &mut Random) -> Call {
     if random.chance(10) {
         numbers = refused_numbers(random);
     }
-    let (mut arrivals, mut timestamps, mut markers) = three(&packets);
+    let mut lists = Lists::of(&packets);
     if random.chance(10) {
         let keep = random.pick(&[0, packets.len().saturating_sub(1)]);
         match random.below(6) {
-            0 => arrivals.truncate(keep),
-            1 => timestamps.truncate(keep),
-            2 => markers.truncate(keep),
-            3 => arrivals.push(random.bits()),
-            4 => timestamps.push(0),
-            _ => markers.push(random.pick(&[0, 1, 2])),
+            0 => lists.arrivals.truncate(keep),
+            1 => lists.timestamps.truncate(keep),
+            2 => lists.markers.truncate(keep),
+            3 => lists.arrivals.push(random.bits()),
+            4 => lists.timestamps.push(0),
+            _ => lists.markers.push(random.pick(&[0, 1, 2])),
         }
     }
-    Call::Write {
-        numbers,
-        arrivals,
-        timestamps,
-        markers,
-    }
+    to_write(numbers, lists)
 }
 
-fn three(packets: &[Packet]) -> (Vec<u64>, Vec<u32>, Vec<u8>) {
-    let lists = Lists::of(packets);
-    (lists.arrivals, lists.timestamps, lists.markers)
+/// To be written as some version: which, is said by `of_versions`.
+fn to_write(numbers: Numbers, lists: Lists) -> Call {
+    Call::Write {
+        version: VERSIONS[0],
+        numbers,
+        lists,
+    }
 }
 
 /// A stream dealt out over calls; a short one cut everywhere, now and then.
@@ -377,10 +401,11 @@ fn example() -> Vec<Packet> {
     ])
 }
 
-/// Document 01's cases on both sides of each limit, its example, and one of
-/// each outcome, so that none depends on the seed.
-pub fn fixed() -> Vec<Case> {
+/// The cases of each fixed input: document 01's cases on both sides of each
+/// limit, its example, and one of each outcome, so that none depends on the seed.
+pub fn fixed() -> Vec<Vec<Case>> {
     let mut random = Random::new(0, 0);
+    let versions = [&VERSIONS[..], &OTHER_VERSIONS].concat();
     let mut calls: Vec<Call> = fixed_numbers().into_iter().map(Call::Limits).collect();
     calls.extend(fixed_lists());
     calls.extend(fixed_files(&mut random));
@@ -391,7 +416,7 @@ pub fn fixed() -> Vec<Case> {
     calls.extend(waits().into_iter().map(Call::NextRead));
     calls
         .into_iter()
-        .map(|call| answered(&mut random, call))
+        .map(|call| answered_under(&versions, &mut random, call))
         .collect()
 }
 
@@ -428,7 +453,26 @@ fn fixed_numbers() -> Vec<Numbers> {
     ];
     // Every frame length, and a code on either side of them.
     all.extend((0..=9).map(|rate| Numbers { rate, ..NARROW }));
+    all.extend(numbers_by_class());
     all
+}
+
+/// On each schedule class 0, and those that it may be taken for.
+const CLASSES: [(u64, u64); 6] = [(0, 0), (0, 1), (0, 3), (1, 0), (1, 2), (1, 3)];
+
+/// Each class where C_MAX or VRX_FULL of one of them grows.
+fn numbers_by_class() -> Vec<Numbers> {
+    let steps = [
+        4, 4147, 4148, 4319, 4320, 4439, 4440, 4859, 4860, 7343, 7344,
+    ];
+    let of = |(schedule, class)| {
+        steps.map(|n| Numbers {
+            schedule,
+            class,
+            ..Numbers::narrow(n)
+        })
+    };
+    CLASSES.iter().copied().flat_map(of).collect()
 }
 
 /// Frames of one packet with each timestamp at `t` and at the nanoseconds before
@@ -468,8 +512,45 @@ fn wraps_and_ties() -> Vec<(Numbers, Vec<Packet>)> {
     lists.into_iter().map(|list| (one, list)).collect()
 }
 
+/// So many packets at one instant, after a lead-in, that are a frame and all
+/// come before its reads.
+fn pile(n: u64) -> Vec<Packet> {
+    let mut pile = vec![Packet::new(0, 0, 1)];
+    pile.extend((1..=n).map(|count| Packet::new(19_990_000, 0, u8::from(count == n))));
+    pile
+}
+
+/// Streams on both sides of the limits that a class has as wide, and of those
+/// that it has as narrow or narrow linear.
+fn at_the_limits((schedule, class): (u64, u64)) -> Vec<(Numbers, Vec<Packet>)> {
+    let of = |n| Numbers {
+        schedule,
+        class,
+        ..Numbers::narrow(n)
+    };
+    // C_MAX is 16 or 4; from n 4148 on it is 5 for narrow, from 4320 on for
+    // narrow linear.
+    let mut at_once = vec![(4, 4), (4, 5), (4, 16), (4, 17)];
+    at_once.extend([4147, 4148, 4319, 4320].map(|n| (n, 5)));
+    at_once.extend([4148, 4320].map(|n| (n, 6)));
+    let mut all = vec![];
+    for (n, count) in at_once {
+        all.push((of(n), vec![Packet::new(7, 0, 0); count]));
+    }
+    // VRX_FULL is 739 or 8, and where MAXUDP is 8960, 120 or 1.
+    for (n, maxudp) in [(8, 1460), (9, 1460), (1, 8960), (2, 8960)] {
+        all.push((Numbers { maxudp, ..of(n) }, pile(n)));
+    }
+    all
+}
+
+/// Request (viii): those of class 0, on both schedules.
+pub fn class_0_streams() -> Vec<(Numbers, Vec<Packet>)> {
+    [at_the_limits((0, 0)), at_the_limits((1, 0))].concat()
+}
+
 /// Lists that document 01 speaks of, with the numbers they need, and those of
-/// request (v).
+/// requests (v) and (viii).
 fn streams() -> Vec<(Numbers, Vec<Packet>)> {
     let one = Numbers {
         packets_per_frame: 1,
@@ -518,12 +599,6 @@ fn streams() -> Vec<(Numbers, Vec<Packet>)> {
         (80_700_000, 9000, 0),
         (80_700_000, 9000, 0),
     ]);
-    let piled = Numbers {
-        packets_per_frame: 20,
-        ..NARROW
-    };
-    let mut pile = vec![Packet::new(0, 0, 1)];
-    pile.extend((0..20).map(|j| Packet::new(19_990_000, 0, u8::from(j == 19))));
     let of_document_01 = vec![
         (NARROW, example()),
         (NARROW, mixed),
@@ -550,7 +625,7 @@ fn streams() -> Vec<(Numbers, Vec<Packet>)> {
         (one, packets(&[(end - 1, u32::MAX, 1), (end, 0, 1)])),
         (one, packets(&[(end, 0, 1), (end, u32::MAX, 1)])),
         (NARROW, broken),
-        (piled, pile),
+        (Numbers::narrow(20), pile(20)),
         (NARROW, packets(&[(0, 0, 1), (LONGEST_HISTORY, 0, 1)])),
         (NARROW, packets(&[(0, 0, 1), (LONGEST_HISTORY + 1, 0, 1)])),
         (
@@ -561,46 +636,41 @@ fn streams() -> Vec<(Numbers, Vec<Packet>)> {
         (NARROW, packets(&[(5, 0, 1), (5, 0, 2)])),
         (NARROW, packets(&[(5, 0, 255)])),
     ];
-    [of_document_01, wraps_and_ties()].concat()
+    let by_class = CLASSES.iter().copied().flat_map(at_the_limits).collect();
+    [of_document_01, wraps_and_ties(), by_class].concat()
 }
 
 fn fixed_lists() -> Vec<Call> {
     let mut calls = vec![];
     for (numbers, packets) in streams() {
-        let (arrivals, timestamps, markers) = three(&packets);
-        calls.push(Call::Write {
-            numbers,
-            arrivals,
-            timestamps,
-            markers,
-        });
+        calls.push(to_write(numbers, Lists::of(&packets)));
     }
+    let so_many = |arrivals, timestamps, markers| Lists {
+        arrivals: vec![1; arrivals],
+        timestamps: vec![1; timestamps],
+        // 10 comes before 11.
+        markers: vec![2; markers],
+    };
     for (arrivals, timestamps, markers) in [(1, 2, 2), (2, 1, 2), (2, 2, 1), (0, 0, 1), (1, 0, 0)] {
-        calls.push(Call::Write {
-            numbers: NARROW,
-            arrivals: vec![1; arrivals],
-            timestamps: vec![1; timestamps],
-            // 10 comes before 11.
-            markers: vec![2; markers],
-        });
+        calls.push(to_write(NARROW, so_many(arrivals, timestamps, markers)));
     }
-    for numbers in fixed_numbers() {
-        calls.push(Call::Write {
-            numbers,
-            // 1 to 7 come before 10.
-            arrivals: vec![1],
-            timestamps: vec![],
-            markers: vec![],
-        });
+    for numbers in [fixed_numbers(), mended_numbers()].concat() {
+        // 1 to 7 come before 10, which comes before 11.
+        calls.push(to_write(numbers, so_many(1, 0, 0)));
+        calls.push(to_write(numbers, so_many(0, 1, 2)));
     }
     calls
 }
 
 fn fixed_files(random: &mut Random) -> Vec<Call> {
-    let mut files: Vec<Vec<u8>> = streams().iter().map(|(n, p)| write(n, p)).collect();
-    files.extend(fixed_numbers().iter().map(|numbers| write(numbers, &[])));
+    let [version, _] = VERSIONS;
+    let written = |numbers: &Numbers, packets: &[Packet]| write(version, numbers, packets);
+    let mut files: Vec<Vec<u8>> = streams().iter().map(|(n, p)| written(n, p)).collect();
+    for numbers in [fixed_numbers(), mended_numbers()].concat() {
+        files.push(written(&numbers, &[]));
+    }
     // The example cut at every place and with every byte changed.
-    let whole = write(&NARROW, &example());
+    let whole = written(&NARROW, &example());
     for place in 0..whole.len() {
         files.push(whole[..place].to_vec());
         let mut changed = whole.clone();
@@ -610,12 +680,39 @@ fn fixed_files(random: &mut Random) -> Vec<Call> {
         emptied[place] = 0;
         files.push(emptied);
     }
+    files.extend(wrong_records(version));
     for _ in 0..20 {
         files.push(front(random));
         files.push(damaged(random));
         files.push(random_bytes(random));
     }
     files.into_iter().map(Call::Measure).collect()
+}
+
+/// Records that are cut, of an unknown kind, of a wrong length, out of their
+/// order or refused: first of all, after parameters, and after a packet too.
+fn wrong_records(version: u8) -> Vec<Vec<u8>> {
+    let parameters = record(&parameters_body(&NARROW));
+    let packet = record(&packet_body(&Packet::new(5, 0, 1)));
+    let mut records = vec![vec![0], vec![0, 0], vec![0, 2, 1]];
+    for (kind, length) in [(0, 1), (1, 1), (2, 1), (3, 16), (255, 14), (1, 15), (2, 15)] {
+        records.push(record(&vec![kind; length]));
+    }
+    let refused = Numbers { rate: 0, ..NARROW };
+    records.push(record(&parameters_body(&refused)));
+    records.push(parameters.clone());
+    for (arrival, marker) in [(5, 1), (4, 1), (5, 2)] {
+        let packet = Packet::new(arrival, 0, marker);
+        records.push(record(&packet_body(&packet)));
+    }
+    let fronts = [vec![], parameters.clone(), [parameters, packet].concat()];
+    let all = fronts.iter().flat_map(|front| {
+        records
+            .iter()
+            .map(move |wrong| [&front[..], wrong].concat())
+    });
+    all.map(|records| [vec![version], records].concat())
+        .collect()
 }
 
 /// The ends of VL among them, which are accepted; 16 is for figures from
@@ -720,13 +817,13 @@ fn push_call(body: &mut Vec<u8>, call: &Call) {
             push_counted(body, file);
         }
         Call::Write {
+            version,
             numbers,
-            arrivals,
-            timestamps,
-            markers,
+            lists,
         } => {
-            push_seven(body, 2, numbers);
-            push_lists(body, (arrivals, timestamps, markers));
+            body.extend([2, *version]);
+            body.extend(seven(numbers));
+            push_lists(body, lists.lent());
         }
         Call::Limits(numbers) => push_seven(body, 3, numbers),
         Call::Graph {
@@ -780,11 +877,6 @@ fn push_lists(body: &mut Vec<u8>, (arrivals, timestamps, markers): (&[u64], &[u3
 }
 
 fn push_feed(body: &mut Vec<u8>, feed: &Feed) {
-    let Lists {
-        arrivals,
-        timestamps,
-        markers,
-    } = &feed.lists;
     body.extend([
         u8::from(feed.anew),
         feed.words as u8,
@@ -794,7 +886,7 @@ fn push_feed(body: &mut Vec<u8>, feed: &Feed) {
         body.push(*word);
         body.extend(value.to_be_bytes());
     }
-    push_lists(body, (arrivals, timestamps, markers));
+    push_lists(body, feed.lists.lent());
     body.extend((feed.rows as u32).to_be_bytes());
     body.extend([feed.out as u8, feed.number]);
     body.extend(feed.place.to_be_bytes());

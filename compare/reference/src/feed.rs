@@ -35,6 +35,11 @@ impl Lists {
             markers: packets.iter().map(|packet| packet.marker).collect(),
         }
     }
+
+    /// As a call lends them.
+    pub fn lent(&self) -> (&[u64], &[u32], &[u8]) {
+        (&self.arrivals, &self.timestamps, &self.markers)
+    }
 }
 
 /// One call, on the words that the last accepted call left.

@@ -1,4 +1,4 @@
-//! Test files: record files of streams, whole and damaged.
+//! Test files: record files of streams, whole and damaged, of both versions.
 
 use std::io;
 use std::path::Path;
@@ -6,10 +6,32 @@ use std::path::Path;
 use crate::numbers::Numbers;
 use crate::packet::Packet;
 use crate::random::Random;
-use crate::record::{packet_body, parameters_body, record, write};
+use crate::record::{packet_body, parameters_body, record, write, VERSIONS};
 use crate::stream::{refused_numbers, stream};
 
-/// File `index` of a seed.
+/// Versions that are refused by 20: those beside 1 and 2, and the last.
+pub const OTHER_VERSIONS: [u8; 3] = [0, 3, 255];
+
+/// One of these, or any that is neither 1 nor 2.
+pub(crate) fn other_version(random: &mut Random) -> u8 {
+    let [below, above, last] = OTHER_VERSIONS;
+    let any = random.between(i128::from(above), i128::from(last)) as u8;
+    random.pick(&[below, above, last, any])
+}
+
+/// The file with each of these version bytes, everything else the same, if it is
+/// of version 1 or 2. Any other is refused by 20 as it is, and stays alone.
+pub fn under(versions: &[u8], file: &[u8]) -> Vec<Vec<u8>> {
+    match file.split_first() {
+        Some((own, rest)) if VERSIONS.contains(own) => versions
+            .iter()
+            .map(|version| [&[*version], rest].concat())
+            .collect(),
+        _ => vec![file.to_vec()],
+    }
+}
+
+/// File `index` of a seed, of one version or the other.
 pub fn file(seed: u64, index: u64) -> Vec<u8> {
     let mut random = Random::new(seed, index);
     match random.below(100) {
@@ -20,9 +42,13 @@ pub fn file(seed: u64, index: u64) -> Vec<u8> {
         13..=38 => damaged(&mut random),
         _ => {
             let (numbers, packets) = stream(&mut random);
-            write(&numbers, &packets)
+            write(version(&mut random), &numbers, &packets)
         }
     }
+}
+
+fn version(random: &mut Random) -> u8 {
+    random.pick(&VERSIONS)
 }
 
 /// Writes `count` files `NNNNNN.rec`.
@@ -38,17 +64,17 @@ pub fn generate(seed: u64, count: u64, directory: &Path) -> io::Result<()> {
 /// A file cut off within its first bytes; the version byte alone is one.
 pub(crate) fn front(random: &mut Random) -> Vec<u8> {
     let (numbers, packets) = stream(random);
-    let mut bytes = write(&numbers, &packets);
+    let mut bytes = write(version(random), &numbers, &packets);
     bytes.truncate(random.pick(&[1, 1, 2, 3, 4, 18, 19]));
     bytes
 }
 
-/// Half of them with the right version byte, so that they get past 20.
+/// Half of them with a version byte that there is, so that they get past 20.
 pub(crate) fn random_bytes(random: &mut Random) -> Vec<u8> {
     let length = 1 + random.place(80);
     let mut bytes: Vec<u8> = (0..length).map(|_| random.bits() as u8).collect();
     if random.chance(50) {
-        bytes[0] = 1;
+        bytes[0] = version(random);
     }
     bytes
 }
@@ -60,7 +86,7 @@ fn refused_set_up(random: &mut Random) -> Vec<u8> {
     } else {
         vec![]
     };
-    write(&numbers, &packets)
+    write(version(random), &numbers, &packets)
 }
 
 /// A file as its records, so that damage can be aimed at one of them.
@@ -70,13 +96,10 @@ struct Pieces {
 }
 
 impl Pieces {
-    fn of(numbers: &Numbers, packets: &[Packet]) -> Pieces {
+    fn of(version: u8, numbers: &Numbers, packets: &[Packet]) -> Pieces {
         let mut records = vec![record(&parameters_body(numbers))];
         records.extend(packets.iter().map(|packet| record(&packet_body(packet))));
-        Pieces {
-            version: 1,
-            records,
-        }
+        Pieces { version, records }
     }
 
     fn bytes(&self) -> Vec<u8> {
@@ -99,14 +122,14 @@ impl Pieces {
 pub(crate) fn damaged(random: &mut Random) -> Vec<u8> {
     let (numbers, mut packets) = stream(random);
     packets.truncate(600);
-    let mut pieces = Pieces::of(&numbers, &packets);
+    let mut pieces = Pieces::of(version(random), &numbers, &packets);
     match random.below(14) {
         0 => zero_length(random, &mut pieces),
         1 => other_length(random, &mut pieces),
         2 | 9 => resized_body(random, &mut pieces),
         3 => other_kind(random, &mut pieces),
         4 => swapped_kind(random, &mut pieces),
-        5 => pieces.version = random.pick(&[0, 2, 3, 255]),
+        5 => pieces.version = other_version(random),
         6 => second_parameters(random, &mut pieces, &numbers),
         7 => packets_first(random, &mut pieces),
         8 => inserted(random, &mut pieces),

@@ -4,7 +4,7 @@ use std::io::{self, Read, Write};
 use std::path::Path;
 use std::process::exit;
 
-use vtiming_reference::cases::{case, fixed};
+use vtiming_reference::cases::{self, fixed, Case};
 use vtiming_reference::generate::generate;
 use vtiming_reference::next_read::three_numbers;
 use vtiming_reference::program::{capture_inputs, inputs, run_all, Told, OF_CAPTURES, OF_FILES};
@@ -30,11 +30,13 @@ const USAGE: &str = "usage:
   reference gencaptures SEED COUNT DIR
                                   writes COUNT test captures to DIR, and the words asked of each
   reference expect DIR            writes FILE.out for each .rec file in DIR
-  reference cases SEED COUNT      the fixed cases and COUNT generated ones, as the C host reads them
-  reference case SEED INDEX       one generated case, as the C host reads it
+  reference cases SEED COUNT      the cases of the fixed inputs and of COUNT generated ones, as the C
+                                  host reads them
+  reference case SEED INDEX       the cases of one generated input, as the C host reads them
   reference program SEED COUNT DIR KEEP COMMAND..
-                                  runs the program on COUNT generated files and on the .rec files of
-                                  DIR, whole and in pieces; a file that differs is copied to KEEP
+                                  runs the program on COUNT generated files and on fixed ones, in both
+                                  versions, and on the .rec files of DIR, whole and in pieces; a file
+                                  that differs is copied to KEEP
   reference captures SEED COUNT DIR[:DIR..] KEEP COMMAND..
                                   the same of vcapture, on COUNT generated captures, on fixed ones and on
                                   the .pcap files of each DIR; the nine words follow those of COMMAND";
@@ -58,8 +60,8 @@ fn main() {
         ["gen", seed, count, directory] => gen(seed, count, directory),
         ["gencaptures", seed, count, directory] => gen_captures(seed, count, directory),
         ["expect", directory] => expect(Path::new(directory)),
-        ["cases", seed, count] => cases(seed, count),
-        ["case", seed, index] => one_case(seed, index),
+        ["cases", seed, count] => all_cases(seed, count),
+        ["case", seed, index] => cases_of(seed, index),
         ["program", seed, count, directory, keep, command @ ..] if !command.is_empty() => {
             program(seed, count, directory, keep, command)
         }
@@ -217,25 +219,30 @@ fn expect(directory: &Path) -> io::Result<()> {
     Ok(())
 }
 
-/// The fixed cases have the numbers after the generated ones, so that a
-/// generated case has one number whatever stands before it.
-fn cases(seed: &str, count: &str) -> io::Result<()> {
+/// The fixed inputs have the numbers after the generated ones, so that a
+/// generated input has one number whatever stands before it.
+fn all_cases(seed: &str, count: &str) -> io::Result<()> {
     let (seed, count) = (number(seed)?, number::<u64>(count)?);
     let mut out = io::BufWriter::with_capacity(1 << 20, io::stdout().lock());
-    for (place, fixed) in fixed().iter().enumerate() {
-        out.write_all(&fixed.bytes(count + place as u64))?;
+    for (index, cases) in (count..).zip(fixed()) {
+        say_cases(&mut out, index, &cases)?;
     }
     for index in 0..count {
-        out.write_all(&case(seed, index).bytes(index))?;
+        say_cases(&mut out, index, &cases::cases(seed, index))?;
     }
     out.flush()
 }
 
-fn one_case(seed: &str, index: &str) -> io::Result<()> {
+fn cases_of(seed: &str, index: &str) -> io::Result<()> {
     let index = number(index)?;
-    io::stdout()
-        .lock()
-        .write_all(&case(number(seed)?, index).bytes(index))
+    let cases = cases::cases(number(seed)?, index);
+    say_cases(&mut io::stdout().lock(), index, &cases)
+}
+
+fn say_cases(out: &mut impl Write, index: u64, cases: &[Case]) -> io::Result<()> {
+    cases
+        .iter()
+        .try_for_each(|case| out.write_all(&case.bytes(index)))
 }
 
 fn program(

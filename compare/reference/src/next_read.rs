@@ -36,7 +36,7 @@ pub struct NextRead {
 
 /// Refusals 1 to 7, then 12 and 13, which a packet meets after a history of the
 /// frame's first packet alone; 15 is for the room, and comes after them.
-pub fn accepted(wait: &Wait) -> Result<Limits, u8> {
+fn accepted(wait: &Wait) -> Result<Limits, u8> {
     let limits = set_up(&wait.numbers)?;
     match Past::of(&[first_packet(wait)]).refuses(&packet(wait)) {
         Some(number) => Err(number),

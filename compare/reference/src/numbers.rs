@@ -13,7 +13,7 @@ pub const WRAP: i128 = 1_288_490_188_800_000;
 
 /// The seven numbers as the caller gives them. `tro` is in whole microseconds;
 /// `None` is the default. "Records keep class 0 and a default TRO as written",
-/// so nothing is worked out here.
+/// so nothing is worked out here; what class 0 means in a file is `record`'s.
 #[derive(Clone, Copy, Debug, PartialEq, Eq)]
 pub struct Numbers {
     pub rate: u64,
@@ -56,7 +56,7 @@ pub struct Limits {
     pub vrx_full: i128,
 }
 
-/// "0 means 3."
+/// The three classes; 0 is none of its own.
 #[derive(Clone, Copy, Debug, PartialEq, Eq)]
 pub enum Class {
     Narrow,
@@ -89,12 +89,14 @@ pub fn schedule_ratio(schedule: u64) -> Option<Fraction> {
 }
 
 /// "Class: 1 narrow (gapped only), 2 narrow linear (linear only), 3 wide
-/// (either). 0 means 3."
+/// (either)." Request (viii): "From now on 0 means narrow on a gapped schedule
+/// and narrow linear on a linear one. [...] Set-up without a file takes the new
+/// meaning."
 pub fn class_of(class: u64, schedule: u64) -> Option<Class> {
     match (class, schedule) {
-        (1, 0) => Some(Class::Narrow),
-        (2, 1) => Some(Class::NarrowLinear),
-        (0, _) | (3, _) => Some(Class::Wide),
+        (0, 0) | (1, 0) => Some(Class::Narrow),
+        (0, 1) | (2, 1) => Some(Class::NarrowLinear),
+        (3, _) => Some(Class::Wide),
         _ => None,
     }
 }
@@ -183,5 +185,31 @@ fn check(holds: bool, number: u8) -> Result<(), u8> {
         Ok(())
     } else {
         Err(number)
+    }
+}
+
+#[cfg(test)]
+mod tests {
+    use super::*;
+
+    /// On a linear schedule R is 1: no answer says which of the two class 0 is
+    /// there.
+    #[test]
+    fn on_a_linear_schedule_narrow_and_narrow_linear_have_the_same_limits() {
+        let linear = schedule_ratio(1).unwrap();
+        for frame in (1..=8).map(|rate| frame_length(rate).unwrap()) {
+            for n in (1..=20_000).step_by(7) {
+                let most = |class| c_max(class, n, linear, frame);
+                assert_eq!(most(Class::Narrow), most(Class::NarrowLinear));
+                for maxudp in [1460, 8960] {
+                    let full = |class| vrx_full(class, n, maxudp, frame);
+                    assert_eq!(full(Class::Narrow), full(Class::NarrowLinear));
+                }
+            }
+        }
+        // On a gapped schedule it would matter.
+        let (gapped, frame) = (schedule_ratio(0).unwrap(), frame_length(6).unwrap());
+        assert_eq!(c_max(Class::Narrow, 4148, gapped, frame), 5);
+        assert_eq!(c_max(Class::NarrowLinear, 4148, gapped, frame), 4);
     }
 }

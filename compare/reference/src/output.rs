@@ -1,7 +1,6 @@
 //! What the program prints for a file, and what the C call answers for it.
 
 use crate::measure::{measure_accepted, Buffer, Measurement, Network, Row};
-use crate::numbers::set_up;
 use crate::record::{read, FileReading};
 use crate::Refusal;
 
@@ -26,8 +25,7 @@ pub fn expected_output(bytes: &[u8]) -> String {
 /// The measurement of what was read before any refusal; none without
 /// parameters.
 fn measured(reading: &FileReading) -> Option<Measurement> {
-    let numbers = reading.numbers?;
-    let limits = set_up(&numbers).expect("the reader has set it up");
+    let limits = reading.limits?;
     Some(measure_accepted(&limits, &reading.packets))
 }
 

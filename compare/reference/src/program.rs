@@ -12,11 +12,11 @@ use std::sync::{Arc, Mutex};
 use std::time::{Duration, Instant};
 
 use crate::capture::{self, expected_capture_output, Asked};
-use crate::cases::captures;
-use crate::generate::file;
+use crate::cases::{captures, class_0_streams};
+use crate::generate::{file, under};
 use crate::numbers::Numbers;
 use crate::output::expected_output;
-use crate::record::{packet_body, parameters_body, read, record};
+use crate::record::{packet_body, parameters_body, read, record, write, VERSIONS};
 use crate::traffic;
 
 /// No file takes the program near as long; one that does has stopped it.
@@ -52,6 +52,39 @@ impl Input {
         match &self.what {
             What::RecordFile => expected_output(&self.bytes),
             What::Capture(asked) => expected_capture_output(asked, &self.bytes),
+        }
+    }
+
+    /// What its last line says, and whether that shows what class 0 means.
+    fn outcomes(&self) -> Vec<String> {
+        let own = outcomes(&self.wanted());
+        let shown = self.class_0_meant_otherwise();
+        let shown = shown.filter(|(_, text)| outcomes(text) != own);
+        let name = shown.map(|(name, _)| name.to_string());
+        own.into_iter().chain(name).collect()
+    }
+
+    /// Of an input of class 0, what that means there, and the text that would
+    /// come of the other meaning: of a file, its text in the other version.
+    fn class_0_meant_otherwise(&self) -> Option<(&'static str, String)> {
+        match &self.what {
+            What::RecordFile => {
+                let reading = read(&self.bytes);
+                reading.numbers.filter(|numbers| numbers.class == 0)?;
+                let (name, other) = match reading.version? {
+                    1 => ("class 0 as wide", 2),
+                    _ => ("class 0 as strict", 1),
+                };
+                let file = [&[other], &self.bytes[1..]].concat();
+                Some((name, expected_output(&file)))
+            }
+            What::Capture(asked) if asked.numbers.class == 0 => {
+                let mut wide = *asked;
+                wide.numbers.class = 3;
+                let text = expected_capture_output(&wide, &self.bytes);
+                Some(("class 0 as strict", text))
+            }
+            What::Capture(_) => None,
         }
     }
 
@@ -112,15 +145,19 @@ pub struct Told {
     pub same: bool,
 }
 
-/// Generated files of the seed, and every `.rec` file of the directory.
+/// Generated files of the seed and some fixed ones, in both versions, and every
+/// `.rec` file of the directory as it is.
 pub fn inputs(seed: u64, count: u64, directory: &Path) -> io::Result<Vec<Input>> {
-    let mut inputs: Vec<Input> = (0..count)
-        .map(|index| Input {
-            name: format!("file {} of seed {}", index, seed),
-            bytes: file(seed, index),
-            what: What::RecordFile,
-        })
-        .collect();
+    let mut inputs = vec![];
+    for index in 0..count {
+        let name = format!("file {} of seed {}", index, seed);
+        inputs.extend(in_both_versions(&name, &file(seed, index)));
+    }
+    // So that what class 0 means shows, whatever the seed.
+    for (place, (numbers, packets)) in class_0_streams().iter().enumerate() {
+        let file = write(VERSIONS[0], numbers, packets);
+        inputs.extend(in_both_versions(&format!("fixed file {}", place), &file));
+    }
     for path in files_of(directory, "rec")? {
         inputs.push(Input {
             name: path.display().to_string(),
@@ -129,6 +166,19 @@ pub fn inputs(seed: u64, count: u64, directory: &Path) -> io::Result<Vec<Input>>
         });
     }
     Ok(inputs)
+}
+
+fn in_both_versions(name: &str, file: &[u8]) -> Vec<Input> {
+    let named = |version: Option<&u8>| match version {
+        Some(version) => format!("{}, version {}", name, version),
+        None => name.to_string(),
+    };
+    let inputs = under(&VERSIONS, file).into_iter().map(|bytes| Input {
+        name: named(bytes.first()),
+        bytes,
+        what: What::RecordFile,
+    });
+    inputs.collect()
 }
 
 /// Generated captures of the seed, some fixed ones, and every `.pcap` file of
@@ -170,7 +220,7 @@ fn worth_running() -> Vec<Input> {
             bytes,
             what: What::Capture(asked),
         };
-        let outcomes = outcomes(&input.wanted());
+        let outcomes = input.outcomes();
         let new = outcomes
             .iter()
             .any(|outcome| !reached.contains_key(outcome));
@@ -351,7 +401,7 @@ fn try_file(
         tally.first.get_or_insert((at, difference));
         return Ok(());
     }
-    for outcome in outcomes(&wanted) {
+    for outcome in input.outcomes() {
         *tally.lock().unwrap().last_lines.entry(outcome).or_default() += 1;
     }
     Ok(())
@@ -583,7 +633,8 @@ impl Tally {
 }
 
 /// Every last line that a record file can bring about, but a refusal by 14,
-/// which takes a billion packets.
+/// which takes a billion packets; and last lines that would be others if class 0
+/// meant something else.
 pub const OF_FILES: &[&str] = &[
     "network pass",
     "network burst",
@@ -591,6 +642,8 @@ pub const OF_FILES: &[&str] = &[
     "buffer pass",
     "buffer under",
     "buffer over",
+    "class 0 as wide",
+    "class 0 as strict",
     "refused 01",
     "refused 02",
     "refused 03",
@@ -608,7 +661,7 @@ pub const OF_FILES: &[&str] = &[
 ];
 
 /// The same of a capture; a marker is one bit there, so that 11 is not among
-/// them.
+/// them, and class 0 has one meaning.
 pub const OF_CAPTURES: &[&str] = &[
     "network pass",
     "network burst",
@@ -616,6 +669,7 @@ pub const OF_CAPTURES: &[&str] = &[
     "buffer pass",
     "buffer under",
     "buffer over",
+    "class 0 as strict",
     "refused 01",
     "refused 02",
     "refused 03",
@@ -704,7 +758,7 @@ mod tests {
     #[test]
     fn a_row_that_is_held_back_is_seen() {
         let packet = crate::Packet::new(0, 0, 1);
-        let file = input(crate::write(&ONE, &[packet; 2]), What::RecordFile);
+        let file = input(crate::write(1, &ONE, &[packet; 2]), What::RecordFile);
         let row = "frame 0 0 0 0 0 0 20640000 0 1 0 1\n";
         assert_eq!(row_ends(&file), [(35, 0), (51, row.len())]);
         seen_to_be_held_back(&file);
@@ -738,5 +792,40 @@ mod tests {
     fn a_program_that_reads_no_further_is_no_fault_and_a_failing_one_is() {
         assert_eq!(through(&["head", "-c", "0"], 5000, pieces_for(5000)), "");
         assert!(through(&["false"], 10, Way::Whole).contains("it ended with"));
+    }
+
+    /// Every generated file that has a version is run in both, one of no version
+    /// as it is; what class 0 means shows in the fixed files, whatever the seed.
+    #[test]
+    fn files_are_run_in_both_versions() {
+        let nowhere = Path::new(env!("CARGO_MANIFEST_DIR"));
+        let fixed = inputs(1, 0, nowhere).unwrap();
+        let outcomes: Vec<String> = fixed.iter().flat_map(Input::outcomes).collect();
+        for class_0 in ["class 0 as wide", "class 0 as strict"] {
+            assert!(outcomes.iter().any(|outcome| outcome == class_0));
+        }
+        let generated: Vec<Vec<u8>> = inputs(1, 100, nowhere)
+            .unwrap()
+            .into_iter()
+            .map(|input| input.bytes)
+            .collect();
+        for index in 0..100 {
+            let own = file(1, index);
+            let versions = under(&VERSIONS, &own);
+            assert!(versions.contains(&own));
+            for bytes in versions {
+                assert!(generated.contains(&bytes));
+            }
+        }
+    }
+
+    #[test]
+    fn what_class_0_means_shows_in_the_fixed_captures() {
+        let outcomes = worth_running()
+            .iter()
+            .flat_map(Input::outcomes)
+            .collect::<Vec<String>>();
+        assert!(outcomes.contains(&"class 0 as strict".to_string()));
+        assert!(!outcomes.contains(&"class 0 as wide".to_string()));
     }
 }

@@ -1,10 +1,14 @@
-//! The record file: reading and writing.
+//! The record file: reading and writing, in both versions, and what class 0 means
+//! in each.
 
-use crate::numbers::{set_up, Numbers};
+use crate::numbers::{set_up, Limits, Numbers};
 use crate::packet::{first_refused, zip, Packet, Past};
 use crate::Refusal;
 
-const VERSION: u8 = 1;
+/// Request (viii): "Record files get version byte 2, with the new meaning;
+/// version 1 files keep 0 as wide. [...] Both versions are read, the writer
+/// writes the one asked for".
+pub const VERSIONS: [u8; 2] = [1, 2];
 /// "Kind 1, 16 bytes: kind, rate, schedule, class, height (2), n (4), MAXUDP
 /// (2), TRO (4; all ones is default)."
 const PARAMETERS_KIND: u8 = 1;
@@ -19,7 +23,12 @@ const DEFAULT_TRO: u64 = 0xffff_ffff;
 /// program prints "the rows closed before a refusal".
 #[derive(Clone, Debug, PartialEq, Eq)]
 pub struct FileReading {
+    /// 1 or 2; none where 20 is given.
+    pub version: Option<u8>,
+    /// As they are written.
     pub numbers: Option<Numbers>,
+    /// What set-up makes of them in a file of this version.
+    pub limits: Option<Limits>,
     pub packets: Vec<Packet>,
     pub refusal: Option<Refusal>,
     past: Past,
@@ -34,7 +43,12 @@ enum Record {
 /// (0 for 20)".
 pub fn read(bytes: &[u8]) -> FileReading {
     let mut reading = FileReading {
+        version: bytes
+            .first()
+            .copied()
+            .filter(|byte| VERSIONS.contains(byte)),
         numbers: None,
+        limits: None,
         packets: Vec::new(),
         refusal: None,
         past: Past::default(),
@@ -43,26 +57,47 @@ pub fn read(bytes: &[u8]) -> FileReading {
     reading
 }
 
-/// The records of a file, or number and offset.
-pub fn parse(bytes: &[u8]) -> Result<(Numbers, Vec<Packet>), Refusal> {
+/// The version and the records of a file, or number and offset.
+pub fn parse(bytes: &[u8]) -> Result<(u8, Numbers, Vec<Packet>), Refusal> {
     let reading = read(bytes);
-    match (reading.refusal, reading.numbers) {
-        (Some(refusal), _) => Err(refusal),
-        (None, Some(numbers)) => Ok((numbers, reading.packets)),
-        (None, None) => unreachable!("a file without parameters is refused by 23"),
+    match (reading.refusal, reading.version, reading.numbers) {
+        (Some(refusal), _, _) => Err(refusal),
+        (None, Some(version), Some(numbers)) => Ok((version, numbers, reading.packets)),
+        _ => unreachable!("a file without version or parameters is refused by 20 or 23"),
     }
+}
+
+/// Class 0 replaced by the class that it means in a file: "version 1 files keep
+/// 0 as wide", and by the new meaning it is "narrow on a gapped schedule and
+/// narrow linear on a linear one". Where the schedule is unknown it means
+/// nothing, and set-up refuses by 2.
+pub fn meant(version: u8, numbers: &Numbers) -> Numbers {
+    let class = match (version, numbers.class, numbers.schedule) {
+        (1, 0, _) => 3,
+        (2, 0, 0) => 1,
+        (2, 0, 1) => 2,
+        (_, class, _) => class,
+    };
+    Numbers { class, ..*numbers }
+}
+
+/// Set-up of a stream in a file. "Set-up without a file takes the new meaning",
+/// so that of version 2 it must come to the same with the numbers as written.
+pub fn set_up_in(version: u8, numbers: &Numbers) -> Result<Limits, u8> {
+    let limits = set_up(&meant(version, numbers));
+    assert!(version != 2 || limits == set_up(numbers));
+    limits
 }
 
 impl FileReading {
     fn read_all(&mut self, bytes: &[u8]) -> Result<(), Refusal> {
-        // "20: file empty, or version byte not 1".
-        if bytes.first() != Some(&VERSION) {
-            return Err(Refusal::new(20, 0));
-        }
+        // "20: file empty", or as request (viii) has it "20 is given, first of
+        // all, for a version other than 1 or 2".
+        let version = self.version.ok_or(Refusal::new(20, 0))?;
         let mut offset = 1;
         while offset < bytes.len() {
             let length = self
-                .read_record(&bytes[offset..])
+                .read_record(version, &bytes[offset..])
                 .map_err(|number| Refusal::new(number, offset as u64))?;
             offset += LENGTH_BYTES + length;
         }
@@ -76,21 +111,21 @@ impl FileReading {
     /// One record at the front of `rest`; gives its body's length. "at one
     /// record 21, 22, 23 come in that order, before set-up and packet
     /// refusals."
-    fn read_record(&mut self, rest: &[u8]) -> Result<usize, u8> {
+    fn read_record(&mut self, version: u8, rest: &[u8]) -> Result<usize, u8> {
         let body = body_of(rest).ok_or(21)?;
         match record_of(body).ok_or(22)? {
-            Record::Parameters(numbers) => self.take_parameters(numbers)?,
+            Record::Parameters(numbers) => self.take_parameters(version, numbers)?,
             Record::Packet(packet) => self.take_packet(packet)?,
         }
         Ok(body.len())
     }
 
     /// "23: [...] parameters again", before set-up has a word.
-    fn take_parameters(&mut self, numbers: Numbers) -> Result<(), u8> {
+    fn take_parameters(&mut self, version: u8, numbers: Numbers) -> Result<(), u8> {
         if self.numbers.is_some() {
             return Err(23);
         }
-        set_up(&numbers)?;
+        self.limits = Some(set_up_in(version, &numbers)?);
         self.numbers = Some(numbers);
         Ok(())
     }
@@ -162,8 +197,8 @@ fn big_endian(bytes: &[u8]) -> u64 {
 
 /// The bytes of a file, nothing checked but that each number has room in its
 /// field, so that files that are to be refused can be written as well.
-pub fn write(numbers: &Numbers, packets: &[Packet]) -> Vec<u8> {
-    let mut bytes = vec![VERSION];
+pub fn write(version: u8, numbers: &Numbers, packets: &[Packet]) -> Vec<u8> {
+    let mut bytes = vec![version];
     bytes.extend(record(&parameters_body(numbers)));
     for packet in packets {
         bytes.extend(record(&packet_body(packet)));
@@ -214,19 +249,25 @@ fn field(value: u64, width: usize) -> Vec<u8> {
     kept.to_vec()
 }
 
-/// The writer. "The writer refuses by 1 to 7, 10 to 14, then 24, and then
-/// writes nothing"; places are "0 for 1 to 10 and 24", else the packet's.
+/// The writer. Request (viii): "20 is given, first of all, for a version other
+/// than 1 or 2, by the writer too"; then, as document 01 has it, "The writer
+/// refuses by 1 to 7, 10 to 14, then 24, and then writes nothing". Places are
+/// "0 for 1 to 10 and 24" and for 20, else the packet's.
 pub fn writer(
+    version: u8,
     numbers: &Numbers,
     (arrivals, timestamps, markers): (&[u64], &[u32], &[u8]),
     room: usize,
 ) -> Result<Vec<u8>, Refusal> {
-    set_up(numbers).map_err(|number| Refusal::new(number, 0))?;
+    if !VERSIONS.contains(&version) {
+        return Err(Refusal::new(20, 0));
+    }
+    set_up_in(version, numbers).map_err(|number| Refusal::new(number, 0))?;
     let packets = zip(arrivals, timestamps, markers)?;
     if let Some(refusal) = first_refused(Past::default(), &packets) {
         return Err(refusal);
     }
-    let bytes = write(numbers, &packets);
+    let bytes = write(version, numbers, &packets);
     // "24: the writer's lent bytes are fewer than the file needs".
     if room < bytes.len() {
         return Err(Refusal::new(24, 0));

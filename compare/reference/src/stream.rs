@@ -8,6 +8,7 @@ use crate::numbers::{GRAINS_PER_MICROSECOND, GRAINS_PER_NANOSECOND, GRAINS_PER_T
 use crate::packet::{Packet, LONGEST_HISTORY};
 use crate::random::Random;
 use crate::reads::read_instant;
+use crate::record::{meant, set_up_in, VERSIONS};
 
 /// No file grows much beyond this.
 const MOST_IN_A_FILE: usize = 20_100;
@@ -105,8 +106,11 @@ struct Sender<'a> {
 pub fn stream(random: &mut Random) -> (Numbers, Vec<Packet>) {
     let mut numbers = accepted_numbers(random);
     let aim = random.pick(&AIMS);
-    aim_numbers(random, aim, &mut numbers);
-    let limits = set_up(&numbers).expect("the numbers are chosen to be accepted");
+    // A stream of class 0 comes near the limits of what it means in one version
+    // of a file or in the other.
+    let version = random.pick(&VERSIONS);
+    aim_numbers(random, aim, version, &mut numbers);
+    let limits = set_up_in(version, &numbers).expect("the numbers are chosen to be accepted");
     let first_frame = first_frame(random, limits.frame);
     let stamps = stamps(random);
     let mut sender = Sender {
@@ -129,19 +133,21 @@ pub fn stream(random: &mut Random) -> (Numbers, Vec<Packet>) {
 /// C_MAX and VRX_FULL have steps where n is great; streams that aim at a limit
 /// have an n on one side or the other of a step, often or always. At the
 /// bucket's limit a stream need not fill a frame, at the buffer's it must.
-fn aim_numbers(random: &mut Random, aim: Aim, numbers: &mut Numbers) {
+fn aim_numbers(random: &mut Random, aim: Aim, version: u8, numbers: &mut Numbers) {
     match aim {
         Aim::Frames => {}
         Aim::BucketLimit => {
             if random.chance(50) {
                 let any = 2000 + random.below(18_001);
-                numbers.packets_per_frame = near_step(random, numbers, any, |l| l.c_max);
+                let stream = meant(version, numbers);
+                numbers.packets_per_frame = near_step(random, &stream, any, |l| l.c_max);
             }
         }
         Aim::BufferLimit => {
             numbers.maxudp = random.pick(&[8960, 8960, 8960, 1460]);
             let any = 500 + random.below(5000);
-            numbers.packets_per_frame = near_step(random, numbers, any, |l| l.vrx_full);
+            let stream = meant(version, numbers);
+            numbers.packets_per_frame = near_step(random, &stream, any, |l| l.vrx_full);
         }
     }
 }

@@ -1,6 +1,6 @@
 //! Document 01, sentence by sentence: its twelve cases, its example, and every
-//! refusal number that can occur; and requests (ii), (v) and (xiii) of document
-//! 02.
+//! refusal number that can occur, of files in both versions; and requests (ii),
+//! (v) and (xiii) of document 02. Request (viii) itself is in `class_0.rs`.
 
 use vtiming_reference::bucket::{drain_instant, Run};
 use vtiming_reference::feed::Lists;
@@ -46,8 +46,12 @@ fn example_packets() -> Vec<Packet> {
     ])
 }
 
+fn example_in(version: u8) -> Vec<u8> {
+    write(version, &narrow(4), &example_packets())
+}
+
 fn example_file() -> Vec<u8> {
-    write(&narrow(4), &example_packets())
+    example_in(1)
 }
 
 /// FPT of a frame of one packet that arrives at `t`, after a lead-in.
@@ -163,7 +167,8 @@ fn case_10_the_timestamp_that_went_round() {
 
 #[test]
 fn case_11_the_example() {
-    assert_eq!(expected_output(&example_file()), EXAMPLE);
+    assert_eq!(expected_output(&example_in(1)), EXAMPLE);
+    assert_eq!(expected_output(&example_in(2)), EXAMPLE);
 }
 
 #[test]
@@ -209,7 +214,7 @@ fn both_default_tros_are_whole_at_all_rates() {
 #[test]
 fn wide_and_narrow_linear_limits() {
     let wide = Numbers {
-        class: 0,
+        class: 3,
         maxudp: 8960,
         ..narrow(20_000)
     };
@@ -337,89 +342,103 @@ fn refusal_16_and_the_doubles() {
 #[test]
 fn refusal_20() {
     assert_eq!(parse(&[]), Err(refused(20, 0)));
-    assert_eq!(parse(&[0]), Err(refused(20, 0)));
     let mut file = example_file();
-    file[0] = 2;
-    assert_eq!(parse(&file), Err(refused(20, 0)));
+    for version in [0, 3, 4, 128, 255] {
+        file[0] = version;
+        assert_eq!(parse(&file), Err(refused(20, 0)));
+        assert_eq!(parse(&[version]), Err(refused(20, 0)));
+    }
 }
 
 #[test]
 fn refusal_21() {
-    let file = example_file();
-    // 1 and 18 bytes of parameters, then 16 bytes a packet.
-    assert_eq!(parse(&file[..2]), Err(refused(21, 1)));
-    assert_eq!(parse(&file[..18]), Err(refused(21, 1)));
-    assert!(parse(&file[..19]).is_ok());
-    assert_eq!(parse(&file[..20]), Err(refused(21, 19)));
-    assert_eq!(parse(&file[..21]), Err(refused(21, 19)));
-    assert_eq!(parse(&file[..34]), Err(refused(21, 19)));
-    assert!(parse(&file[..35]).is_ok());
-    let zero = [&file[..19], &[0, 0]].concat();
-    assert_eq!(parse(&zero), Err(refused(21, 19)));
+    for file in [example_in(1), example_in(2)] {
+        // 1 and 18 bytes of parameters, then 16 bytes a packet.
+        assert_eq!(parse(&file[..2]), Err(refused(21, 1)));
+        assert_eq!(parse(&file[..18]), Err(refused(21, 1)));
+        assert!(parse(&file[..19]).is_ok());
+        assert_eq!(parse(&file[..20]), Err(refused(21, 19)));
+        assert_eq!(parse(&file[..21]), Err(refused(21, 19)));
+        assert_eq!(parse(&file[..34]), Err(refused(21, 19)));
+        assert!(parse(&file[..35]).is_ok());
+        let zero = [&file[..19], &[0, 0]].concat();
+        assert_eq!(parse(&zero), Err(refused(21, 19)));
+    }
 }
 
 #[test]
 fn refusal_22() {
-    let file = example_file();
-    let wrong_length = [&file[..19], &[0, 1, 2]].concat();
-    assert_eq!(parse(&wrong_length), Err(refused(22, 19)));
-    let unknown_kind = [&file[..19], &[0, 1, 3]].concat();
-    assert_eq!(parse(&unknown_kind), Err(refused(22, 19)));
-    // 22 comes before 23: no parameters yet, but the kind is unknown.
-    assert_eq!(parse(&[1, 0, 1, 9]), Err(refused(22, 1)));
+    for file in [example_in(1), example_in(2)] {
+        let wrong_length = [&file[..19], &[0, 1, 2]].concat();
+        assert_eq!(parse(&wrong_length), Err(refused(22, 19)));
+        let unknown_kind = [&file[..19], &[0, 1, 3]].concat();
+        assert_eq!(parse(&unknown_kind), Err(refused(22, 19)));
+        // 22 comes before 23: no parameters yet, but the kind is unknown.
+        assert_eq!(parse(&[file[0], 0, 1, 9]), Err(refused(22, 1)));
+    }
 }
 
 #[test]
 fn refusal_23() {
-    let file = example_file();
-    assert_eq!(parse(&[1]), Err(refused(23, 1)));
-    let packets_first = [&file[..1], &file[19..]].concat();
-    assert_eq!(parse(&packets_first), Err(refused(23, 1)));
-    let again = [&file[..35], &file[1..19]].concat();
-    assert_eq!(parse(&again), Err(refused(23, 35)));
-    // 23 comes before set-up's own refusals.
-    let mut refused_again = again;
-    refused_again[35 + 3] = 0;
-    assert_eq!(parse(&refused_again), Err(refused(23, 35)));
+    for file in [example_in(1), example_in(2)] {
+        assert_eq!(parse(&file[..1]), Err(refused(23, 1)));
+        let packets_first = [&file[..1], &file[19..]].concat();
+        assert_eq!(parse(&packets_first), Err(refused(23, 1)));
+        let again = [&file[..35], &file[1..19]].concat();
+        assert_eq!(parse(&again), Err(refused(23, 35)));
+        // 23 comes before set-up's own refusals.
+        let mut refused_again = again;
+        refused_again[35 + 3] = 0;
+        assert_eq!(parse(&refused_again), Err(refused(23, 35)));
+    }
 }
 
 #[test]
 fn set_up_and_packet_refusals_have_the_records_offset() {
-    // Version, length and kind come before the rate.
-    let mut file = example_file();
-    file[4] = 0;
-    assert_eq!(parse(&file), Err(refused(1, 1)));
-    let mut list = example_packets();
-    list[4].marker = 2;
-    assert_eq!(parse(&write(&narrow(4), &list)), Err(refused(11, 83)));
-    list[4] = Packet::new(30_299_999, 1800, 1);
-    assert_eq!(parse(&write(&narrow(4), &list)), Err(refused(12, 83)));
-    list[4] = Packet::new(19_000_001 + LONGEST_HISTORY, 1800, 1);
-    assert_eq!(parse(&write(&narrow(4), &list)), Err(refused(13, 83)));
+    for version in [1, 2] {
+        // Version, length and kind come before the rate.
+        let mut file = example_in(version);
+        file[4] = 0;
+        assert_eq!(parse(&file), Err(refused(1, 1)));
+        let refusal = |last: Packet| {
+            let mut list = example_packets();
+            list[4] = last;
+            parse(&write(version, &narrow(4), &list)).err()
+        };
+        let last = example_packets()[4];
+        assert_eq!(refusal(last), None);
+        let high = Packet { marker: 2, ..last };
+        assert_eq!(refusal(high), Some(refused(11, 83)));
+        let early = Packet::new(30_299_999, 1800, 1);
+        assert_eq!(refusal(early), Some(refused(12, 83)));
+        let late = Packet::new(19_000_001 + LONGEST_HISTORY, 1800, 1);
+        assert_eq!(refusal(late), Some(refused(13, 83)));
+    }
 }
 
 #[test]
 fn the_writer_and_its_refusals() {
     let numbers = narrow(4);
-    let lists: (&[u64], &[u32], &[u8]) = (&[1, 2], &[3, 4], &[0, 1]);
-    let file = writer(&numbers, lists, 51).unwrap();
-    assert_eq!(file.len(), 51);
-    assert_eq!(
-        parse(&file),
-        Ok((numbers, packets(&[(1, 3, 0), (2, 4, 1)])))
-    );
-    assert_eq!(writer(&numbers, lists, 50), Err(refused(24, 0)));
     let bad = Numbers {
         tro: Some(20_000),
         ..numbers
     };
+    let lists: (&[u64], &[u32], &[u8]) = (&[1, 2], &[3, 4], &[0, 1]);
     let uneven: (&[u64], &[u32], &[u8]) = (&[1], &[3, 4], &[0, 7]);
-    assert_eq!(writer(&bad, uneven, 0), Err(refused(7, 0)));
-    assert_eq!(writer(&numbers, uneven, 0), Err(refused(10, 0)));
     let high: (&[u64], &[u32], &[u8]) = (&[2, 1], &[3, 4], &[0, 7]);
-    assert_eq!(writer(&numbers, high, 0), Err(refused(11, 1)));
     let back: (&[u64], &[u32], &[u8]) = (&[2, 1], &[3, 4], &[0, 1]);
-    assert_eq!(writer(&numbers, back, 0), Err(refused(12, 1)));
+    for version in [1, 2] {
+        let file = writer(version, &numbers, lists, 51).unwrap();
+        assert_eq!((file[0], file.len()), (version, 51));
+        let list = packets(&[(1, 3, 0), (2, 4, 1)]);
+        assert_eq!(parse(&file), Ok((version, numbers, list)));
+        let refusal = |numbers, lists, room| writer(version, numbers, lists, room).err();
+        assert_eq!(refusal(&numbers, lists, 50), Some(refused(24, 0)));
+        assert_eq!(refusal(&bad, uneven, 0), Some(refused(7, 0)));
+        assert_eq!(refusal(&numbers, uneven, 0), Some(refused(10, 0)));
+        assert_eq!(refusal(&numbers, high, 0), Some(refused(11, 1)));
+        assert_eq!(refusal(&numbers, back, 0), Some(refused(12, 1)));
+    }
 }
 
 #[test]
@@ -428,12 +447,14 @@ fn class_0_and_default_tro_stay_as_written() {
         class: 0,
         ..narrow(4)
     };
-    let file = write(&numbers, &[]);
-    let expected = [
-        1, 0, 16, 1, 6, 0, 0, 4, 56, 0, 0, 0, 4, 5, 180, 255, 255, 255, 255,
-    ];
-    assert_eq!(file, expected);
-    assert_eq!(parse(&file), Ok((numbers, vec![])));
+    for version in [1, 2] {
+        let file = writer(version, &numbers, (&[], &[], &[]), 19).unwrap();
+        let expected = [
+            version, 0, 16, 1, 6, 0, 0, 4, 56, 0, 0, 0, 4, 5, 180, 255, 255, 255, 255,
+        ];
+        assert_eq!(file, expected);
+        assert_eq!(parse(&file), Ok((version, numbers, vec![])));
+    }
 }
 
 // --- output and C call ---
@@ -451,7 +472,7 @@ fn rows_closed_before_a_refusal_are_printed() {
 
 #[test]
 fn parameters_alone_are_a_file() {
-    let file = write(&narrow(4), &[]);
+    let file = write(1, &narrow(4), &[]);
     let line = "packets 0 frames 0 peak 0 network pass buffer none\n";
     assert_eq!(expected_output(&file), line);
 }
@@ -660,7 +681,7 @@ fn fifteen_is_given_below_eleven_numbers_per_frame() {
 fn a_row_of_the_c_call_is_88_bytes() {
     let stamps: [&[u32]; 3] = [&[1, 1, 1], &[1, 2], &[1, 1, 1, 1]];
     for frames in 0..=3 {
-        let file = write(&three(), &frames_of(&stamps[..frames]));
+        let file = write(1, &three(), &frames_of(&stamps[..frames]));
         let needed = 72 + 88 * frames;
         assert_eq!(expected_c_call(&file, needed).2.unwrap().len(), needed);
         let too_few = (15, file.len() as u64, None);

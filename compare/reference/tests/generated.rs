@@ -1,16 +1,16 @@
 //! The generated files reach what they are meant to reach: every refusal of a
 //! file, every kind and verdict, arrivals exactly on reads and drains, and
-//! timestamps from both sides of a wrap and of a tie. So do the captures, and
-//! what is asked for the next read.
+//! timestamps from both sides of a wrap and of a tie. So do the captures, what is
+//! asked for the next read, and files and lists under every version.
 
 use std::collections::BTreeMap;
 
 use vtiming_reference::bucket::{drain_instant, drains_by};
 use vtiming_reference::capture::{Carried, Why};
-use vtiming_reference::cases::{captures, case, fixed, waits, Call, Case, ROUND};
+use vtiming_reference::cases::{captures, cases, fixed, waits, Call, Case, ROUND};
 use vtiming_reference::fraction::Fraction;
 use vtiming_reference::frame::{closed_frames, t_cf, Kind};
-use vtiming_reference::generate::file;
+use vtiming_reference::generate::{file, under, OTHER_VERSIONS};
 use vtiming_reference::measure::{measure_accepted, Row};
 use vtiming_reference::numbers::{GRAINS_PER_NANOSECOND, GRAINS_PER_SECOND, GRAINS_PER_TICK, WRAP};
 use vtiming_reference::packet::LONGEST_HISTORY;
@@ -61,8 +61,8 @@ fn look_at_verdict(seen: &mut Seen, line: &str) {
 
 fn look_at_ties(seen: &mut Seen, bytes: &[u8]) {
     let reading = read(bytes);
-    let limits = match reading.numbers {
-        Some(numbers) => set_up(&numbers).unwrap(),
+    let limits = match reading.limits {
+        Some(limits) => limits,
         None => return,
     };
     for packet in &reading.packets {
@@ -131,9 +131,9 @@ fn generated_files_reach_every_stream_and_both_ends() {
     let mut seen = Seen::default();
     for index in 0..6000 {
         let reading = read(&file(2110, index));
-        let (numbers, limits) = match reading.numbers {
-            Some(numbers) => (numbers, set_up(&numbers).unwrap()),
-            None => continue,
+        let (numbers, limits) = match (reading.numbers, reading.limits) {
+            (Some(numbers), Some(limits)) => (numbers, limits),
+            _ => continue,
         };
         let Numbers {
             rate,
@@ -214,8 +214,8 @@ fn the_eleventh_number_is_the_place_where_the_frame_begins() {
     let mut seen = Seen::default();
     for index in 0..FILES {
         let reading = read(&file(1, index));
-        let limits = match reading.numbers {
-            Some(numbers) => set_up(&numbers).unwrap(),
+        let limits = match reading.limits {
+            Some(limits) => limits,
             None => continue,
         };
         let mut before = 0;
@@ -237,8 +237,8 @@ fn the_eleventh_number_is_the_place_where_the_frame_begins() {
 /// packet of its frame.
 fn whole_rows(seed: u64, index: u64) -> Vec<(Row, Packet)> {
     let reading = read(&file(seed, index));
-    let limits = match reading.numbers {
-        Some(numbers) => set_up(&numbers).unwrap(),
+    let limits = match reading.limits {
+        Some(limits) => limits,
         None => return vec![],
     };
     let rows = measure_accepted(&limits, &reading.packets).rows;
@@ -371,8 +371,8 @@ fn a_file_is_the_same_each_time() {
 fn what_is_read_is_written_back_byte_for_byte() {
     for index in 0..300 {
         let bytes = file(3, index);
-        if let Ok((numbers, packets)) = parse(&bytes) {
-            assert_eq!(write(&numbers, &packets), bytes);
+        if let Ok((version, numbers, packets)) = parse(&bytes) {
+            assert_eq!(write(version, &numbers, &packets), bytes);
         }
     }
 }
@@ -604,7 +604,7 @@ fn fixed_waits_reach_every_stream() {
 #[test]
 fn two_numbers_and_three_are_lent_for_a_next_read() {
     let mut seen = Seen::default();
-    for case in fixed() {
+    for case in fixed_cases() {
         if let Call::NextRead(_) = case.call {
             for room in &case.rooms {
                 seen.add(&format!("{} for {}", room.number, room.lent.min(4)));
@@ -750,6 +750,10 @@ fn generated_captures_are_accepted_and_refused() {
 
 // --- the cases for the C host ---
 
+fn fixed_cases() -> Vec<Case> {
+    fixed().into_iter().flatten().collect()
+}
+
 fn name_of(call: &Call) -> &'static str {
     match call {
         Call::Measure(_) => "measure",
@@ -785,7 +789,7 @@ fn reach_every_answer(cases: &[Case]) {
             "measure",
             &[0, 1, 2, 3, 4, 5, 6, 7, 11, 12, 13, 15, 20, 21, 22, 23],
         ),
-        ("write", &[0, 1, 2, 3, 4, 5, 6, 7, 10, 11, 12, 13, 24]),
+        ("write", &[0, 1, 2, 3, 4, 5, 6, 7, 10, 11, 12, 13, 20, 24]),
         ("limits", &[0, 1, 2, 3, 4, 5, 6, 7, 15]),
         ("graph", &[0, 15, 16]),
         ("set-up", &[0, 1, 2, 3, 4, 5, 6, 7, 15]),
@@ -815,15 +819,15 @@ fn reach_every_answer(cases: &[Case]) {
 /// reach it all; and generated ones reach it too.
 #[test]
 fn the_cases_reach_every_answer_of_every_call() {
-    reach_every_answer(&fixed());
-    let generated: Vec<Case> = (0..200 * ROUND).map(|index| case(1, index)).collect();
+    reach_every_answer(&fixed_cases());
+    let generated: Vec<Case> = (0..200 * ROUND).flat_map(|i| cases(1, i)).collect();
     reach_every_answer(&generated);
 }
 
 #[test]
 fn the_fixed_files_reach_every_kind_and_verdict() {
     let mut seen = Seen::default();
-    for case in fixed() {
+    for case in fixed_cases() {
         if let Call::Measure(bytes) = &case.call {
             look_at_lines(&mut seen, &expected_output(bytes));
         }
@@ -844,12 +848,208 @@ fn the_fixed_files_reach_every_kind_and_verdict() {
     }
 }
 
+// --- request (viii) ---
+
+/// The version byte of a file, or the version that lists are to be written as.
+fn version_of(call: &Call) -> Option<u8> {
+    match call {
+        Call::Measure(file) => file.first().copied(),
+        Call::Write { version, .. } => Some(*version),
+        _ => None,
+    }
+}
+
+/// The same call, under another version.
+fn in_version(call: &Call, version: u8) -> Call {
+    let mut other = call.clone();
+    match &mut other {
+        Call::Measure(file) => file[0] = version,
+        Call::Write { version: asked, .. } => *asked = version,
+        _ => unreachable!("no other call has a version"),
+    }
+    other
+}
+
+/// An input that has a version comes under version 1, under 2 and then under
+/// others, and is else the same; any other input comes once. Gives the versions.
+fn versions_of(input: &[Case]) -> Vec<u8> {
+    let first = version_of(&input[0].call);
+    if !matches!(first, Some(1 | 2)) {
+        assert_eq!(input.len(), 1);
+        return vec![];
+    }
+    let versions: Vec<u8> = input.iter().flat_map(|c| version_of(&c.call)).collect();
+    for (case, version) in input.iter().zip(&versions) {
+        assert_eq!(case.call, in_version(&input[0].call, *version));
+    }
+    versions
+}
+
+/// Every file that has a version, and all lists: the fixed ones under 1, 2, 0, 3
+/// and 255, the generated ones under 1, 2 and one that there is not.
+#[test]
+fn every_file_and_every_list_is_tried_in_both_versions() {
+    let mut seen = Seen::default();
+    for input in fixed() {
+        let versions = versions_of(&input);
+        if !versions.is_empty() {
+            assert_eq!(versions, [1, 2, 0, 3, 255]);
+            seen.add(&format!("fixed {}", name_of(&input[0].call)));
+        }
+    }
+    for input in (0..100 * ROUND).map(|index| cases(2, index)) {
+        if let [1, 2, other] = versions_of(&input)[..] {
+            assert!(other != 1 && other != 2);
+            let name = name_of(&input[0].call);
+            seen.add(&format!("generated {} and {}", name, other.clamp(3, 5)));
+            seen.add(&format!("generated {}", name));
+        }
+    }
+    // Of 1,200 files some are empty or of no version; of lists there are 400.
+    assert!(seen.0["generated measure"] > 1000);
+    assert_eq!(seen.0["generated write"], 400);
+    assert!(seen.0["fixed measure"] > 500 && seen.0["fixed write"] > 200);
+}
+
+/// What else is wrong with inputs that come under a version that there is not,
+/// as version 2 has it: each such case is refused by 20, at 0.
+fn look_at_faults(seen: &mut Seen, input: &[Case]) {
+    if versions_of(input).is_empty() {
+        return;
+    }
+    let name = name_of(&input[0].call);
+    for case in &input[2..] {
+        assert!(case.filled.is_empty() && case.measured.is_empty());
+        assert!(case.rooms.iter().any(|room| room.lent == 0));
+        assert!(case.rooms.iter().any(|room| room.lent >= 1000));
+        for room in &case.rooms {
+            assert_eq!((room.number, room.place), (20, 0));
+        }
+        for room in &input[1].rooms {
+            seen.add(&format!("{} {}", name, room.number));
+        }
+    }
+}
+
+/// 20 "is given, first of all": tried with every other fault, by the fixed inputs
+/// alone and by generated ones.
+#[test]
+fn other_versions_are_tried_with_every_other_fault() {
+    let of_files = [0, 1, 2, 3, 4, 5, 6, 7, 11, 12, 13, 15, 21, 22, 23];
+    let of_lists = [0, 1, 2, 3, 4, 5, 6, 7, 10, 11, 12, 13, 24];
+    let named = |name, number: &i32| format!("{} {}", name, number);
+    let mut wanted: Vec<String> = of_files.iter().map(|n| named("measure", n)).collect();
+    wanted.extend(of_lists.iter().map(|n| named("write", n)));
+    wanted.sort();
+    let generated = (0..100 * ROUND).map(|index| cases(3, index)).collect();
+    for inputs in [fixed(), generated] {
+        let mut seen = Seen::default();
+        inputs
+            .iter()
+            .for_each(|input| look_at_faults(&mut seen, input));
+        let seen: Vec<String> = seen.0.into_keys().collect();
+        assert_eq!(seen, wanted);
+    }
+}
+
+/// Generated files have every version too, so that the program meets them.
+#[test]
+fn generated_files_have_versions_of_every_sort() {
+    let files: Vec<Vec<u8>> = (0..FILES).map(|index| file(2110, index)).collect();
+    let count = |version| files.iter().filter(|f| f.first() == Some(&version)).count();
+    assert!(count(1) > 500 && count(2) > 500);
+    for version in OTHER_VERSIONS {
+        assert!(count(version) > 0, "never seen: {}", version);
+    }
+    let other = |file: &&Vec<u8>| (4..255).contains(&file.first().copied().unwrap_or(0));
+    assert!(files.iter().any(|file| other(&file)));
+}
+
+/// The network and the buffer answer of what a case fills in or, of a file that
+/// is written, of what is measured then.
+fn answers_filled(case: &Case) -> Option<(u8, u8)> {
+    let filled = match case.call {
+        Call::Write { .. } => &case.measured,
+        _ => &case.filled,
+    };
+    // Numbers 3 and 6, of 8 bytes each.
+    (filled.len() >= 72).then(|| (filled[31], filled[55]))
+}
+
+/// Schedule and class of a file that is accepted, or of lists.
+fn stream_of(call: &Call) -> Option<(u64, u64)> {
+    let numbers = match call {
+        Call::Measure(file) => parse(file).ok()?.1,
+        Call::Write { numbers, .. } => *numbers,
+        _ => return None,
+    };
+    Some((numbers.schedule, numbers.class))
+}
+
+/// Files of class 0 that pass in version 1 and not in version 2; where the class
+/// is another, both versions have one answer.
+fn look_at_meaning(seen: &mut Seen, input: &[Case]) {
+    if versions_of(input).is_empty() {
+        return;
+    }
+    let (in_1, in_2) = match (answers_filled(&input[0]), answers_filled(&input[1])) {
+        (Some(in_1), Some(in_2)) => (in_1, in_2),
+        _ => return,
+    };
+    let (schedule, class) = stream_of(&input[0].call).expect("it is accepted");
+    assert!(class == 0 || in_1 == in_2);
+    let what = format!("{} {}", name_of(&input[0].call), schedule);
+    if (in_1.0, in_2.0) == (0, 1) {
+        seen.add(&format!("{} bursts", what));
+    }
+    if (in_1.1, in_2.1) == (1, 3) {
+        seen.add(&format!("{} overflows", what));
+    }
+}
+
+/// On both schedules, read and written, by the fixed inputs alone and by generated
+/// ones: else the comparison would not see what class 0 means.
+#[test]
+fn what_class_0_means_shows_in_the_cases() {
+    let mut wanted = vec![];
+    for name in ["measure", "write"] {
+        for schedule in 0..=1 {
+            for what in ["bursts", "overflows"] {
+                wanted.push(format!("{} {} {}", name, schedule, what));
+            }
+        }
+    }
+    let generated = (0..100 * ROUND).map(|index| cases(4, index)).collect();
+    for inputs in [fixed(), generated] {
+        let mut seen = Seen::default();
+        inputs
+            .iter()
+            .for_each(|input| look_at_meaning(&mut seen, input));
+        println!("{:#?}", seen.0);
+        let seen: Vec<String> = seen.0.into_keys().collect();
+        assert_eq!(seen, wanted);
+    }
+}
+
+/// A file is tried under other versions with nothing else changed; one that has
+/// none stays as it is.
+#[test]
+fn only_the_version_byte_is_changed() {
+    assert_eq!(
+        under(&[1, 2, 0], &[2, 7, 8]),
+        [[1, 7, 8], [2, 7, 8], [0, 7, 8]]
+    );
+    assert_eq!(under(&[1, 2], &[1]), [[1], [2]]);
+    assert_eq!(under(&[1, 2], &[0, 7]), [[0, 7]]);
+    assert_eq!(under(&[1, 2], &[3, 7]), [[3, 7]]);
+    assert_eq!(under(&[1, 2], &[]), [[]]);
+}
+
 /// A call is accepted exactly where what it writes has room, and a refusal for
 /// want of room is 15, or 24 of the writer.
 #[test]
 fn a_case_is_accepted_where_there_is_room() {
-    for index in 0..2000 {
-        let case = case(5, index);
+    for case in (0..2000).flat_map(|index| cases(5, index)) {
         let size = match case.call {
             Call::Measure(_) | Call::Write { .. } | Call::Capture { .. } => 1,
             _ => 8,
@@ -875,12 +1075,44 @@ fn a_case_is_accepted_where_there_is_room() {
     }
 }
 
+/// Number and place of a call on bytes, or of the writer, with so much lent.
+fn answer_with(call: &Call, lent: usize) -> Option<(u8, u64)> {
+    let (number, place, _) = match call {
+        Call::Measure(file) => expected_c_call(file, lent),
+        Call::Capture { asked, bytes } => expected_capture_call(asked, bytes, lent),
+        Call::Write {
+            version,
+            numbers,
+            lists,
+        } => match writer(*version, numbers, lists.lent(), lent) {
+            Ok(file) => (0, 0, Some(file)),
+            Err(refusal) => (refusal.number, refusal.place, None),
+        },
+        _ => return None,
+    };
+    Some((number, place))
+}
+
+/// The answers of a case are worked out from the one with ample room, and must be
+/// those of the call with each room.
+#[test]
+fn a_case_answers_for_each_room_as_the_call_does() {
+    let generated = (0..20 * ROUND).flat_map(|index| cases(9, index));
+    for case in fixed_cases().into_iter().chain(generated) {
+        for room in &case.rooms {
+            if let Some(answer) = answer_with(&case.call, room.lent as usize) {
+                assert_eq!((room.number, room.place), answer);
+            }
+        }
+    }
+}
+
 /// However a list is dealt out, the accepted calls lend all of it, in order,
 /// write the rows of the whole list, once, and end in its nine numbers.
 #[test]
 fn calls_in_a_row_give_what_one_call_gives() {
-    let generated = (0..400).map(|index| case(7, ROUND * index + 17));
-    for case in fixed().into_iter().chain(generated) {
+    let generated = (0..400).flat_map(|index| cases(7, ROUND * index + 17));
+    for case in fixed_cases().into_iter().chain(generated) {
         let calls = match case.call {
             Call::Feed { calls, .. } => calls,
             _ => continue,
@@ -914,7 +1146,7 @@ fn calls_in_a_row_give_what_one_call_gives() {
 #[test]
 fn ten_numbers_and_eleven_are_lent_for_one_frame() {
     let mut seen = Seen::default();
-    for case in fixed() {
+    for case in fixed_cases() {
         let calls = match case.call {
             Call::Feed { calls, .. } => calls,
             _ => continue,
@@ -934,9 +1166,11 @@ fn ten_numbers_and_eleven_are_lent_for_one_frame() {
 #[test]
 fn a_case_is_as_long_as_it_says() {
     for index in 0..200 {
-        let bytes = case(6, index).bytes(index);
-        let size = u32::from_be_bytes([bytes[0], bytes[1], bytes[2], bytes[3]]);
-        assert_eq!(bytes.len(), 4 + size as usize);
-        assert_eq!(bytes, case(6, index).bytes(index));
+        assert_eq!(cases(6, index), cases(6, index));
+        for case in cases(6, index) {
+            let bytes = case.bytes(index);
+            let size = u32::from_be_bytes([bytes[0], bytes[1], bytes[2], bytes[3]]);
+            assert_eq!(bytes.len(), 4 + size as usize);
+        }
     }
 }

@@ -1,5 +1,5 @@
-// The record file: its head and a cursor that reads one record after the other, of a whole file or of pieces as they come, the check
-// of a whole file, and the writer. It knows the file's layout, and asks `limits` and `packet` what they refuse.
+// The record file, of both versions: its head and a cursor that reads one record after the other, of a whole file or of pieces as they
+// come, the check of a whole file, and the writer. It knows the file's layout, and asks `limits` and `packet` what they refuse.
 // It must never know what is measured: no bucket, no frame, no verdict. No body is read before its length is checked.
 use endian::read16;
 use endian::read32;
