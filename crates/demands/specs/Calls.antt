@@ -114,6 +114,12 @@ module _ (s : List ℕ) where
         × (bytesFor w ps ≡ encoded (map pos (summaryOf state) ++ written))
     file-as-fed = file-proved.as-fed s w ps e
 
+    -- F11: "version 1 files keep 0 as wide": the report of a file of version 1 is the one of its numbers with 0 read as 3
+    pub version-one-measured : w .version ≡ 1 → let p = w .parameters in
+        bytesFor w ps
+        ≡ encoded (reportOf (ofParameters (given (p .rate) (p .schedule) (firstClass (p .class)) (p .height) (p .n) (p .maxudp) (p .tro))) ps)
+    version-one-measured = file-proved.first-measured w ps
+
     -- C3: "Each number is 8 bytes, signed, big-endian": number k of the report is what its 8 bytes are, read as a signed number
     pub reads-back : (k : ℕ) → k < length (reportOf (streamOf w) ps)
         → toZ w64 (numberOf (take numberBytes (drop (numberBytes * k) (bytesFor w ps)))) ≡ getD (reportOf (streamOf w) ps) k (pos 0)
@@ -128,14 +134,8 @@ written-measured w ts ss ms out after hw ht hs h =
     enough-room (take (fileLength (length ts)) after) w (packets ts ss ms)
     (written-reads w ts ss ms out after (fileLength (length ts)) hw ht hs (written-whole w ts ss ms out h))
 
--- F11: "version 1 files keep 0 as wide": the measurement of a file of version 1 is the one of its numbers with 0 read as 3
-pub version-one-measured : (p : Parameters) (ps : List Packet)
-    → bytesFor (heading 1 p) ps
-    ≡ encoded (reportOf (ofParameters (given (p .rate) (p .schedule) (firstClass (p .class)) (p .height) (p .n) (p .maxudp) (p .tro))) ps)
-version-one-measured = file-proved.first-measured
-
--- F11: so whatever bytes follow its head, refused or not, it is answered, and its lent bytes are filled, as those of the file of version 2
--- whose class 0 is written as 3
+-- F11: whatever bytes follow the head of a file of version 1, refused or not, it is answered, and its lent bytes are filled, as those of the
+-- file of version 2 whose class 0 is written as 3
 pub version-one-answered : (p : Parameters) (l out : List ℕ) → ParametersHeld p
     → let s = headOf (heading 1 p) ++ l in
     let t = headOf (heading 2 (resolved (heading 1 p))) ++ l in

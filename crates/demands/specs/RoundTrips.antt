@@ -1,7 +1,9 @@
 -- The record file both ways, whole and in pieces. A `Heading` is what a file tells before its packets, version and parameters as written.
 -- `bytesIn s ps` are the bytes of a file, `fileOf` what bytes read as, `WriteGives` what the writer ensures, `allCalls` what the reader
--- answers, call after call, and `allInPieces` what it answers to a file in pieces: record's Paper, Layout, Write and Pieces. The hypotheses bound numbers by what their types and slices always hold.
-use Rattle.laws.specs.Kit.{_≡_, sym, ap, _∙_, Bool, true, false, List, [], _∷_, _++_, flatten, ℕ, _+_, _^_, _≤_, _<_, arith, length, take, getD}
+-- answers, call after call, and `allInPieces` what it answers to a file in pieces: record's Paper, Layout, Write and Pieces. The hypotheses
+-- bound numbers by what their types and slices always hold.
+use Rattle.laws.specs.Kit.{_≡_, sym, ap, _∙_, Bool, true, false, List, [], _∷_, _++_, flatten, ℕ, _+_, _^_, _≤_, _<_, arith, length, take}
+use Rattle.laws.specs.Kit.{getD}
 use Rattle.laws.specs.Choose.{AllBelow}
 use Rattle.limits.specs.declared.Parameters.{Parameters}
 use Rattle.limits.specs.declared.Class.the-variants.{Narrow, NarrowLinear, Wide, Unknown}

@@ -109,11 +109,11 @@ module _ (h k : Heading) (e : resolved h ≡ resolved k) where
         read-alike h k e (λ r. filled out (asFile r)) (file-untold (filled out) (λ ps. rw (bytes-alike ps))) l a b
 
 -- F11: a file of version 1, and that of version 2 whose class 0 is written as 3
-pub first-measured : (p : Parameters) (ps : List Packet)
-    → bytesFor (heading 1 p) ps
+pub first-measured : (w : Heading) (ps : List Packet) → w .version ≡ 1 → let p = w .parameters in
+    bytesFor w ps
     ≡ encoded (reportOf (ofParameters (given (p .rate) (p .schedule) (firstClass (p .class)) (p .height) (p .n) (p .maxudp) (p .tro))) ps)
 unfolding classIn
-first-measured p ps = refl
+first-measured w ps e = rw e
 
 pub first-answered : (p : Parameters) (l out : List ℕ) → ParametersHeld p
     → let s = headOf (heading 1 p) ++ l in

@@ -2,8 +2,7 @@
 -- both numbers mean.
 use Rattle.laws.specs.Kit.{_≡_, ap, _∙_, ℕ, suc, _≤_}
 use Rattle.limits.specs.declared.Parameters.{Parameters}
-use Rattle.limits.specs.Paper.{senderClass, classOf, given}
-use Rattle.limits.specs.Paper.{setUpRefusal}
+use Rattle.limits.specs.Paper.{senderClass, classOf, given, setUpRefusal}
 use Rattle.limits.proofs.Strict.{strict-number}
 use Rattle.timing.specs.Step.{ofParameters, setUpOf, rulesOf}
 
