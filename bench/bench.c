@@ -15,6 +15,7 @@
 #define SUMMARY 9
 #define UNTOUCHED 0x5555555555555555ll
 #define DEFAULT_TRO 0xFFFFFFFFu
+#define RECORD_VERSION 2 /* of a record file, the last */
 #define RATE 6 /* 50 frames a second */
 #define FRAME_NS 20000000ull
 #define TICKS_PER_FRAME 1800u
@@ -142,8 +143,10 @@ static uint32_t agree(struct stream s, struct list l, size_t row_count)
     return agree_with(twin_feed, s, l, row_count);
 }
 
+static void agree_in_both_versions(struct stream s, struct list l);
+
 /* Short lists of every sort: all rates and classes, frames short, long and of two timestamps, first packets half a wrap from two
-   encoded times, bursts, long pauses, refusals. */
+   encoded times, bursts, long pauses, refusals. Those that are accepted are files as well, of both versions. */
 static void agree_on_short_lists(unsigned lists)
 {
     unsigned by_answer[256] = {0};
@@ -192,7 +195,9 @@ static void agree_on_short_lists(unsigned lists)
             if (below(2)) l.markers[i] = 2;
             else l.arrivals[i] = below(2) ? l.arrivals[i] / 2 : l.arrivals[i] + 600000000001ull;
         }
-        by_answer[agree(s, l, below(10) ? 200 * ROW : below(200))]++;
+        uint32_t answer = agree(s, l, below(10) ? 200 * ROW : below(200));
+        by_answer[answer]++;
+        if (answer == 0) agree_in_both_versions(s, l);
         free_list(l);
     }
     printf("%u short lists: the two agree;", lists);
@@ -303,11 +308,11 @@ static void put(uint8_t *b, int count, uint64_t x)
     for (int k = 0; k < count; k++) b[k] = (uint8_t)(x >> (8 * (count - 1 - k)));
 }
 
-static struct file file_of(struct stream s, struct list l)
+static struct file file_of(uint8_t version, struct stream s, struct list l)
 {
     struct file f = {19 + 16 * l.count, room(19 + 16 * l.count)};
     uint8_t *b = f.bytes;
-    b[0] = 2, put(b + 1, 2, 16), b[3] = 1, b[4] = s.rate, b[5] = s.schedule, b[6] = s.class;
+    b[0] = version, put(b + 1, 2, 16), b[3] = 1, b[4] = s.rate, b[5] = s.schedule, b[6] = s.class;
     put(b + 7, 2, s.height), put(b + 9, 4, s.n), put(b + 13, 2, s.maxudp), put(b + 15, 4, s.tro);
     b += 19;
     for (size_t i = 0; i < l.count; i++, b += 16)
@@ -355,10 +360,23 @@ static void agree_on_file(struct file f, uint8_t *out, size_t size)
     free(twin);
 }
 
+/* Of class 0 the two versions may be answered differently. */
+static void agree_in_both_versions(struct stream s, struct list l)
+{
+    size_t size = 8 * (SUMMARY + ROW * (l.count + 1));
+    uint8_t *out = room(size);
+    for (uint8_t version = 1; version <= RECORD_VERSION; version++) {
+        struct file f = file_of(version, s, l);
+        agree_on_file(f, out, size);
+        free(f.bytes);
+    }
+    free(out);
+}
+
 static struct file jittered_file(uint32_t n, size_t count)
 {
     struct list l = jittered(count, n);
-    struct file f = file_of(stream_of(n), l);
+    struct file f = file_of(RECORD_VERSION, stream_of(n), l);
     free_list(l);
     return f;
 }
