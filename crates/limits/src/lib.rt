@@ -20,7 +20,7 @@ const LINEAR: u8 = 1;
 
 const DEFAULT_TRO: u32 = 4294967295;
 
-// The parameters that a stream is set up with, as a record file holds them: class 0 and a TRO of all ones stay what they are.
+// The parameters that a stream is set up with, of the sizes that a record file has: class 0 and a TRO of all ones stay what they are.
 pub struct Parameters {
     pub rate: u8,
     pub schedule: u8,
