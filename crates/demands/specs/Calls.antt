@@ -10,20 +10,22 @@ use Rattle.laws.specs.Choose.{AllBelow}
 use Rattle.laws.specs.Count.{count}
 use Rattle.limits.specs.declared.Parameters.{Parameters}
 use Rattle.limits.specs.Paper.{given}
+use Rattle.limits.specs.Accepted.{KnownEdition}
 use Rattle.limits.specs.Steps.{ParametersHeld}
 use Rattle.packet.specs.declared.Packet.{Packet}
 use Rattle.packet.specs.Paper.{packets, closesAt}
 use Rattle.endian.specs.Number.{numberOf}
 use Rattle.endian.proofs.Width.{bytes-all}
-use Rattle.record.specs.Paper.{Heading, heading, firstClass, resolved, file, refused, fileOf}
+use Rattle.record.specs.Paper.{Heading, heading, firstClass, resolved, file, refused, fileOf, fileIn}
 use Rattle.record.specs.Layout.{headOf}
 use Rattle.record.specs.Walk.{checkedOf, checkedNumber, checkedOffset}
 use Rattle.record.specs.Write.{fileLength}
+use Rattle.record.proofs.Editions.{known-edition, accepted-edition}
 use Rattle.record.proofs.WriteRead.{written-reads}
 use Rattle.timing.specs.declared.StreamNumbers.{StreamNumbers}
 use Rattle.timing.specs.declared.State.{State}
 use Rattle.timing.specs.declared.Fed.the-variants.{Accepted}
-use Rattle.timing.specs.Step.{ofParameters, setUpOf, freshOf, numbers}
+use Rattle.timing.specs.Step.{inEdition, setUpOf, freshOf, numbers}
 use Rattle.timing.specs.declared.Awaited.{Awaited}
 use Rattle.timing.specs.declared.Awaited.the-variants.{In, NoneLeft}
 use Rattle.timing.specs.Answers.{summaryWidth, summaryOf, fedNumber, fedPlace, nextOf, awaitedNumber}
@@ -44,102 +46,108 @@ use Rattle.probe.proofs.Dealing as call-proved
 
 -- ---- a file and lent bytes
 
-module _ (s : List ℕ) where
+-- X1: no room is needed to be told of a refusal by 20 to 23, 1 to 7 or 11 to 14
+pub refused-room : (s : List ℕ) (number offset : ℕ) → fileOf s ≡ refused number offset → roomOf s ≡ 0
+unfolding roomOf
+refused-room s number offset e = ap roomFor e
+
+-- X12: no file needs more than six times its length
+pub room-at-most : (s : List ℕ) → AllBelow 256 s → roomOf s ≤ 6 * length s
+room-at-most s b = asked.room-at-most s (bytes-all s b)
+
+-- F13: the edition stands beside the file
+module _ (edition : ℕ) (s : List ℕ) where
   -- C4, C5: "Too few bytes is 15 at the file's length, after all else": a refused file's number and offset do not depend on the room
-  pub refused-first : (room number offset : ℕ) → fileOf s ≡ refused number offset → answerOf s room ≡ answer number offset
+  pub refused-first : (room number offset : ℕ) → fileIn edition s ≡ refused number offset → answerOf edition s room ≡ answer number offset
   unfolding answerOf
-  refused-first room number offset e = ap (answered (length s) room) e
+  refused-first room number offset e = ap (answered edition (length s) room) e
 
   -- C5, F6: they are the check's own, for each number that it gives
-  pub as-checked : (room : ℕ) → (checkedNumber (checkedOf s) ≡ 0 → ⊥)
-      → answerOf s room ≡ answer (checkedNumber (checkedOf s)) (checkedOffset (checkedOf s))
-  as-checked = file-proved.as-checked s
-
-  -- X1: and no room is needed to be told of them
-  pub refused-room : (number offset : ℕ) → fileOf s ≡ refused number offset → roomOf s ≡ 0
-  unfolding roomOf
-  refused-room number offset e = ap roomFor e
+  pub as-checked : (room : ℕ) → (checkedNumber (checkedOf edition s) ≡ 0 → ⊥)
+      → answerOf edition s room ≡ answer (checkedNumber (checkedOf edition s)) (checkedOffset (checkedOf edition s))
+  as-checked = file-proved.as-checked edition s
 
   -- C4: "refused, it writes nothing": whatever number but 0 is returned
-  pub refused-writes-nothing : (out : List ℕ) → (answerOf s (length out) .number ≡ 0 → ⊥) → filledBy s out ≡ out
-  refused-writes-nothing = file-proved.refused-writes-nothing s
+  pub refused-writes-nothing : (out : List ℕ) → (answerOf edition s (length out) .number ≡ 0 → ⊥) → filledBy edition s out ≡ out
+  refused-writes-nothing = file-proved.refused-writes-nothing edition s
 
-  -- X12: and no file needs more than six times its length
-  pub room-at-most : AllBelow 256 s → roomOf s ≤ 6 * length s
-  room-at-most b = asked.room-at-most s (bytes-all s b)
+  -- of a file that is accepted by an edition
+  module _ (w : Heading) (ps : List Packet) (e : fileIn edition s ≡ file w ps) where
+    -- F13: so the edition is 1 or 2, and the file is accepted with no edition beside it too
+    pub beside : KnownEdition edition × (fileOf s ≡ file w ps)
+    beside = accepted-edition edition s w ps e
 
-  -- of a file that is accepted
-  module _ (w : Heading) (ps : List Packet) (e : fileOf s ≡ file w ps) where
     -- C4: 15 at the file's length
-    pub too-few-bytes : (room : ℕ) → room < length (bytesFor w ps) → answerOf s room ≡ answer 15 (length s)
+    pub too-few-bytes : (room : ℕ) → room < length (bytesFor edition w ps) → answerOf edition s room ≡ answer 15 (length s)
     unfolding answerOf
-    too-few-bytes room h = ap (answered (length s) room) e ∙ rw (lt-leb (length (bytesFor w ps)) room h)
+    too-few-bytes room h = ap (answered edition (length s) room) e ∙ rw (lt-leb (length (bytesFor edition w ps)) room h)
 
     -- C5: "both are 0 when accepted"
-    pub accepted-zero : (room : ℕ) → length (bytesFor w ps) ≤ room → answerOf s room ≡ answer 0 0
+    pub accepted-zero : (room : ℕ) → length (bytesFor edition w ps) ≤ room → answerOf edition s room ≡ answer 0 0
     unfolding answerOf
-    accepted-zero room h = ap (answered (length s) room) e ∙ rw (le-leb (length (bytesFor w ps)) room h)
+    accepted-zero room h = ap (answered edition (length s) room) e ∙ rw (le-leb (length (bytesFor edition w ps)) room h)
 
     -- X1: the room that is told of an accepted file is its report's length: with as much or more it is accepted, with less it is 15
-    pub room-is : roomOf s ≡ length (bytesFor w ps)
+    pub room-is : roomOf s ≡ length (bytesFor edition w ps)
     unfolding roomOf
-    room-is = ap roomFor e
+    room-is = asked.room-is edition s w ps e
 
     -- X1, V1: it is 8·(9 + 11·frames): nine numbers, and a row of eleven for each packet that closes a frame
     pub room-counted : roomOf s ≡ 8 * (9 + 11 * count (closesAt ps) (length ps))
-    room-counted = asked.room-counted s w ps e ∙ omega arith
+    room-counted = asked.room-counted s w ps (beside .1) ∙ omega arith
 
     -- X1: with as much it is accepted
-    pub enough-room : (room : ℕ) → roomOf s ≤ room → answerOf s room ≡ answer 0 0
+    pub enough-room : (room : ℕ) → roomOf s ≤ room → answerOf edition s room ≡ answer 0 0
     enough-room room h = accepted-zero room (omega (arith, room-is))
 
     -- X12: so with six times the file's length it always is
-    pub always-enough : AllBelow 256 s → (room : ℕ) → 6 * length s ≤ room → answerOf s room ≡ answer 0 0
-    always-enough b room h = enough-room room (omega (arith, room-at-most b))
+    pub always-enough : AllBelow 256 s → (room : ℕ) → 6 * length s ≤ room → answerOf edition s room ≡ answer 0 0
+    always-enough b room h = enough-room room (omega (arith, room-at-most s b))
 
     -- X1: with less it is 15
-    pub too-little-room : (room : ℕ) → room < roomOf s → answerOf s room ≡ answer 15 (length s)
+    pub too-little-room : (room : ℕ) → room < roomOf s → answerOf edition s room ≡ answer 15 (length s)
     too-little-room room h = too-few-bytes room (omega (arith, room-is))
 
     -- C1: "fills lent bytes with nine numbers [..], then the rows; bytes beyond stay"
-    pub filled-with : (out : List ℕ) → length (bytesFor w ps) ≤ length out → filledBy s out ≡ bytesFor w ps ++ drop (length (bytesFor w ps)) out
+    pub filled-with : (out : List ℕ) → length (bytesFor edition w ps) ≤ length out → filledBy edition s out ≡ bytesFor edition w ps ++ drop (length (bytesFor edition w ps)) out
     unfolding filledBy
-    filled-with out h = ap (filled out) e ∙ rw (le-leb (length (bytesFor w ps)) (length out) h)
+    filled-with out h = ap (filled edition out) e ∙ rw (le-leb (length (bytesFor edition w ps)) (length out) h)
 
     -- C1, C2: the numbers are those of the measurement: one call of `feed` with the file's packets, from the fresh state and with just
     -- enough row numbers lent, is accepted, and the bytes are the nine numbers of its state and the row numbers that it wrote
-    pub file-as-fed : (rows : List ℤ) → length rows ≡ length (numbers (rowsOf (streamOf w) ps))
+    pub file-as-fed : (rows : List ℤ) → length rows ≡ length (numbers (rowsOf (streamOf edition w) ps))
         → (state : State) × (written : List ℤ)
-        × (feedAll (freshOf (streamOf w)) rows ps ≡ record { answer = Accepted state; rows = written })
-        × (bytesFor w ps ≡ encoded (map pos (summaryOf state) ++ written))
-    file-as-fed = file-proved.as-fed s w ps e
+        × (feedAll (freshOf (streamOf edition w)) rows ps ≡ record { answer = Accepted state; rows = written })
+        × (bytesFor edition w ps ≡ encoded (map pos (summaryOf state) ++ written))
+    file-as-fed = file-proved.as-fed edition s w ps e
 
     -- F11: "version 1 files keep 0 as wide": the report of a file of version 1 is the one of its numbers with 0 read as 3
     pub version-one-measured : w .version ≡ 1 → let p = w .parameters in
-        bytesFor w ps
-        ≡ encoded (reportOf (ofParameters (given (p .rate) (p .schedule) (firstClass (p .class)) (p .height) (p .n) (p .maxudp) (p .tro))) ps)
-    version-one-measured = file-proved.first-measured w ps
+        bytesFor edition w ps
+        ≡ encoded (reportOf (inEdition edition (given (p .rate) (p .schedule) (firstClass (p .class)) (p .height) (p .n) (p .maxudp) (p .tro))) ps)
+    version-one-measured = file-proved.first-measured edition w ps
 
     -- C3: "Each number is 8 bytes, signed, big-endian": number k of the report is what its 8 bytes are, read as a signed number
-    pub reads-back : (k : ℕ) → k < length (reportOf (streamOf w) ps)
-        → toZ w64 (numberOf (take numberBytes (drop (numberBytes * k) (bytesFor w ps)))) ≡ getD (reportOf (streamOf w) ps) k (pos 0)
-    reads-back k h = number-back (reportOf (streamOf w) ps) k (report-fits s w ps e) h
+    pub reads-back : (k : ℕ) → k < length (reportOf (streamOf edition w) ps)
+        → toZ w64 (numberOf (take numberBytes (drop (numberBytes * k) (bytesFor edition w ps)))) ≡ getD (reportOf (streamOf edition w) ps) k (pos 0)
+    reads-back k h = number-back (reportOf (streamOf edition w) ps) k (report-fits edition s w ps e) h
 
--- X4: what `vtiming_write` writes is accepted: the bytes of its file, with the room that is told of them
-pub written-measured : (w : Heading) (ts ss ms out after : List ℕ) → ParametersHeld (w .parameters)
+-- X4: what `vtiming_write` writes is accepted by each edition: the bytes of its file, with the room that is told of them
+pub written-measured : (edition : ℕ) → KnownEdition edition → (w : Heading) (ts ss ms out after : List ℕ) → ParametersHeld (w .parameters)
     → AllBelow 18446744073709551616 ts → AllBelow 4294967296 ss
     → WriteGives w ts ss ms out 0 after → (room : ℕ) → roomOf (take (fileLength (length ts)) after) ≤ room
-    → answerOf (take (fileLength (length ts)) after) room ≡ answer 0 0
-written-measured w ts ss ms out after hw ht hs h =
-    enough-room (take (fileLength (length ts)) after) w (packets ts ss ms)
-    (written-reads w ts ss ms out after (fileLength (length ts)) hw ht hs (written-whole w ts ss ms out h))
+    → answerOf edition (take (fileLength (length ts)) after) room ≡ answer 0 0
+written-measured edition k w ts ss ms out after hw ht hs h =
+    let file = take (fileLength (length ts)) after in
+    enough-room edition file w (packets ts ss ms)
+    (known-edition edition file k ∙ written-reads w ts ss ms out after (fileLength (length ts)) hw ht hs (written-whole w ts ss ms out h))
 
 -- F11: whatever bytes follow the head of a file of version 1, refused or not, it is answered, and its lent bytes are filled, as those of the
 -- file of version 2 whose class 0 is written as 3
-pub version-one-answered : (p : Parameters) (l out : List ℕ) → ParametersHeld p
+pub version-one-answered : (edition : ℕ) (p : Parameters) (l out : List ℕ) → ParametersHeld p
     → let s = headOf (heading 1 p) ++ l in
     let t = headOf (heading 2 (resolved (heading 1 p))) ++ l in
-    (answerOf s (length out) ≡ answerOf t (length out)) × (filledBy s out ≡ filledBy t out)
+    (answerOf edition s (length out) ≡ answerOf edition t (length out)) × (filledBy edition s out ≡ filledBy edition t out)
 version-one-answered = file-proved.first-answered
 
 -- ---- the next read of a packet (`vtiming_next_read`)

@@ -37,7 +37,7 @@ use Rattle.text.specs.Lines.{lineRoom}
 use Rattle.reel.specs.declared.Asked.{Asked}
 use Rattle.reel.specs.Paper.{outputOf, printedBy}
 use Rattle.reel.proofs.Wholly as wholly
-use Rattle.words.specs.declared.Nine.{Nine}
+use Rattle.words.specs.declared.Numbers.{Numbers}
 use Rattle.words.specs.Paper.{asGiven, askedOf}
 use Rattle.words.proofs.AsGiven as words
 use Rattle.window.specs.declared.End.{End}
@@ -141,7 +141,7 @@ refused-fills-nothing = film.refused-fills-nothing
 -- ---- the program
 
 -- R18: "The program takes its numbers as they are given.": also those that are too large for their places
-pub output-as-given : (x : Nine) (file : List ℕ) → outputOf (askedOf x) file ≡ outputOf (asGiven x) file
+pub output-as-given : (x : Numbers) (file : List ℕ) → outputOf (askedOf x) file ≡ outputOf (asGiven x) file
 output-as-given = words.output-as-given
 
 -- R17, R19: "Lines as `vtiming` prints them": of the same packets and records as a capture call. The rows of those packets, all or those before

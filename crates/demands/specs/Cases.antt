@@ -72,7 +72,7 @@ others-late l =
 
 -- a whole file: the nine numbers and the rows of the C call, or the refusal's number and offset
 abbrev measured : File → List ℤ
-measured (file h l) = reportOf (streamOf h) l
+measured (file h l) = reportOf (streamOf 1 h) l
 measured (refused number offset) = pos number ∷ pos offset ∷ []
 
 -- L5: "parameters 6, 0, 1, height 1080, n 4, 1460, default TRO and five packets (nanoseconds, timestamp,

@@ -8,11 +8,13 @@ pub mod Cases
 pub mod Rates
 -- 3. Measurement: the owner's three demands on what is measured, call after call.
 pub mod Measurement
--- 4. RoundTrips: the record file read and written, both ways, whole and in pieces.
+-- 4. Editions: what an edition of the test plan decides, and what not.
+pub mod Editions
+-- 5. RoundTrips: the record file read and written, both ways, whole and in pieces.
 pub mod RoundTrips
--- 5. Calls: what a host in C gets back, and what is left in the memory that it lent.
+-- 6. Calls: what a host in C gets back, and what is left in the memory that it lent.
 pub mod Calls
--- 6. Output: what the program prints of a file, however it comes.
+-- 7. Output: what the program prints of a file, however it comes.
 pub mod Output
--- 7. Captures: what is promised of a network capture: which frames count, a call on one, and what the program prints of it.
+-- 8. Captures: what is promised of a network capture: which frames count, a call on one, and what the program prints of it.
 pub mod Captures

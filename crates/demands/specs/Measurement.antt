@@ -33,7 +33,7 @@ use Rattle.timing.specs.declared.State.{State}
 use Rattle.timing.specs.declared.Fed.the-variants.{Accepted, Refused}
 use Rattle.timing.specs.declared.Judged.the-variants.{Given}
 use Rattle.timing.specs.declared.Awaited.the-variants.{In as Awaited-In}
-use Rattle.timing.specs.Step.{ofParameters, setUpOf, frameOf, rulesOf, freshOf, rowsAfter, numbers}
+use Rattle.timing.specs.Step.{inEdition, setUpOf, frameOf, rulesOf, freshOf, rowsAfter, numbers}
 use Rattle.timing.specs.Range.{inRange}
 use Rattle.timing.specs.Answers.{setUpAs, answersOf, verdictOf, graphOf, graphNumber, setUpNumber, judgedNumber, drawnNumber, AllRows, Drawable}
 use Rattle.timing.specs.Answers.{nextNumber, awaited, nextOf, awaitedNumber}
@@ -64,7 +64,7 @@ pub order-of-refusals : (s : State) (rows : List ℤ) (ts ss ms : List ℕ)
     → fedRefusal (feedOf s rows ts ss ms .answer) ≡ firstOf (refusals s rows ts ss ms)
 order-of-refusals = first-refused
 
--- D1c, N2: 1 to 7 of set-up, 9 of a verdict, 16 of the graph; 0 where nothing is refused
+-- D1c, N2: 1 to 8 of set-up, 9 of a verdict, 16 of the graph; 0 where nothing is refused
 pub set-up-number : (x : StreamNumbers) → setUpNumber (setUpAs x) ≡ setUpOf x
 set-up-number = set-up-numbered
 
@@ -88,10 +88,10 @@ slices-are-packets = feed-slices
 
 -- S2, N2: "From now on 0 means narrow on a gapped schedule and narrow linear on a linear one.": a stream set up with 0 is refused as one that
 -- is set up with that class's number, 1 on schedule 0 and 2 on schedule 1, and is measured by the same rules
-pub zero-is-strict : (p : Parameters) → p .class ≡ 0 → p .schedule ≤ 1
+pub zero-is-strict : (edition : ℕ) (p : Parameters) → p .class ≡ 0 → p .schedule ≤ 1
     → let strict = given (p .rate) (p .schedule) (suc (p .schedule)) (p .height) (p .n) (p .maxudp) (p .tro) in
-    (setUpOf (ofParameters p) ≡ setUpOf (ofParameters strict)) × (rulesOf (ofParameters p) ≡ rulesOf (ofParameters strict))
-zero-is-strict p z h = (strict-refused p z h, strict-rules p z h)
+    (setUpOf (inEdition edition p) ≡ setUpOf (inEdition edition strict)) × (rulesOf (inEdition edition p) ≡ rulesOf (inEdition edition strict))
+zero-is-strict edition p z h = (strict-refused edition p z h, strict-rules edition p z h)
 
 -- N5: 9 is for no state that set-up gives, and for none that an accepted call gives: "no range is narrower than what accepted calls reach
 -- from set-up on"
@@ -151,7 +151,7 @@ reads-carried n base num den x m p = known-on base num den p x m n
 -- ---- Of a stream, a packet at t and its frame's first packet at `first`: what `next_read` answers.
 
 module _ (x : StreamNumbers) (first t : ℕ) where
-  -- D1c, N14: the number is that of the table: 1 to 7, then 12, then 13; 0 where nothing is refused
+  -- D1c, N14: the number is that of the table: 1 to 8, then 12, then 13; 0 where nothing is refused
   pub next-read-number : awaitedNumber (nextOf x first t) ≡ nextNumber x first t
   next-read-number = awaited-numbered first t x
 
@@ -266,7 +266,7 @@ module _ (h : AcceptedHistory) where
       ≡ awaited (nextAfter (plan h .packets) (reached h .frames .current .reads) (reached h .frames .current .wait)) (plan h .reads .den)
   next-read-held = proved.next-held h
 
-  -- D2c, V7, V8: the buffer answer is that of the history
+  -- D2c, V7, V8, V12: the buffer answer is that of the history, by the stream's edition; what each edition makes of it: Editions
   pub buffer-answer : BufferIs (plan h) (frames h) (reached h .frames .buffer)
   buffer-answer = proved.buffer-reached h
 

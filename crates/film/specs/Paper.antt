@@ -21,7 +21,7 @@ module _ (x : StreamNumbers) (port offset : ℕ) (b : List ℕ) where
   abbrev pub captureBytes : List ℕ
   captureBytes = encoded (map pos elevenOf ++ numbers (rowsOf x (packetsOf port offset b)))
 
-  -- R15: "1 to 7, then the order above"
+  -- R15: "1 to 7, then the order above"; "`vtiming_capture` takes it too: 8 after 7"
   unfoldable pub captureChecked : Checked
   captureChecked =
       pick (eqb (setUpOf x) 0) (checkedOf port offset (seenFrom nothing false) b) (Refused (setUpOf x) 0)

@@ -7,6 +7,7 @@ use capture::Opened;
 use capture::Setting;
 use capture::Sought;
 use endian::write64;
+use limits::FIRST_EDITION;
 use limits::Parameters;
 use packet::Past;
 use report::NUMBER;
@@ -17,7 +18,7 @@ use timing::State;
 use timing::StreamNumbers;
 ghost use Rattle.laws.specs.Kit.{_≡_, length, drop};
 ghost use Rattle.timing.specs.Feed.{RunAsks, RunGives};
-ghost use Rattle.timing.specs.Step.{ofParameters, rulesOf, freshOf};
+ghost use Rattle.timing.specs.Step.{inEdition, ofParameters, rulesOf, freshOf};
 ghost use Rattle.limits.specs.Paper.{given};
 ghost use Rattle.capture.specs.Paper.{headerBytes};
 ghost use Rattle.capture.specs.Step.{handedIn};
@@ -129,7 +130,7 @@ fn film(numbers: StreamNumbers, port: u16, offset: u32, capture: &[u8], out: &mu
     )
 }
 
-// A whole capture: the refusal number and nothing written; or 0, and the eleven numbers and the rows stand in front.
+// A whole capture, by an edition of the test plan: the refusal number and nothing written; or 0, and the eleven numbers and the rows stand in front.
 #[no_mangle]
 pub extern "C" fn vtiming_capture(
     capture: &[u8],
@@ -142,9 +143,10 @@ pub extern "C" fn vtiming_capture(
     n: u32,
     maxudp: u16,
     tro: u32,
+    edition: u32,
     out: &mut [u8],
 ) -> u32
-    ensures { λ r. ⌜ CaptureGives (ofParameters (given rate schedule class height n maxudp tro)) port offset (now (capture .entry))
+    ensures { λ r. ⌜ CaptureGives (inEdition edition (given rate schedule class height n maxudp tro)) port offset (now (capture .entry))
         (now (out .entry)) r (now (out .exit)) ⌝ }
 {
     let told = Parameters {
@@ -156,7 +158,10 @@ pub extern "C" fn vtiming_capture(
         maxudp,
         tro,
     };
-    let numbers = StreamNumbers { parameters: told };
+    let numbers = StreamNumbers {
+        parameters: told,
+        edition: edition,
+    };
     let weighed = weigh(numbers, port, offset, capture, out.len());
     match weighed {
         Weighed::Fine { records, skipped } => {
@@ -183,9 +188,10 @@ pub extern "C" fn vtiming_capture_place(
     n: u32,
     maxudp: u16,
     tro: u32,
+    edition: u32,
     room: usize,
 ) -> u64
-    ensures { λ r. ⌜ r ≡ captureAnswer (ofParameters (given rate schedule class height n maxudp tro)) port offset (now (capture .entry)) room
+    ensures { λ r. ⌜ r ≡ captureAnswer (inEdition edition (given rate schedule class height n maxudp tro)) port offset (now (capture .entry)) room
         .offset ⌝ }
 {
     let told = Parameters {
@@ -197,7 +203,10 @@ pub extern "C" fn vtiming_capture_place(
         maxudp,
         tro,
     };
-    let numbers = StreamNumbers { parameters: told };
+    let numbers = StreamNumbers {
+        parameters: told,
+        edition: edition,
+    };
     let weighed = weigh(numbers, port, offset, capture, room);
     match weighed {
         Weighed::Fine {
@@ -208,7 +217,7 @@ pub extern "C" fn vtiming_capture_place(
     }
 }
 
-// How many lent bytes are enough for a capture's report; 0 for one that is refused.
+// How many lent bytes are enough for a capture's report, whatever the edition; 0 for one that is refused.
 #[no_mangle]
 pub extern "C" fn vtiming_capture_room(
     capture: &[u8],
@@ -233,7 +242,10 @@ pub extern "C" fn vtiming_capture_room(
         maxudp,
         tro,
     };
-    let numbers = StreamNumbers { parameters: told };
+    let numbers = StreamNumbers {
+        parameters: told,
+        edition: FIRST_EDITION,
+    };
     let checked = check_capture(numbers, port, offset, capture);
     match checked {
         Checked::Fine(seen) => {

@@ -11,12 +11,13 @@ use Rattle.laws.proofs.Differ.{differ-sub, differ-lt, lt-differ}
 use Rattle.frame.specs.declared.Plan.{Plan}
 use Rattle.frame.specs.declared.Frame.{Frame}
 use Rattle.frame.specs.declared.Place.{Place}
+use Rattle.frame.specs.declared.BrokenFrame.{BrokenFrame}
 use Rattle.frame.specs.declared.Buffer.{Buffer}
-use Rattle.frame.specs.declared.Buffer.the-variants.{None, Pass, Under, Over}
+use Rattle.frame.specs.declared.Buffer.the-variants.{None, Pass, Under, Over, Broken}
 use Rattle.frame.specs.Paper.{History, closesAt, numberAt, since, kindAt, readsTo, arrivedBy, PeakIs}
-use Rattle.frame.specs.Paper.{late, Dry, Overfull, Whole, PassIs, OverIs, AnswerIs, BufferIs}
-use Rattle.frame.specs.Paper.{hasFailed, isNone, Fails, FirstDecides, failed, passed, unjudged}
-use Rattle.frame.specs.Step.{answerOf, joined}
+use Rattle.frame.specs.Paper.{late, Dry, Overfull, Whole, Judged, PassIs, OverIs, BrokenIs, AnswerIs, BufferIs}
+use Rattle.frame.specs.Paper.{hasFailed, isNone, brokenFails, Fails, FirstDecides, failed, passed, unjudged}
+use Rattle.frame.specs.Step.{brokenAnswer, answerOf, joined}
 use Rattle.frame.specs.ByPlace.{closedAt, answerAt, bufferAt}
 use Rattle.frame.specs.Range.{Planned}
 use Rattle.frame.proofs.FrameKinds.{answer-broken, answer-under, answer-over, answer-pass}
@@ -31,16 +32,18 @@ is-pass None e f = absurd (false-true (sym f))
 is-pass Pass e f = refl
 is-pass (Under q) e f = absurd (false-true (sym e))
 is-pass (Over q) e f = absurd (false-true (sym e))
+is-pass (Broken q) e f = absurd (false-true (sym e))
 
 is-none : (b : Buffer) → isNone b ≡ true → b ≡ None
 is-none None e = refl
 is-none Pass e = absurd (false-true e)
 is-none (Under q) e = absurd (false-true e)
 is-none (Over q) e = absurd (false-true e)
+is-none (Broken q) e = absurd (false-true e)
 
 module _ (A : ℕ → Buffer → Type 0) (one : (i : ℕ) (b c : Buffer) → A i b → A i c → b ≡ c) where
   -- an answer that has not failed is not of a place that fails
-  quiet : (i : ℕ) (b : Buffer) → A i b → hasFailed b ≡ false → ¬ Fails A i
+  pub quiet : (i : ℕ) (b : Buffer) → A i b → hasFailed b ≡ false → ¬ Fails A i
   quiet i b x e f = false-true (sym e ∙ ap hasFailed (one i b (f .0) x (f .1)) ∙ f .2)
 
   -- place m is judged, and none before it failed
@@ -85,30 +88,40 @@ module _ (A : ℕ → Buffer → Type 0) (one : (i : ℕ) (b c : Buffer) → A i
 -- ---- one answer only
 
 module _ (plan : Plan) (h : History) where
-  over-fails : (i : ℕ) (q : Place) → OverIs plan h i q → Overfull plan h (since h i)
+  pub over-fails : (i : ℕ) (q : Place) → OverIs plan h i q → Overfull plan h (since h i)
   over-fails i q x = (
     pos (q .place),
     x .peak,
     differ-lt (pos (plan .full)) (pos (q .place)) (plan .full) 0 (q .place) 0 (omega arith) (omega arith) (omega (arith, x .over)),
   )
 
+  -- whole frames are judged, and broken ones that fail
+  pub whole-judged : (i : ℕ) → Whole plan h i → Judged plan h i
+  whole-judged i w = record { closing = w .closing; judged = λ other. absurd (other (w .whole)) }
+
+  broken-judged : (i : ℕ) (b : BrokenFrame) → BrokenIs plan h i b → Judged plan h i
+  broken-judged i b x = record { closing = x .closing; judged = λ other. x .fails }
+
   pub answer-unique : (i : ℕ) (b c : Buffer) → AnswerIs plan h i b → AnswerIs plan h i c → b ≡ c
   answer-unique i None None x y = refl
-  answer-unique i None Pass x y = absurd (x (y .whole))
-  answer-unique i None (Under r) x y = absurd (x (y .whole))
-  answer-unique i None (Over r) x y = absurd (x (y .whole))
-  answer-unique i Pass None x y = absurd (y (x .whole))
+  answer-unique i None Pass x y = absurd (x (whole-judged i (y .whole)))
+  answer-unique i None (Under r) x y = absurd (x (whole-judged i (y .whole)))
+  answer-unique i None (Over r) x y = absurd (x (whole-judged i (y .whole)))
+  answer-unique i None (Broken r) x y = absurd (x (broken-judged i r y))
+  answer-unique i Pass None x y = absurd (y (whole-judged i (x .whole)))
   answer-unique i Pass Pass x y = refl
   answer-unique i Pass (Under r) x y = absurd (x .not-dry (y .dry))
   answer-unique i Pass (Over r) x y = absurd (x .not-over (over-fails i r y))
-  answer-unique i (Under q) None x y = absurd (y (x .whole))
+  answer-unique i Pass (Broken r) x y = absurd (y .broken (x .whole .whole))
+  answer-unique i (Under q) None x y = absurd (y (whole-judged i (x .whole)))
   answer-unique i (Under q) Pass x y = absurd (y .not-dry (x .dry))
   answer-unique i (Under q) (Under r) x y =
       let frames : q .frame ≡ r .frame = x .frame ∙ sym (y .frame) in
       let places = lowest-unique (late plan h (since h i)) (plan .packets) (q .place) (r .place) (x .place) (y .place) in
       λ j. Under (record { frame = frames j; place = places j })
   answer-unique i (Under q) (Over r) x y = absurd (y .not-dry (x .dry))
-  answer-unique i (Over q) None x y = absurd (y (x .whole))
+  answer-unique i (Under q) (Broken r) x y = absurd (y .broken (x .whole .whole))
+  answer-unique i (Over q) None x y = absurd (y (whole-judged i (x .whole)))
   answer-unique i (Over q) Pass x y = absurd (y .not-over (over-fails i q x))
   answer-unique i (Over q) (Under r) x y = absurd (x .not-dry (y .dry))
   answer-unique i (Over q) (Over r) x y =
@@ -116,6 +129,15 @@ module _ (plan : Plan) (h : History) where
       let peaks = peak-unique plan h (since h i) (pos (q .place)) (pos (r .place)) (x .peak) (y .peak) in
       let places : q .place ≡ r .place = cc in
       λ j. Over (record { frame = frames j; place = places j })
+  answer-unique i (Over q) (Broken r) x y = absurd (y .broken (x .whole .whole))
+  answer-unique i (Broken q) None x y = absurd (y (broken-judged i q x))
+  answer-unique i (Broken q) Pass x y = absurd (x .broken (y .whole .whole))
+  answer-unique i (Broken q) (Under r) x y = absurd (x .broken (y .whole .whole))
+  answer-unique i (Broken q) (Over r) x y = absurd (x .broken (y .whole .whole))
+  answer-unique i (Broken q) (Broken r) x y =
+      let frames : q .frame ≡ r .frame = x .frame ∙ sym (y .frame) in
+      let kinds : q .kind ≡ r .kind = x .kind ∙ sym (y .kind) in
+      λ j. Broken (record { frame = frames j; kind = kinds j })
 
   -- a whole frame that does not fail passes: there is no other way to fail
   pub not-failing : (i : ℕ) → Whole plan h i → ¬ Fails (AnswerIs plan h) i → PassIs plan h i
@@ -235,6 +257,14 @@ module _ (plan : Plan) (p : Planned plan) (h : History) (ordered : Climbs (h .ti
           not-over = not-overfull i inside k (omega arith);
         })
 
+    -- a broken frame fails, or is not judged
+    judged-broken : ¬ (kindAt plan h i ≡ 0) → AnswerIs plan h i (brokenAnswer (plan .edition) (numberAt h i) (kindAt plan h i))
+    judged-broken k = go (brokenFails (plan .edition)) refl
+      where
+        go : (t : Bool) → brokenFails (plan .edition) ≡ t → AnswerIs plan h i (pick t (Broken (record { frame = numberAt h i; kind = kindAt plan h i })) None)
+        go true f = record { closing = closing; broken = k; fails = f; frame = refl; kind = refl }
+        go false f = λ z. false-true (sym f ∙ z .judged k)
+
     judged : AnswerIs plan h i answer
     judged = go (eqb (kindAt plan h i) 0) refl
       where
@@ -243,10 +273,10 @@ module _ (plan : Plan) (p : Planned plan) (h : History) (ordered : Climbs (h .ti
             let k = eqb-true (kindAt plan h i) 0 e in
             judged-whole k (decLt 0 ((closedAt plan h i) .deficit)) (decLt (plan .full) ((closedAt plan h i) .top))
         go false e =
-            let k = eqb-false (kindAt plan h i) 0 e in
-            subst (AnswerIs plan h i) (answer-broken plan _ _ (λ z. k (sym (kind-is plan h i) ∙ z))) (λ z. k (z .whole))
+            subst (AnswerIs plan h i) (answer-broken plan _ _ (sym (kind-is plan h i)) (eqb-false (kindAt plan h i) 0 e))
+            (judged-broken (eqb-false (kindAt plan h i) 0 e))
 
-  answered : (i : ℕ) → i < h .packets → AnswerIs plan h i (answerAt plan h i)
+  pub answered : (i : ℕ) → i < h .packets → AnswerIs plan h i (answerAt plan h i)
   answered i inside = go (closesAt h i) refl
     where
       go : (t : Bool) → closesAt h i ≡ t → AnswerIs plan h i (pick t (answerOf plan (numberAt h i) (closedAt plan h i)) None)

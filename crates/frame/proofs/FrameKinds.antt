@@ -4,8 +4,8 @@ use Rattle.laws.proofs.Choose.{pick-either}
 use Rattle.frame.specs.declared.Plan.{Plan}
 use Rattle.frame.specs.declared.Frame.{Frame}
 use Rattle.frame.specs.declared.Row.{Row}
-use Rattle.frame.specs.declared.Buffer.the-variants.{None, Pass, Under, Over}
-use Rattle.frame.specs.Step.{kindOf, detailOf, wholeRow, brokenRow, rowOf, numbersOf, rowWidth, answerOf}
+use Rattle.frame.specs.declared.Buffer.the-variants.{Pass, Under, Over}
+use Rattle.frame.specs.Step.{kindOf, detailOf, wholeRow, brokenRow, rowOf, numbersOf, rowWidth, brokenAnswer, answerOf}
 
 module _ (f : Frame) (n : ℕ) where
   pub kind-short : f .held < n → 1 ≡ kindOf f n
@@ -45,9 +45,11 @@ module _ (plan : Plan) (number : ℕ) (f : Frame) where
   unfolding rowOf
   row-broken marked began kind e b = rw e (rw (ne-eqb (kindOf f (plan .packets)) 0 (rw e at b)))
 
-  pub answer-broken : (kindOf f (plan .packets) ≡ 0 → ⊥) → None ≡ answerOf plan number f
+  -- a broken frame by its own kind
+  pub answer-broken : {kind : ℕ} → kind ≡ kindOf f (plan .packets) → (kind ≡ 0 → ⊥)
+      → brokenAnswer (plan .edition) number kind ≡ answerOf plan number f
   unfolding answerOf
-  answer-broken b = rw (ne-eqb (kindOf f (plan .packets)) 0 b)
+  answer-broken e b = rw e (rw (ne-eqb (kindOf f (plan .packets)) 0 (rw e at b)))
 
   pub answer-under : kindOf f (plan .packets) ≡ 0 → 0 < f .deficit → Under (record { frame = number; place = f .late })
       ≡ answerOf plan number f

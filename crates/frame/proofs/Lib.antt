@@ -9,5 +9,6 @@ pub mod Stepping
 pub mod NextReads
 pub mod RowOfFrame
 pub mod BufferOfFrames
+pub mod Editions
 pub mod Ranges
 pub mod RowsFit

@@ -10,11 +10,11 @@ use Rattle.frame.specs.declared.Plan.{Plan}
 use Rattle.frame.specs.declared.Frame.{Frame}
 use Rattle.frame.specs.declared.Frames.{Frames}
 use Rattle.frame.specs.declared.Buffer.{Buffer}
-use Rattle.frame.specs.declared.Buffer.the-variants.{None, Pass}
-use Rattle.frame.specs.Paper.{hasFailed, isNone}
-use Rattle.frame.specs.Step.{kindOf, openedOf, goneOf, countedOf, readsOf, pushOf, answerOf, joined, noFrames, arriveOf}
-use Rattle.frame.specs.Step.{closeOf, emptyOf, beganOf}
+use Rattle.frame.specs.Paper.{hasFailed, isNone, isBroken, brokenFails, bufferFrame, bufferPlace}
+use Rattle.frame.specs.Step.{kindOf, openedOf, goneOf, countedOf, readsOf, pushOf, brokenAnswer, answerOf, joined, noFrames}
+use Rattle.frame.specs.Step.{arriveOf, closeOf, emptyOf, beganOf}
 use Rattle.frame.specs.Range.{Planned, PushAsks, RowAsks, FramesRowAsks, ranges, Answered, Kept}
+use Rattle.frame.proofs.FrameKinds.{kind-small}
 use Rattle.frame.proofs.Opening.{Timed, timed, wait-fits}
 
 module _ (plan : Plan) (s : Frames) (first last packets : ℕ) where
@@ -36,7 +36,7 @@ module _ (plan : Plan) (s : Frames) (first last packets : ℕ) where
         top = t 11;
         late = t 12;
         deficit = t 13;
-        answered = record { frame = t 14; place = t 15 };
+        answered = record { fails = t 14; frame = t 15; place = t 16; kind-from = t 17; kind-to = t 18 };
       }
 
   pub of-kept : Kept plan s first last packets → every (ranges plan s first last packets) ≡ true
@@ -44,11 +44,40 @@ module _ (plan : Plan) (s : Frames) (first last packets : ℕ) where
   of-kept k =
       of-facts (ranges plan s first last packets)
       (k .closed and k .begun and k .marked-from and k .marked-to and k .held and k .first-from and k .first-to and k .phased and k .read
-      and k .waits and k .differs and k .top and k .late and k .deficit and k .answered .frame and k .answered .place and tt)
+      and k .waits and k .differs and k .top and k .late and k .deficit and k .answered .fails and k .answered .frame and k .answered .place
+      and k .answered .kind-from and k .answered .kind-to and tt)
+
+-- no answer is out of its range with one packet more
+more-named : {plan : Plan} {b : Buffer} {m : ℕ} → Answered plan b m → Answered plan b (m + 1)
+more-named a = record {
+  fails = a .fails;
+  frame = omega (arith, a .frame);
+  place = λ e. omega (arith, a .place e);
+  kind-from = a .kind-from;
+  kind-to = a .kind-to;
+}
+
+-- its third number, a place or a kind, is bounded in either case
+pub third-most : {plan : Plan} {b : Buffer} {m k : ℕ} → Answered plan b m → m ≤ k → 3 ≤ k → bufferPlace b ≤ k
+third-most {plan} {b} {m} {k} a l t = go (isBroken b) refl
+  where
+    go : (z : Bool) → isBroken b ≡ z → bufferPlace b ≤ k
+    go true e = omega (arith, a .kind-to e)
+    go false e = omega (arith, a .place (rw e))
+
+-- an answer that is not broken
+placed-named : {plan : Plan} {b : Buffer} {m : ℕ} → isBroken b ≡ false → bufferFrame b ≤ m → bufferPlace b ≤ m → Answered plan b m
+placed-named e f p = record {
+  fails = λ z. absurd (false-true (sym e ∙ z));
+  frame = f;
+  place = λ z. p;
+  kind-from = λ z. absurd (false-true (sym e ∙ z));
+  kind-to = λ z. absurd (false-true (sym e ∙ z));
+}
 
 -- with no packet in the open frame, what is known of the frames is enough
 kept-empty : (plan : Plan) {begun : Bool} {closed marked first last packets : ℕ} {buffer : Buffer} → (begun ≡ true → 0 < packets)
-    → closed ≤ packets → (begun ≡ true → first ≤ marked) → (begun ≡ true → marked ≤ last) → Answered buffer packets
+    → closed ≤ packets → (begun ≡ true → first ≤ marked) → (begun ≡ true → marked ≤ last) → Answered plan buffer packets
     → Kept plan (record { begun = begun; closed = closed; marked = marked; current = emptyOf; buffer = buffer }) first last packets
 kept-empty plan b c from to a = record {
   begun = b;
@@ -70,7 +99,7 @@ kept-empty plan b c from to a = record {
 
 pub kept-none : (plan : Plan) → Kept plan noFrames 0 0 0
 kept-none plan = kept-empty plan (λ e. absurd (false-true e)) (omega arith) (λ e. omega arith) (λ e. omega arith)
-    (record { frame = omega arith; place = omega arith })
+    (placed-named refl (omega arith) (omega arith))
 
 -- the next packet arrives at t, in order and in time
 pub record Next (first last packets t : ℕ) : Type 0 where
@@ -162,7 +191,7 @@ module _ (plan : Plan) (s : Frames) (first last packets gone t : ℕ) (p : Plann
       top = k .top;
       deficit = k .deficit;
       late = k .late;
-      answered = record { frame = omega (arith, k .answered .frame); place = omega (arith, k .answered .place) };
+      answered = more-named (k .answered);
     }
 
     kept-pushed : s .begun ≡ true
@@ -190,7 +219,7 @@ module _ (plan : Plan) (s : Frames) (first last packets gone t : ℕ) (p : Plann
           top = f .top;
           deficit = f .deficit;
           late = f .late;
-          answered = record { frame = omega (arith, k .answered .frame); place = omega (arith, k .answered .place) };
+          answered = more-named (k .answered);
         }
 
     pub kept-arrive : Kept plan (arriveOf plan s gone t stamp) first′ t (packets + 1)
@@ -229,33 +258,34 @@ module _ (plan : Plan) (s : Frames) (first last packets gone t : ℕ) (p : Plann
           differs = omega (arith, f .differs, f .held, k .held, next e .few);
         }
 
--- the answer of a frame names it and a place in it
-none-named : (m : ℕ) → Answered None m
-none-named m = record { frame = omega arith; place = omega arith }
+-- the answer of a frame names it, and a place in it or its kind
+broken-named : (plan : Plan) (n kind m : ℕ) → n ≤ m → (kind ≡ 0 → ⊥) → kind ≤ 3 → Answered plan (brokenAnswer (plan .edition) n kind) m
+broken-named plan n kind m hn some few =
+    pick-either (λ b. Answered plan b m) (brokenFails (plan .edition))
+    (λ e. record { fails = λ z. e; frame = hn; place = λ z. absurd (false-true z); kind-from = λ z. omega arith; kind-to = λ z. few })
+    (λ e. placed-named refl (omega arith) (omega arith))
 
-pass-named : (m : ℕ) → Answered Pass m
-pass-named m = record { frame = omega arith; place = omega arith }
-
-answer-named : (plan : Plan) (n : ℕ) (f : Frame) (m : ℕ) → n ≤ m → f .late ≤ m → f .top ≤ m → Answered (answerOf plan n f) m
+answer-named : (plan : Plan) (n : ℕ) (f : Frame) (m : ℕ) → n ≤ m → f .late ≤ m → f .top ≤ m → Answered plan (answerOf plan n f) m
 unfolding answerOf
 answer-named plan n f m hn hl ht =
-    pick-either (λ b. Answered b m) (eqb (kindOf f (plan .packets)) 0) (λ e.
-    pick-either (λ b. Answered b m) (ltb 0 (f .deficit)) (λ e. record { frame = hn; place = hl }) (λ e.
-    pick-either (λ b. Answered b m) (ltb (plan .full) (f .top)) (λ e. record { frame = hn; place = ht }) (λ e. pass-named m)))
-    (λ e. none-named m)
+    pick-either (λ b. Answered plan b m) (eqb (kindOf f (plan .packets)) 0) (λ e.
+    pick-either (λ b. Answered plan b m) (ltb 0 (f .deficit)) (λ e. placed-named refl hn hl) (λ e.
+    pick-either (λ b. Answered plan b m) (ltb (plan .full) (f .top)) (λ e. placed-named refl hn ht) (λ e.
+    placed-named refl (omega arith) (omega arith))))
+    (λ e. broken-named plan n (kindOf f (plan .packets)) m hn (eqb-false (kindOf f (plan .packets)) 0 e) (kind-small f (plan .packets)))
 
-joined-named : (b c : Buffer) (m : ℕ) → Answered b m → Answered c m → Answered (joined b c) m
+joined-named : (plan : Plan) (b c : Buffer) (m : ℕ) → Answered plan b m → Answered plan c m → Answered plan (joined b c) m
 unfolding joined
-joined-named b c m x y =
-    pick-either (λ r. Answered r m) (hasFailed b) (λ e. x) (λ e.
-    pick-either (λ r. Answered r m) (isNone c) (λ e. x) (λ e. y))
+joined-named plan b c m x y =
+    pick-either (λ r. Answered plan r m) (hasFailed b) (λ e. x) (λ e.
+    pick-either (λ r. Answered plan r m) (isNone c) (λ e. x) (λ e. y))
 
 -- a marker closes the frame of what has arrived
 module _ (plan : Plan) (a : Frames) (first t packets : ℕ) (k : Kept plan a first t packets) (room : a .closed + 1 ≤ packets)
     (since : first ≤ t) where
-  answers : (b : Bool) → Answered (pick b (joined (a .buffer) (answerOf plan (a .closed) (a .current))) (a .buffer)) packets
+  answers : (b : Bool) → Answered plan (pick b (joined (a .buffer) (answerOf plan (a .closed) (a .current))) (a .buffer)) packets
   answers b =
-      pick-either (λ x. Answered x packets) b (λ e. joined-named (a .buffer) (answerOf plan (a .closed) (a .current)) packets (k .answered)
+      pick-either (λ x. Answered plan x packets) b (λ e. joined-named plan (a .buffer) (answerOf plan (a .closed) (a .current)) packets (k .answered)
       (answer-named plan (a .closed) (a .current) packets (k .closed) (omega (arith, k .late, k .held))
       (omega (arith, k .top, k .held)))) (λ e. k .answered)
 

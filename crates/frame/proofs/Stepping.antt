@@ -10,7 +10,7 @@ use Rattle.grain.specs.Paper.{grains}
 use Rattle.frame.specs.declared.Plan.{Plan}
 use Rattle.frame.specs.declared.Frames.{Frames}
 use Rattle.frame.specs.declared.Buffer.{Buffer}
-use Rattle.frame.specs.declared.Buffer.the-variants.{None, Pass, Under, Over}
+use Rattle.frame.specs.declared.Buffer.the-variants.{None, Pass, Under, Over, Broken}
 use Rattle.frame.specs.Paper.{History, begunAt, numberAt, since, heldAt}
 use Rattle.frame.specs.Step.{emptyOf, pushOf, beganOf, rowOf, answerOf, joined, noFrames, arriveOf, closeOf, stepOf, rowsOf}
 use Rattle.frame.specs.ByPlace.{goneAt, keptOf, openAt, closedAt, markedTime, bufferAt, framesAt, rowsAt}
@@ -23,6 +23,7 @@ joined-none None = refl
 joined-none Pass = refl
 joined-none (Under p) = refl
 joined-none (Over p) = refl
+joined-none (Broken b) = refl
 
 module _ (plan : Plan) (h : History) (apart : 0 < plan .reads .num) (ordered : Climbs (h .time) (h .packets)) (i : ℕ)
     (inside : i < h .packets) where

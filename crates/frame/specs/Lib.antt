@@ -1,4 +1,5 @@
 pub mod Paper
 pub mod Step
+pub mod Editions
 pub mod ByPlace
 pub mod Range

@@ -9,8 +9,9 @@ use Rattle.grain.specs.Paper.{grains, frameTime, firstPacketTime, LatencyIs, rt
 use Rattle.frame.specs.declared.Plan.{Plan}
 use Rattle.frame.specs.declared.Row.{Row}
 use Rattle.frame.specs.declared.Place.{Place}
+use Rattle.frame.specs.declared.BrokenFrame.{BrokenFrame}
 use Rattle.frame.specs.declared.Buffer.{Buffer}
-use Rattle.frame.specs.declared.Buffer.the-variants.{None, Pass, Under, Over}
+use Rattle.frame.specs.declared.Buffer.the-variants.{None, Pass, Under, Over, Broken}
 
 -- A history as the frames see it: packet i arrives at time i, in nanoseconds.
 pub record History : Type 0 where
@@ -21,12 +22,13 @@ pub record History : Type 0 where
 
 -- ---- many answers, and the one of them that counts
 
--- under or over
+-- under, over or broken
 abbrev pub hasFailed : Buffer → Bool
 hasFailed None = false
 hasFailed Pass = false
 hasFailed (Under p) = true
 hasFailed (Over p) = true
+hasFailed (Broken b) = true
 
 -- nothing was judged
 abbrev pub isNone : Buffer → Bool
@@ -34,12 +36,25 @@ isNone None = true
 isNone Pass = false
 isNone (Under p) = false
 isNone (Over p) = false
+isNone (Broken b) = false
+
+-- a frame that is not whole failed
+abbrev pub isBroken : Buffer → Bool
+isBroken None = false
+isBroken Pass = false
+isBroken (Under p) = false
+isBroken (Over p) = false
+isBroken (Broken b) = true
+
+-- S11, V12: "a stream with any broken frame fails its buffer": whether a broken frame fails is asked of the edition, and in 2 it does
+abbrev pub brokenFails : ℕ → Bool
+brokenFails edition = eqb edition 2
 
 -- place i fails, where A i b says that b is its own answer
 abbrev pub Fails : (ℕ → Buffer → Type 0) → ℕ → Type 0
 Fails A i = (b : Buffer) × A i b × (hasFailed b ≡ true)
 
--- V8: "The first failing frame decides": the answer of the first m places is that of the first that fails; else pass, where one passes;
+-- V8: "The first failing frame decides, broken or not": the answer of the first m places is that of the first that fails; else pass, where one passes;
 -- else none, where each is none
 pub data FirstDecides (A : ℕ → Buffer → Type 0) (m : ℕ) (b : Buffer) : Type 0 where
   failed : (i : ℕ) → i < m → A i b → hasFailed b ≡ true → ((k : ℕ) → k < i → ¬ Fails A k) → FirstDecides A m b
@@ -206,6 +221,11 @@ module _ (plan : Plan) (h : History) where
     pub closing : closesAt h i ≡ true
     pub whole : kindAt i ≡ 0
 
+  -- V12, E3: packet i closes a frame that is judged: a whole one; and a broken one where such a frame fails, which the edition decides
+  pub record Judged (i : ℕ) : Type 0 where
+    pub closing : closesAt h i ≡ true
+    pub judged : ¬ (kindAt i ≡ 0) → brokenFails (plan .edition) ≡ true
+
   -- V7: "pass": it neither runs dry nor overfull
   pub record PassIs (i : ℕ) : Type 0 where
     pub whole : Whole i
@@ -227,15 +247,25 @@ module _ (plan : Plan) (h : History) where
     pub peak : PeakIs (since h i) (pos (p .place))
     pub over : plan .full < p .place
 
-  -- E3: what packet i answers by itself: that of the frame it closes. A broken frame is not judged. One answer is so:
+  -- V12: "the buffer answer gains a case that names frame and kind": a frame that is not whole, where such a frame fails
+  pub record BrokenIs (i : ℕ) (b : BrokenFrame) : Type 0 where
+    pub closing : closesAt h i ≡ true
+    pub broken : ¬ (kindAt i ≡ 0)
+    pub fails : brokenFails (plan .edition) ≡ true
+    pub frame : b .frame ≡ numberAt h i
+    pub kind : b .kind ≡ kindAt i
+
+  -- E3: what packet i answers by itself: that of the frame it closes, none where that is not judged. One answer is so:
   -- answer-unique in proofs/BufferOfFrames.antt
   abbrev pub AnswerIs : ℕ → Buffer → Type 0
-  AnswerIs i None = ¬ Whole i
+  AnswerIs i None = ¬ Judged i
   AnswerIs i Pass = PassIs i
   AnswerIs i (Under p) = UnderIs i p
   AnswerIs i (Over p) = OverIs i p
+  AnswerIs i (Broken b) = BrokenIs i b
 
-  -- V7, V8: "Buffer: none (no whole frame yet); pass; under [..]; over [..]. The first failing frame decides"
+  -- V7, V8, V12: "Buffer: none (no whole frame yet); pass; under [..]; over [..]. The first failing frame decides", in every edition; what
+  -- each edition comes to: specs/Editions.antt
   abbrev pub BufferIs : Buffer → Type 0
   BufferIs b = FirstDecides AnswerIs (h .packets) b
 
@@ -247,22 +277,25 @@ readZero plan first = frameTime (grains first) (plan .period) + plan .tro
 unfoldable pub nextReadOf : Plan → ℕ → ℕ → NextRead
 nextReadOf plan first t = nextRead (plan .packets) (readZero plan first) (plan .reads .num) (plan .reads .den) (grains t)
 
--- C2: Document 01's numbers for each case of the answer: "buffer 0 none, 1
--- pass, 2 under or 3 over, frame, packet or peak; 0 where there is none".
+-- C2: Document 01's numbers for each case of the answer: "buffer 0 none, 1 pass, 2 under or 3 over, frame, packet or peak; 0 where there is
+-- none"; "reports a broken frame as 4 with frame and kind" (document 02, vi).
 abbrev pub bufferNumber : Buffer → ℕ
 bufferNumber None = 0
 bufferNumber Pass = 1
 bufferNumber (Under p) = 2
 bufferNumber (Over p) = 3
+bufferNumber (Broken b) = 4
 
 abbrev pub bufferFrame : Buffer → ℕ
 bufferFrame None = 0
 bufferFrame Pass = 0
 bufferFrame (Under p) = p .frame
 bufferFrame (Over p) = p .frame
+bufferFrame (Broken b) = b .frame
 
 abbrev pub bufferPlace : Buffer → ℕ
 bufferPlace None = 0
 bufferPlace Pass = 0
 bufferPlace (Under p) = p .place
 bufferPlace (Over p) = p .place
+bufferPlace (Broken b) = b .kind

@@ -1,13 +1,13 @@
 -- What a plan and an open frame must keep to, so that nothing overflows. Each
 -- is met by every stream that set-up accepts and every accepted history.
-use Rattle.laws.specs.Kit.{_≡_, true, List, [], _∷_, ℕ, _+_, _*_, _≤_, _<_}
+use Rattle.laws.specs.Kit.{_≡_, true, not, List, [], _∷_, ℕ, _+_, _*_, _≤_, _<_}
 use Rattle.grain.specs.Paper.{nanosecond}
 use Rattle.laws.specs.Every.{Test, at-most, below, is, where-so, Entry, entry, flag, tests}
 use Rattle.frame.specs.declared.Plan.{Plan}
 use Rattle.frame.specs.declared.Frame.{Frame}
 use Rattle.frame.specs.declared.Frames.{Frames}
 use Rattle.frame.specs.declared.Buffer.{Buffer}
-use Rattle.frame.specs.Paper.{bufferNumber, bufferFrame, bufferPlace}
+use Rattle.frame.specs.Paper.{bufferNumber, bufferFrame, bufferPlace, isBroken, brokenFails}
 use Rattle.frame.specs.Step.{beganOf}
 
 pub record Planned (plan : Plan) : Type 0 where
@@ -76,17 +76,25 @@ module _ (plan : Plan) (s : Frames) (first last packets : ℕ) where
       ∷ entry (s .current .top) 8 (at-most (s .current .top) (s .current .held) ∷ [])
       ∷ entry (s .current .late) 8 (at-most (s .current .late) (s .current .held) ∷ [])
       ∷ entry (s .current .deficit) 8 (at-most (s .current .deficit) (plan .packets) ∷ [])
-      ∷ entry (bufferNumber (s .buffer)) 1 []
+      ∷ entry (bufferNumber (s .buffer)) 1 (where-so (is (isBroken (s .buffer))) (is (brokenFails (plan .edition))) ∷ [])
       ∷ entry (bufferFrame (s .buffer)) 8 (at-most (bufferFrame (s .buffer)) packets ∷ [])
-      ∷ entry (bufferPlace (s .buffer)) 8 (at-most (bufferPlace (s .buffer)) packets ∷ [])
+      ∷ entry (bufferPlace (s .buffer)) 8
+      (where-so (is (not (isBroken (s .buffer)))) (at-most (bufferPlace (s .buffer)) packets)
+      ∷ where-so (is (isBroken (s .buffer))) (below 0 (bufferPlace (s .buffer)))
+      ∷ where-so (is (isBroken (s .buffer))) (at-most (bufferPlace (s .buffer)) 3)
+      ∷ [])
       ∷ []
 
   abbrev pub ranges : List Test
   ranges = tests table
 
-pub record Answered (b : Buffer) (most : ℕ) : Type 0 where
+-- an answer names a frame and a place in it, or the kind of a frame that failed by being broken, where such a frame does
+pub record Answered (plan : Plan) (b : Buffer) (most : ℕ) : Type 0 where
+  pub fails : isBroken b ≡ true → brokenFails (plan .edition) ≡ true
   pub frame : bufferFrame b ≤ most
-  pub place : bufferPlace b ≤ most
+  pub place : not (isBroken b) ≡ true → bufferPlace b ≤ most
+  pub kind-from : isBroken b ≡ true → 0 < bufferPlace b
+  pub kind-to : isBroken b ≡ true → bufferPlace b ≤ 3
 
 -- both ways: kept-of and of-kept in proofs/Ranges.antt
 pub record Kept (plan : Plan) (s : Frames) (first last packets : ℕ) : Type 0 where
@@ -104,4 +112,4 @@ pub record Kept (plan : Plan) (s : Frames) (first last packets : ℕ) : Type 0 w
   pub top : s .current .top ≤ s .current .held
   pub deficit : s .current .deficit ≤ plan .packets
   pub late : s .current .late ≤ s .current .held
-  pub answered : Answered (s .buffer) packets
+  pub answered : Answered plan (s .buffer) packets

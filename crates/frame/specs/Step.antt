@@ -10,8 +10,8 @@ use Rattle.frame.specs.declared.Frame.{Frame}
 use Rattle.frame.specs.declared.Frames.{Frames}
 use Rattle.frame.specs.declared.Row.{Row}
 use Rattle.frame.specs.declared.Buffer.{Buffer}
-use Rattle.frame.specs.declared.Buffer.the-variants.{None, Pass, Under, Over}
-use Rattle.frame.specs.Paper.{hasFailed, isNone}
+use Rattle.frame.specs.declared.Buffer.the-variants.{None, Pass, Under, Over, Broken}
+use Rattle.frame.specs.Paper.{hasFailed, isNone, brokenFails}
 
 -- ---- the open frame
 
@@ -138,15 +138,18 @@ numbersOf r =
 abbrev pub rowWidth : ℕ
 rowWidth = 11
 
--- V7, V8, E3: "under (least below 0) [..]; over (VRX peak above VRX_FULL) [..]; in one frame under goes first." A broken frame is not
--- judged.
+-- V12, E3: a broken frame answers that it is broken, where such a frame fails; else it is not judged
+abbrev pub brokenAnswer : ℕ → ℕ → ℕ → Buffer
+brokenAnswer edition number kind = pick (brokenFails edition) (Broken (record { frame = number; kind = kind })) None
+
+-- V7, V8, V12: "under (least below 0) [..]; over (VRX peak above VRX_FULL) [..]; in one frame under goes first."
 unfoldable pub answerOf : Plan → ℕ → Frame → Buffer
 unfolding kindOf
 answerOf plan number f =
     pick (eqb (kindOf f (plan .packets)) 0)
     (pick (ltb 0 (f .deficit)) (Under (record { frame = number; place = f .late }))
     (pick (ltb (plan .full) (f .top)) (Over (record { frame = number; place = f .top })) Pass))
-    None
+    (brokenAnswer (plan .edition) number (kindOf f (plan .packets)))
 
 -- V8: "The first failing frame decides": the answer so far, and then the next frame's
 unfoldable pub joined : Buffer → Buffer → Buffer

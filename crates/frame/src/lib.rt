@@ -1,13 +1,14 @@
 // The frames of a stream: the open frame packet by packet, its row when a marker closes it, and the
 // receiver buffer's answer.
 // It knows `grain`. It must never know a rate code, a class or a schedule: the period, the packets of a
-// period, the offset and the spacing of the reads and the limit come in a plan.
+// period, the offset and the spacing of the reads, the limit and the edition come in a plan.
 ghost use Rattle.laws.specs.Kit.{_≡_, true, _+_, _-_, _≤_, _<_, length, sets};
 ghost use Rattle.laws.specs.Choose.{pick};
 ghost use Rattle.laws.specs.Every.{every};
-ghost use Rattle.frame.specs.Paper.{nextReadOf, bufferNumber, bufferFrame, bufferPlace, hasFailed, isNone};
+ghost use Rattle.frame.specs.Paper.{nextReadOf, bufferNumber, bufferFrame, bufferPlace, hasFailed, isNone, isBroken, brokenFails};
 ghost use Rattle.frame.specs.Step.{emptyOf, openedOf, goneOf, differsOf, countedOf, pushOf, kindOf, detailOf, wholeRow};
-ghost use Rattle.frame.specs.Step.{brokenRow, rowOf, numbersOf, rowWidth, closedRow, answerOf, joined, noFrames, arriveOf, closeOf};
+ghost use Rattle.frame.specs.Step.{brokenRow, rowOf, numbersOf, rowWidth, closedRow, brokenAnswer, answerOf, joined};
+ghost use Rattle.frame.specs.Step.{noFrames, arriveOf, closeOf};
 ghost use Rattle.frame.specs.Range.{Planned, PushAsks, NextAsks, RowAsks, FramesRowAsks, ranges};
 use grain::NextRead;
 use grain::Reads;
@@ -17,13 +18,15 @@ use grain::Spacing;
 pub const ROW: usize = 11;
 
 // What a stream is measured by: frames start at multiples of `period` grains and have `packets` packets;
-// the reads lie at tro + j·num/den grains after the start, by their spacing; `full` is the most that the buffer may hold.
+// the reads lie at tro + j·num/den grains after the start, by their spacing; `full` is the most that the buffer may hold;
+// by the edition a frame that is not whole fails the buffer, or is not judged.
 pub struct Plan {
     pub period: u64,
     pub packets: u64,
     pub tro: u64,
     pub reads: Spacing,
     pub full: u64,
+    pub edition: u32,
 }
 
 // The open frame: how many packets it holds; of the first its arrival, timestamp and phase; the place of
@@ -64,11 +67,18 @@ pub struct Place {
     pub place: u64,
 }
 
+// The number of a frame that is not whole, and its kind, 1 to 3.
+pub struct BrokenFrame {
+    pub frame: u64,
+    pub kind: u64,
+}
+
 pub enum Buffer {
     None,
     Pass,
     Under(Place),
     Over(Place),
+    Broken(BrokenFrame),
 }
 
 // All that is kept of the frames: whether the lead-in is over, how many are closed, the arrival of the
@@ -229,13 +239,13 @@ impl Frame {
         }
     }
 
-    // A broken frame is not judged; of a whole one under goes first.
+    // A broken frame fails by being broken, or is not judged; of a whole one under goes first.
     pub fn answer(self, plan: Plan, number: u64) -> Buffer
         ensures { λ r. ⌜ r ≡ answerOf plan number self ⌝ }
     {
         let kind = self.kind(plan.packets);
         if kind != 0 {
-            return Buffer::None;
+            return broken_answer(plan.edition, number, kind);
         }
         if 0 < self.deficit {
             return Buffer::Under(Place {
@@ -267,6 +277,26 @@ impl Plan {
         let reads = grain::reads_on(f.reads, f.wait, self.packets, self.reads.num, by);
         reads.next
     }
+}
+
+// The one place that tells the editions apart. Set-up refuses any but 1 and 2.
+fn broken_fails(edition: u32) -> bool
+    ensures { λ r. ⌜ r ≡ brokenFails edition ⌝ }
+{
+    edition == 2
+}
+
+// A frame that is not whole fails, where the edition has it fail; else it answers nothing.
+fn broken_answer(edition: u32, number: u64, kind: u64) -> Buffer
+    ensures { λ r. ⌜ r ≡ brokenAnswer edition number kind ⌝ }
+{
+    if broken_fails(edition) {
+        return Buffer::Broken(BrokenFrame {
+            frame: number,
+            kind: kind,
+        });
+    }
+    Buffer::None
 }
 
 // Nothing is measured of a broken frame, but where it began is told.
@@ -324,8 +354,8 @@ impl Row {
 }
 
 impl Buffer {
-    // Document 01's numbers for the answer: 0 none, 1 pass, 2 under, 3 over; the frame, and the packet's place
-    // or the peak, 0 where there is none.
+    // Document 01's numbers for the answer: 0 none, 1 pass, 2 under, 3 over, 4 broken; the frame, and the packet's place,
+    // the peak or the kind, 0 where there is none.
     pub fn number(self) -> u64
         ensures { λ r. ⌜ r ≡ bufferNumber self ⌝ }
     {
@@ -334,6 +364,7 @@ impl Buffer {
             Buffer::Pass => 1,
             Buffer::Under(_) => 2,
             Buffer::Over(_) => 3,
+            Buffer::Broken(_) => 4,
         }
     }
 
@@ -345,6 +376,7 @@ impl Buffer {
             Buffer::Pass => 0,
             Buffer::Under(p) => p.frame,
             Buffer::Over(p) => p.frame,
+            Buffer::Broken(b) => b.frame,
         }
     }
 
@@ -356,6 +388,7 @@ impl Buffer {
             Buffer::Pass => 0,
             Buffer::Under(p) => p.place,
             Buffer::Over(p) => p.place,
+            Buffer::Broken(b) => b.kind,
         }
     }
 
@@ -367,6 +400,19 @@ impl Buffer {
             Buffer::Pass => false,
             Buffer::Under(_) => true,
             Buffer::Over(_) => true,
+            Buffer::Broken(_) => true,
+        }
+    }
+
+    pub fn is_broken(self) -> bool
+        ensures { λ r. ⌜ r ≡ isBroken self ⌝ }
+    {
+        match self {
+            Buffer::None => false,
+            Buffer::Pass => false,
+            Buffer::Under(_) => false,
+            Buffer::Over(_) => false,
+            Buffer::Broken(_) => true,
         }
     }
 
@@ -378,6 +424,7 @@ impl Buffer {
             Buffer::Pass => false,
             Buffer::Under(_) => false,
             Buffer::Over(_) => false,
+            Buffer::Broken(_) => false,
         }
     }
 
@@ -390,6 +437,7 @@ impl Buffer {
             Buffer::Pass => Buffer::Pass,
             Buffer::Under(p) => Buffer::Under(p),
             Buffer::Over(p) => Buffer::Over(p),
+            Buffer::Broken(b) => Buffer::Broken(b),
         }
     }
 
@@ -432,7 +480,8 @@ impl Frames {
         let answer = self.buffer;
         let lead_in = !self.begun;
         let none = !(0 < open.held);
-        (self.closed <= packets)
+        let edition = plan.edition;
+        let numbers = (self.closed <= packets)
             & (lead_in | (0 < packets))
             & (lead_in | (first <= self.marked))
             & (lead_in | (self.marked <= last))
@@ -445,9 +494,16 @@ impl Frames {
             & (open.differs <= open.held)
             & (open.top <= open.held)
             & (open.late <= open.held)
-            & (open.deficit <= plan.packets)
-            & (answer.frame() <= packets)
-            & (answer.place() <= packets)
+            & (open.deficit <= plan.packets);
+        let whole = !answer.is_broken();
+        let named = answer.frame();
+        let place = answer.place();
+        numbers
+            & (whole | broken_fails(edition))
+            & (named <= packets)
+            & (!whole | (place <= packets))
+            & (whole | (0 < place))
+            & (whole | (place <= 3))
     }
 
     // A packet arrives: it is in the open frame, or in the lead-in and in none.

@@ -8,6 +8,10 @@ use Rattle.limits.specs.Paper.{classFits}
 abbrev pub KnownRate : ℕ → Type 0
 KnownRate code = (1 ≤ code) × (code ≤ 8)
 
+-- S11: the editions of the test plan
+abbrev pub KnownEdition : ℕ → Type 0
+KnownEdition edition = (1 ≤ edition) × (edition ≤ 2)
+
 pub record Accepted (p : Parameters) : Type 0 where
   pub rate-known : KnownRate (p .rate)
   pub schedule-known : p .schedule ≤ 1

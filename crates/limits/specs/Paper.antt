@@ -1,6 +1,6 @@
 -- The numbers that a stream is set up with, and the limits that follow from them, each under its sentence of document 01.
 use Rattle.laws.specs.Kit.{Bool, true, false, _&&_, _||_, List, [], _∷_, ℕ, zero, suc, _*_, _/_, max, ltb, leb, eqb, getD}
-use Rattle.laws.specs.Choose.{pick}
+use Rattle.laws.specs.Choose.{pick, orElse}
 use Rattle.grain.specs.Paper.{grains}
 use Rattle.limits.specs.Fraction.{Fraction, whole, _over_, _·_, _÷_, int}
 use Rattle.limits.specs.declared.Class.{Class}
@@ -140,6 +140,16 @@ firstNo k (answer ∷ more) = pick answer (firstNo (suc k) more) k
 -- N2: the refusals 1 to 7 of set-up, and 0 for what is accepted
 unfoldable pub setUpRefusal : Parameters → ℕ
 setUpRefusal p = firstNo 1 (questions p)
+
+-- The edition of the test plan, which set-up is told beside the parameters.
+
+-- S11: "an edition other than 1 or 2" is refused by 8 (document 02, vi)
+unfoldable pub editionRefusal : ℕ → ℕ
+editionRefusal edition = pick (within 1 2 edition) 0 8
+
+-- N1, N2: "8 for an edition other than 1 or 2, after 7"
+unfoldable pub setUpIn : Parameters → ℕ → ℕ
+setUpIn p edition = orElse (setUpRefusal p) (editionRefusal edition)
 
 -- the seven numbers put together, as a call that is given each by itself does
 abbrev pub given : (rate schedule class height n maxudp tro : ℕ) → Parameters

@@ -8,7 +8,7 @@ ghost use Rattle.laws.specs.Kit.{_≡_, _/_, _<_, max};
 ghost use Rattle.limits.specs.Fraction.{whole, _·_, _÷_, int};
 ghost use Rattle.limits.specs.Steps.{Divides};
 ghost use Rattle.limits.specs.Paper.{frameLength, activeRatio, seconds, strictOn, classOf, cMax, vrxFull, troGrains, readNum, readDen};
-ghost use Rattle.limits.specs.Paper.{within, classFits, maxudpKnown, troFits, setUpRefusal};
+ghost use Rattle.limits.specs.Paper.{within, classFits, maxudpKnown, troFits, setUpRefusal, editionRefusal, setUpIn};
 
 const MICROSECOND: u64 = 1000 * grain::GRAINS_PER_NANOSECOND;
 
@@ -19,6 +19,9 @@ const GAPPED: u8 = 0;
 const LINEAR: u8 = 1;
 
 const DEFAULT_TRO: u32 = 4294967295;
+
+// The edition of the test plan that is meant where none is told.
+pub const FIRST_EDITION: u32 = 1;
 
 // The parameters that a stream is set up with, of the sizes that a record file has: class 0 and a TRO of all ones stay what they are.
 pub struct Parameters {
@@ -127,6 +130,23 @@ impl Parameters {
         }
         0
     }
+}
+
+impl Parameters {
+    // What set-up refuses: 1 to 7 of these, and then 8 of the edition that it is told beside them; 0 where it refuses nothing.
+    pub fn refusal_in(self, edition: u32) -> u8
+        ensures { λ r. ⌜ r ≡ setUpIn self edition ⌝ }
+    {
+        let of_numbers = self.refusal();
+        let of_edition = edition_refusal(edition);
+        laws::first_of(of_numbers, of_edition)
+    }
+}
+
+fn edition_refusal(edition: u32) -> u8
+    ensures { λ r. ⌜ r ≡ editionRefusal edition ⌝ }
+{
+    if is_within(1, 2, edition) { 0 } else { 8 }
 }
 
 fn is_within(low: u32, high: u32, x: u32) -> bool

@@ -8,6 +8,7 @@ use Rattle.text.specs.Lines.{refusalLine}
 use Rattle.record.specs.declared.Cursor.{Cursor}
 use Rattle.limits.specs.declared.Parameters.{Parameters}
 use Rattle.limits.specs.Paper.{setUpRefusal}
+use Rattle.limits.proofs.Editions.{in-one}
 use Rattle.record.specs.declared.Head.{Head}
 use Rattle.record.specs.declared.Head.the-variants as head
 use Rattle.record.specs.Paper.{heading, resolved, headBytes, packetsIn}
@@ -57,7 +58,7 @@ module _ (w v : List ℕ) (last : Bool) (l : last ≡ true → v ≡ []) where
     fresh-tells fine =
         let rules = rulesOf (ofParameters numbers) in
         let state = freshOf (ofParameters numbers) in (
-          record { sound = sound-fresh (ofParameters numbers) fine; offset = ap (λ (d : Cursor). d .at) (here .next-19) },
+          record { sound = sound-fresh (ofParameters numbers) (in-one numbers ∙ fine); offset = ap (λ (d : Cursor). d .at) (here .next-19) },
           ap outputBy (reads-packets here fine)
               ∙ ap (λ (m : List ℕ). linesOf rules state (packetsIn nothing headBytes m)) (drop-append-le headBytes w v nineteen)
               ∙ ap (λ (d : Cursor). linesOf rules state (packetsIn nothing (d .at) (drop headBytes w ++ v))) (sym (here .next-19)),
@@ -70,9 +71,10 @@ module _ (w v : List ℕ) (last : Bool) (l : last ≡ true → v ≡ []) where
     set-up-tells : Tells w v (readyBy (setUpAs (ofParameters numbers)) c)
     unfolding setUpAs
     set-up-tells =
-        pick-either (λ (a : SetUp). Tells w v (readyBy a c)) (eqb (setUpRefusal numbers) 0)
+        rw (in-one numbers)
+        (pick-either (λ (a : SetUp). Tells w v (readyBy a c)) (eqb (setUpRefusal numbers) 0)
         (λ g. fresh-tells (eqb-true (setUpRefusal numbers) 0 g))
-        (λ g. refused-tells (some (setUpRefusal numbers) (eqb-false (setUpRefusal numbers) 0 g)))
+        (λ g. refused-tells (some (setUpRefusal numbers) (eqb-false (setUpRefusal numbers) 0 g))))
       where
         some : (n : ℕ) → (n ≡ 0 → ⊥) → 0 < n
         some n h = omega arith

@@ -4,7 +4,7 @@ use Rattle.laws.specs.Kit.{_≡_, refl, sym, ap, subst, _∙_, Bool, true, fals
 use Rattle.laws.specs.Kit.{_+_, _-_, _^_, _≤_, _<_, arith, mod-eq-of-lt, eqb, ltb, length, drop, length-append, drop-drop, drop-append-le}
 use Rattle.laws.specs.Kit.{eqb-true, eqb-false}
 use Rattle.laws.specs.Choose.{pick}
-use Rattle.laws.proofs.Choose.{pick-either}
+use Rattle.laws.proofs.Choose.{pick-either, second, before}
 use Rattle.laws.specs.Fold.{fold}
 use Rattle.packet.specs.declared.Past.{Past}
 use Rattle.packet.specs.declared.Packet as packet
@@ -18,7 +18,7 @@ use Rattle.record.specs.declared.Next.the-variants.{Packet, End, More, Refused}
 use Rattle.record.specs.Paper.{packetBytes, packetAt, packetRefusal, Packets, packetsIn, more}
 use Rattle.record.specs.Step.{nextRead, nextPiece}
 use Rattle.record.specs.Pieces.{wantsMore}
-use Rattle.record.proofs.Reading.{second, before, packets-end, packets-stop, packets-go}
+use Rattle.record.proofs.Reading.{packets-end, packets-stop, packets-go}
 use Rattle.record.proofs.Saying.{Says, next-says}
 use Rattle.record.proofs.InPieces.{piece-answers}
 use Rattle.timing.specs.declared.Rules.{Rules}

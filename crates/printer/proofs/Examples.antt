@@ -7,7 +7,7 @@ use Rattle.laws.specs.Fold.{fold}
 use Rattle.grain.specs.Paper.{nearest, phase, latency}
 use Rattle.limits.specs.Fraction.{int}
 use Rattle.limits.specs.Paper.{strictOn, rateOf, frameLength, activeRatio, classOf, cMax, vrxFull, defaultTro, troGrains, troFits}
-use Rattle.limits.specs.Paper.{firstNo, setUpRefusal}
+use Rattle.limits.specs.Paper.{firstNo, setUpRefusal, editionRefusal, setUpIn}
 use Rattle.packet.specs.Step.{refusalOf}
 use Rattle.bucket.specs.Step as B
 use Rattle.frame.specs.Step as F
@@ -37,7 +37,7 @@ packets =
 -- L5: the whole output, computed from the bytes of the file
 pub file-output : outputOf (head ++ packets)
     ≡ codes "frame 0 0 0 18900000 0 18900000 1740000 45900000 1 0 1\npackets 5 frames 1 peak 2 network pass buffer pass\n"
-unfolding outputOf rowLines rowLine fields digitsOf summaryLine refusalLine setUpRefusal firstNo troFits rateOf frameLength activeRatio classOf
+unfolding outputOf rowLines rowLine fields digitsOf summaryLine refusalLine setUpIn editionRefusal setUpRefusal firstNo troFits rateOf frameLength activeRatio classOf
     cMax vrxFull int troGrains defaultTro nearest phase latency count fold rulesOf arriveOf markOf stepOf rowsAfter B.stepOf F.openedOf
     F.countedOf F.kindOf F.wholeRow F.rowOf F.answerOf F.joined F.arriveOf F.closeOf F.rowsOf readingOf packetsBy formatRefusal
     versionKnown classIn isParameters kindLength numberOf refusalOf verdictOf inRange
@@ -61,7 +61,7 @@ told network =
 
 -- F11: the same bytes but the version: wide in version 1, narrow in version 2
 pub wide-then-strict : (outputOf (1 ∷ at-once) ≡ told "pass") × (outputOf (2 ∷ at-once) ≡ told "burst 0 4")
-unfolding outputOf rowLines rowLine fields digitsOf summaryLine refusalLine setUpRefusal firstNo troFits rateOf frameLength activeRatio strictOn classOf
+unfolding outputOf rowLines rowLine fields digitsOf summaryLine refusalLine setUpIn editionRefusal setUpRefusal firstNo troFits rateOf frameLength activeRatio strictOn classOf
     cMax vrxFull int troGrains defaultTro nearest phase latency count fold rulesOf arriveOf markOf stepOf rowsAfter B.stepOf F.openedOf
     F.countedOf F.kindOf F.wholeRow F.rowOf F.answerOf F.joined F.arriveOf F.closeOf F.rowsOf readingOf packetsBy formatRefusal
     versionKnown classIn isParameters kindLength numberOf refusalOf verdictOf inRange

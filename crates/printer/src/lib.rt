@@ -9,6 +9,7 @@ ghost use Rattle.record.specs.Pieces.{wantsMore};
 ghost use Rattle.timing.specs.Feed.{closing, Going};
 ghost use Rattle.printer.specs.Paper.{rowLines, sumLine};
 ghost use Rattle.printer.specs.Step.{readyOf, beginOf, lineOf, stopsAt, walkOf, takeOf, CloseAsks, TakeGives};
+use limits::FIRST_EDITION;
 use limits::Parameters;
 use record::Cursor;
 use record::Head;
@@ -43,12 +44,14 @@ pub struct TakeAnswer {
     pub ended: bool,
 }
 
-// The parameters that a file sets up with; they stand at offset 1, and so does what set-up refuses.
+// The parameters that a file sets up with; they stand at offset 1, and so does what set-up refuses. A file carries no edition, and the
+// first is meant.
 fn ready(numbers: Parameters, next: Cursor) -> Opened
     ensures { λ r. ⌜ r ≡ readyOf numbers next ⌝ }
 {
     let stream = StreamNumbers {
         parameters: numbers,
+        edition: FIRST_EDITION,
     };
     match stream.set_up() {
         SetUp::Fresh(state) => Opened::Ready(Walk { at: next, state }),

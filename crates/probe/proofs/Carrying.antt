@@ -44,6 +44,7 @@ stamp-step rules s p h k = go (marked p)
 pub narrow-step : (rules : Rules) (s : State) (p : Packet) → p .stamp < 4294967296 → Narrow s → Narrow (stepOf rules s p)
 narrow-step rules s p h f = record {
   numbers = subst (λ (x : StreamNumbers). ParametersHeld (x .parameters)) (sym (step-numbers rules s p)) (f .numbers);
+  edition = subst (λ (x : StreamNumbers). x .edition < 4294967296) (sym (step-numbers rules s p)) (f .edition);
   stamp = stamp-step rules s p h (f .stamp);
 }
 

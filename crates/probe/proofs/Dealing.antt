@@ -4,6 +4,7 @@ use Rattle.laws.specs.Kit.{take, sets, le-leb}
 use Rattle.laws.specs.Choose.{pick}
 use Rattle.packet.specs.Paper.{packets}
 use Rattle.limits.specs.Steps.{ParametersHeld}
+use Rattle.limits.proofs.Editions.{in-fine}
 use Rattle.timing.specs.declared.StreamNumbers.{StreamNumbers}
 use Rattle.timing.specs.declared.State.{State}
 use Rattle.timing.specs.declared.Fed.{Fed}
@@ -26,13 +27,18 @@ use Rattle.probe.proofs.Carrying.{narrow-after, laid-hold}
 
 -- ---- set-up
 
+-- an edition that set-up accepts fits, and so do the parameters' types
+narrow-fresh : (x : StreamNumbers) → ParametersHeld (x .parameters) → setUpOf x ≡ 0 → Narrow (freshOf x)
+narrow-fresh x f e =
+    record { numbers = f; edition = omega (arith, in-fine (x .parameters) (x .edition) e .1 .1); stamp = omega arith }
+
 -- the words that set-up leaves hold the fresh state
 pub set-up-holds : (x : StreamNumbers) (words : List ℕ) → ParametersHeld (x .parameters) → setUpOf x ≡ 0 → stateWords ≤ length words
     → (wordsNumber x (length words) ≡ 0) × Holds (setUpLeft x words) (freshOf x)
 unfolding wordsNumber setUpLeft
 set-up-holds x words f e h =
     let fine : wordsNumber x (length words) ≡ 0 = room-there x stateWords (length words) e h in
-    let fresh = laid-hold words (freshOf x) h (record { numbers = f; stamp = omega arith }) in
+    let fresh = laid-hold words (freshOf x) h (narrow-fresh x f e) in
     (fine, rw fine fresh)
 
 -- ---- one call
@@ -110,4 +116,4 @@ pub dealt-over-c-calls : (h : AcceptedHistory) → ParametersHeld (h .stream .pa
 dealt-over-c-calls h f words enough cs w all room =
     let begun = set-up-holds (h .stream) words f (h .set-up) enough in
     carried cs (freshOf (h .stream)) _ (setUpLeft (h .stream) words) _ (dealt h (map asCall cs) all room) w
-    (record { numbers = f; stamp = omega arith }) (begun .1)
+    (narrow-fresh (h .stream) f (h .set-up)) (begun .1)

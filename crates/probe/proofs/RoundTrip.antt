@@ -6,7 +6,7 @@ use Rattle.bucket.specs.declared.Network.{Network}
 use Rattle.bucket.specs.declared.Network.the-variants.{Pass, Burst}
 use Rattle.bucket.specs.Paper.{networkNumber, networkFirst, networkLast}
 use Rattle.frame.specs.declared.Buffer.{Buffer}
-use Rattle.frame.specs.declared.Buffer.the-variants.{None, Under, Over, Pass as Buffer-Pass}
+use Rattle.frame.specs.declared.Buffer.the-variants.{None, Under, Over, Broken, Pass as Buffer-Pass}
 use Rattle.frame.specs.Paper.{bufferNumber, bufferFrame, bufferPlace}
 use Rattle.timing.specs.declared.State.{State}
 use Rattle.laws.specs.Every.{flag}
@@ -48,6 +48,7 @@ too-few words h =
 -- a state whose numbers fit, those that have fewer than 64 bits
 pub record Narrow (s : State) : Type 0 where
   pub numbers : ParametersHeld (s .numbers .parameters)
+  pub edition : s .numbers .edition < 4294967296
   pub stamp : s .frames .current .stamp < 4294967296
 
 network-again : (x : Network) → networkIn (networkNumber x) (networkFirst x) (networkLast x) ≡ x
@@ -59,6 +60,7 @@ buffer-again None = refl
 buffer-again Buffer-Pass = refl
 buffer-again (Under p) = refl
 buffer-again (Over p) = refl
+buffer-again (Broken b) = refl
 
 flag-again : (b : Bool) → eqb (flag b) 1 ≡ b
 flag-again true = refl
@@ -84,6 +86,7 @@ unfolding stateIn wordsOf
 read-again s f =
     rw (
       numbers-again (s .numbers .parameters) (f .numbers),
+      mod-eq-of-lt (f .edition),
       mod-eq-of-lt (f .stamp),
       network-again (s .bucket .network),
       buffer-again (s .frames .buffer),

@@ -15,7 +15,7 @@ use Rattle.probe.specs.Words.{stateWords, wordsOf, heldBy}
 
 -- ---- set-up
 
--- X8: 1 to 7; then 15 where fewer words are lent than a state is
+-- X8: 1 to 8; then 15 where fewer words are lent than a state is
 unfoldable pub wordsNumber : StreamNumbers → ℕ → ℕ
 wordsNumber x room = orElse (setUpNumber (setUpAs x)) (pick (leb stateWords room) 0 15)
 

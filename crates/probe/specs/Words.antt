@@ -9,12 +9,12 @@ use Rattle.bucket.specs.Paper.{networkNumber, networkFirst, networkLast}
 use Rattle.frame.specs.declared.Frame.{Frame}
 use Rattle.frame.specs.declared.Frames.{Frames}
 use Rattle.frame.specs.declared.Buffer.{Buffer}
-use Rattle.frame.specs.declared.Buffer.the-variants.{None, Under, Over, Pass as Buffer-Pass}
+use Rattle.frame.specs.declared.Buffer.the-variants.{None, Under, Over, Broken, Pass as Buffer-Pass}
 use Rattle.frame.specs.Paper.{bufferNumber, bufferFrame, bufferPlace}
 use Rattle.timing.specs.declared.StreamNumbers.{StreamNumbers}
 use Rattle.timing.specs.declared.State.{State}
 use Rattle.limits.specs.Paper.{given}
-use Rattle.timing.specs.Step.{ofParameters}
+use Rattle.timing.specs.Step.{inEdition}
 use Rattle.timing.specs.Range.{table}
 use Rattle.probe.specs.declared.Held.{Held}
 use Rattle.probe.specs.declared.Held.the-variants.{Known, Nothing}
@@ -38,7 +38,7 @@ wordsOf s = values (table s)
 
 -- how many they are, for every state: `length-words` in proofs/RoundTrip.antt
 abbrev pub stateWords : ℕ
-stateWords = 33
+stateWords = 34
 
 -- ---- words read as a state, whatever they are: what a field has no room for is left out, and a number that no answer has counts
 -- as the last one's
@@ -50,7 +50,8 @@ abbrev pub bufferIn : (number frame place : ℕ) → Buffer
 bufferIn number frame place =
     pick (eqb number 0) None
     (pick (eqb number 1) Buffer-Pass
-    (pick (eqb number 2) (Under (record { frame = frame; place = place })) (Over (record { frame = frame; place = place }))))
+    (pick (eqb number 2) (Under (record { frame = frame; place = place }))
+    (pick (eqb number 3) (Over (record { frame = frame; place = place })) (Broken (record { frame = frame; kind = place })))))
 
 module _ (w : List ℕ) where
   abbrev word : ℕ → ℕ
@@ -58,40 +59,41 @@ module _ (w : List ℕ) where
 
   abbrev pub numbersIn : StreamNumbers
   numbersIn =
-      ofParameters (given (word 0 % 256) (word 1 % 256) (word 2 % 256) (word 3 % 65536) (word 4 % 4294967296) (word 5 % 65536)
+      inEdition (word 7 % 4294967296)
+      (given (word 0 % 256) (word 1 % 256) (word 2 % 256) (word 3 % 65536) (word 4 % 4294967296) (word 5 % 65536)
       (word 6 % 4294967296))
 
   abbrev pub bucketIn : Bucket
-  bucketIn = record { level = word 10; start = word 11; peak = word 12; network = networkIn (word 13) (word 14) (word 15) }
+  bucketIn = record { level = word 11; start = word 12; peak = word 13; network = networkIn (word 14) (word 15) (word 16) }
 
   abbrev pub openIn : Frame
   openIn = record {
-    held = word 20;
-    first = word 21;
-    stamp = word 22 % 4294967296;
-    phase = word 23;
-    differs = word 26;
-    reads = word 24;
-    wait = word 25;
-    top = word 27;
-    deficit = word 29;
-    late = word 28;
+    held = word 21;
+    first = word 22;
+    stamp = word 23 % 4294967296;
+    phase = word 24;
+    differs = word 27;
+    reads = word 25;
+    wait = word 26;
+    top = word 28;
+    deficit = word 30;
+    late = word 29;
   }
 
   abbrev pub framesIn : Frames
   framesIn = record {
-    begun = eqb (word 18) 1;
-    closed = word 17;
-    marked = word 19;
+    begun = eqb (word 19) 1;
+    closed = word 18;
+    marked = word 20;
     current = openIn;
-    buffer = bufferIn (word 30) (word 31) (word 32);
+    buffer = bufferIn (word 31) (word 32) (word 33);
   }
 
   unfoldable pub stateIn : State
   stateIn = record {
     numbers = numbersIn;
-    past = record { packets = word 7; first = word 8; last = word 9 };
-    rest = word 16;
+    past = record { packets = word 8; first = word 9; last = word 10 };
+    rest = word 17;
     bucket = bucketIn;
     frames = framesIn;
   }

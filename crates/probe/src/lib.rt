@@ -4,7 +4,7 @@
 ghost use Rattle.laws.specs.Kit.{_≡_, true, _≤_, length, take, sets};
 ghost use Rattle.laws.specs.Every.{flag as flagOf};
 ghost use Rattle.limits.specs.Paper.{given};
-ghost use Rattle.timing.specs.Step.{ofParameters};
+ghost use Rattle.timing.specs.Step.{inEdition};
 ghost use Rattle.timing.specs.Answers.{summaryOf};
 ghost use Rattle.timing.specs.Range.{inRange};
 ghost use Rattle.probe.specs.Words.{stateWords, verdictWords, wordsOf, same as sameOf, heldBy};
@@ -13,6 +13,7 @@ ghost use Rattle.probe.specs.Calls.{SetUpGives, callOf, CallGives, answe
 use bucket::Bucket;
 use bucket::Network;
 use bucket::Run;
+use frame::BrokenFrame;
 use frame::Buffer;
 use frame::Frame;
 use frame::Frames;
@@ -27,7 +28,7 @@ use timing::State;
 use timing::StreamNumbers;
 
 // How many words a state is.
-const WORDS: usize = 33;
+const WORDS: usize = 34;
 
 // What lent words hold: a state, or nothing that is one.
 enum Held {
@@ -85,6 +86,7 @@ fn words_of(s: State) -> [u64; WORDS]
         told.n as u64,
         told.maxudp as u64,
         told.tro as u64,
+        s.numbers.edition as u64,
         s.past.packets,
         s.past.first,
         s.past.last,
@@ -127,7 +129,10 @@ fn numbers_in(words: &[u64]) -> StreamNumbers
         maxudp: (words[5] % 65536) as u16,
         tro: (words[6] % 4294967296) as u32,
     };
-    StreamNumbers { parameters: told }
+    StreamNumbers {
+        parameters: told,
+        edition: (words[7] % 4294967296) as u32,
+    }
 }
 
 fn network_in(number: u64, first: u64, last: u64) -> Network
@@ -143,11 +148,11 @@ fn bucket_in(words: &[u64]) -> Bucket
     requires { ⌜ stateWords ≤ length (now words) ⌝ }
     ensures { λ r. ⌜ r ≡ bucketIn (now (words .entry)) ⌝ }
 {
-    let network = network_in(words[13], words[14], words[15]);
+    let network = network_in(words[14], words[15], words[16]);
     Bucket {
-        level: words[10],
-        start: words[11],
-        peak: words[12],
+        level: words[11],
+        start: words[12],
+        peak: words[13],
         network,
     }
 }
@@ -157,16 +162,16 @@ fn open_in(words: &[u64]) -> Frame
     ensures { λ r. ⌜ r ≡ openIn (now (words .entry)) ⌝ }
 {
     Frame {
-        held: words[20],
-        first: words[21],
-        stamp: (words[22] % 4294967296) as u32,
-        phase: words[23],
-        differs: words[26],
-        reads: words[24],
-        wait: words[25],
-        top: words[27],
-        deficit: words[29],
-        late: words[28],
+        held: words[21],
+        first: words[22],
+        stamp: (words[23] % 4294967296) as u32,
+        phase: words[24],
+        differs: words[27],
+        reads: words[25],
+        wait: words[26],
+        top: words[28],
+        deficit: words[30],
+        late: words[29],
     }
 }
 
@@ -183,7 +188,10 @@ fn buffer_in(number: u64, frame: u64, place: u64) -> Buffer
     if number == 2 {
         return Buffer::Under(at);
     }
-    Buffer::Over(at)
+    if number == 3 {
+        return Buffer::Over(at);
+    }
+    Buffer::Broken(BrokenFrame { frame, kind: place })
 }
 
 fn frames_in(words: &[u64]) -> Frames
@@ -191,11 +199,11 @@ fn frames_in(words: &[u64]) -> Frames
     ensures { λ r. ⌜ r ≡ framesIn (now (words .entry)) ⌝ }
 {
     let current = open_in(words);
-    let buffer = buffer_in(words[30], words[31], words[32]);
+    let buffer = buffer_in(words[31], words[32], words[33]);
     Frames {
-        begun: words[18] == 1,
-        closed: words[17],
-        marked: words[19],
+        begun: words[19] == 1,
+        closed: words[18],
+        marked: words[20],
         current,
         buffer,
     }
@@ -207,14 +215,14 @@ fn state_in(words: &[u64]) -> State
     ensures { λ r. ⌜ r ≡ stateIn (now (words .entry)) ⌝ }
 {
     let past = Past {
-        packets: words[7],
-        first: words[8],
-        last: words[9],
+        packets: words[8],
+        first: words[9],
+        last: words[10],
     };
     State {
         numbers: numbers_in(words),
         past,
-        rest: words[16],
+        rest: words[17],
         bucket: bucket_in(words),
         frames: frames_in(words),
     }
@@ -322,7 +330,7 @@ fn ask(
     }
 }
 
-// A stream set up: 1 to 7, then 15 for too few words, and nothing written; or 0, and the fresh state's words stand in front.
+// A stream set up: 1 to 8, then 15 for too few words, and nothing written; or 0, and the fresh state's words stand in front.
 #[no_mangle]
 pub extern "C" fn vtiming_set_up(
     rate: u8,
@@ -332,9 +340,10 @@ pub extern "C" fn vtiming_set_up(
     n: u32,
     maxudp: u16,
     tro: u32,
+    edition: u32,
     state: &mut [u64],
 ) -> u32
-    ensures { λ r. ⌜ SetUpGives (ofParameters (given rate schedule class height n maxudp tro)) (now (state .entry)) r (now (state .exit)) ⌝ }
+    ensures { λ r. ⌜ SetUpGives (inEdition edition (given rate schedule class height n maxudp tro)) (now (state .entry)) r (now (state .exit)) ⌝ }
 {
     let told = Parameters {
         rate,
@@ -345,7 +354,10 @@ pub extern "C" fn vtiming_set_up(
         maxudp,
         tro,
     };
-    let numbers = StreamNumbers { parameters: told };
+    let numbers = StreamNumbers {
+        parameters: told,
+        edition: edition,
+    };
     let number = numbers.refusal();
     if number != 0 {
         return number as u32;

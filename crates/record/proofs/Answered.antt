@@ -2,7 +2,7 @@
 use Rattle.laws.specs.Kit.{_≡_, refl, sym, ap, _∙_, subst, Bool, true, false, List, [], _∷_, _++_, ℕ, zero, suc, _+_, _*_, _^_, _≤_, _<_}
 use Rattle.laws.specs.Kit.{arith, mod-eq-of-lt, ℕ-discrete, length, drop, length-drop, drop-drop}
 use Rattle.laws.specs.Choose.{pick}
-use Rattle.laws.proofs.Choose.{false-true}
+use Rattle.laws.proofs.Choose.{false-true, second, before}
 use Rattle.laws.specs.Fold.{fold}
 use Rattle.limits.specs.declared.Parameters.{Parameters}
 use Rattle.limits.specs.Paper.{setUpRefusal}
@@ -19,7 +19,7 @@ use Rattle.record.specs.Paper.{Ending, done, stopped, Packets, packetsIn
 use Rattle.record.specs.Step.{cursor, after, packetOf, headRead, nextRead}
 use Rattle.record.specs.Pieces.{goesOn, nextAt, taken, Heard, heard, callsOf, allCalls, answers, allAnswers}
 use Rattle.record.specs.Pieces.{toldPackets, toldHead, told, StopsAt, AnsweredBy, Answered}
-use Rattle.record.proofs.Reading.{second, before, packet-here, packets-end, packets-stop, packets-go}
+use Rattle.record.proofs.Reading.{packet-here, packets-end, packets-stop, packets-go}
 use Rattle.record.proofs.Saying.{Says, next-says, Stood, SaysHead, head-says, reads-refused, reads-packets}
 use Rattle.record.proofs.Window.{read-within}
 use Rattle.record.proofs.ReadWrite.{refused-file}

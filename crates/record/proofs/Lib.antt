@@ -6,6 +6,7 @@ pub mod Saying
 pub mod Standing
 pub mod Walking
 pub mod Quickly
+pub mod Editions
 pub mod Opening
 pub mod Stores
 pub mod Writing

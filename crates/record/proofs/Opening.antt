@@ -1,9 +1,10 @@
 -- The check of a whole file from its first byte: what its head makes of it.
-use Rattle.laws.specs.Kit.{_≡_, refl, sym, ap, subst, _∙_, List, [], _∷_, ℕ, _<_, drop}
+use Rattle.laws.specs.Kit.{_≡_, refl, sym, ap, subst, _∙_, List, [], _∷_, ℕ, _<_, arith, ℕ-discrete, drop, ne-eqb}
 use types.Run.{OneOf, miss}
 use denote.Enum.Declared.{tagOf}
 use Rattle.limits.specs.declared.Parameters.{Parameters}
-use Rattle.limits.specs.Paper.{setUpRefusal}
+use Rattle.limits.specs.Paper.{setUpRefusal, editionRefusal, setUpIn}
+use Rattle.limits.proofs.Editions.{in-first, in-edition, in-fine, edition-fine}
 use Rattle.packet.specs.Step.{nothing, noPackets}
 use Rattle.packet.proofs.Declared.{tally-declared}
 use Rattle.record.specs.declared.Cursor.{Cursor}
@@ -31,12 +32,12 @@ refused-none (Ready version kind parameters c) k = refl
 refused-none More k = refl
 refused-none (Refused n o) k = absurd (miss (0 ∷ 1 ∷ []) 2 tt k)
 
-module _ (s : List ℕ) where
-  pub opens-not : (h : Head) → OneOf (1 ∷ 2 ∷ []) (tagOf the-type h) → h ≡ headRead s → refusedBy h ≡ checkedOf s
+module _ (edition : ℕ) (s : List ℕ) where
+  pub opens-not : (h : Head) → OneOf (1 ∷ 2 ∷ []) (tagOf the-type h) → h ≡ headRead s → refusedBy h ≡ checkedOf edition s
   unfolding refusedBy checkedOf
   opens-not h k e = go h k (subst (SaysHead s) (sym e) (head-says s))
     where
-      go : (h : Head) → OneOf (1 ∷ 2 ∷ []) (tagOf the-type h) → SaysHead s h → refusedBy h ≡ checkedOf s
+      go : (h : Head) → OneOf (1 ∷ 2 ∷ []) (tagOf the-type h) → SaysHead s h → refusedBy h ≡ checkedOf edition s
       go (Ready version kind parameters c) k w = absurd (miss (1 ∷ 2 ∷ []) 0 tt k)
       go More k w = absurd w
       go (Refused n o) k w = rw w
@@ -48,12 +49,28 @@ module _ (s : List ℕ) where
 
       -- the parameters that it sets up with
       module _ {numbers : Parameters} (q : numbers ≡ resolved (heading version parameters)) where
-        pub opens-refused : (n : ℕ) → setUpRefusal numbers ≡ n → 0 < n → answer.Refused n 1 ≡ checkedOf s
+        -- 1 to 7 by the file itself, 8 by what stands beside it
+        own-refused : 0 < setUpRefusal numbers → answer.Refused (setUpIn numbers edition) 1 ≡ checkedOf edition s
         unfolding checkedOf
-        opens-refused n f p = rw (reads-refused here n (sym (ap setUpRefusal q) ∙ f) p)
+        own-refused p =
+            rw (in-first numbers edition p, reads-refused here (setUpRefusal numbers) (sym (ap setUpRefusal q)) p)
 
-        pub opens-fine : setUpRefusal numbers ≡ 0 → finish numbers noPackets (packetsIn nothing (c .at) (drop (c .at) s)) ≡ checkedOf s
+        edition-refused : setUpRefusal numbers ≡ 0 → 0 < editionRefusal edition → answer.Refused (setUpIn numbers edition) 1 ≡ checkedOf edition s
+        unfolding checkedOf
+        edition-refused f p =
+            rw (in-edition numbers edition f, reads-packets here (sym (ap setUpRefusal q) ∙ f), ne-eqb (editionRefusal edition) 0 (λ z. omega arith))
+
+        pub opens-refused : (n : ℕ) → setUpIn numbers edition ≡ n → 0 < n → answer.Refused n 1 ≡ checkedOf edition s
+        opens-refused n f p = rw (sym f) (go (ℕ-discrete (setUpRefusal numbers) 0))
+          where
+            go : Dec (setUpRefusal numbers ≡ 0) → answer.Refused (setUpIn numbers edition) 1 ≡ checkedOf edition s
+            go (yes z) = edition-refused z (omega (arith, in-edition numbers edition z))
+            go (no z) = own-refused (omega arith)
+
+        pub opens-fine : setUpIn numbers edition ≡ 0
+            → finish numbers noPackets (packetsIn nothing (c .at) (drop (c .at) s)) ≡ checkedOf edition s
         unfolding checkedOf
         opens-fine f =
-            rw (reads-packets here (sym (ap setUpRefusal q) ∙ f), here .next-19, q)
+            let fine = in-fine numbers edition f in
+            rw (reads-packets here (sym (ap setUpRefusal q) ∙ fine .0), edition-fine edition (fine .1), here .next-19, q)
             (finish-checked (heading version parameters) (packetsIn nothing headBytes (drop headBytes s)))

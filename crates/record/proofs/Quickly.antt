@@ -2,7 +2,7 @@
 -- stands whole, so that the format refuses none, and no packet is refused either, as a run that is admitted says.
 use Rattle.laws.specs.Kit.{_≡_, refl, sym, ap, subst, _∙_, Bool, true, false, _&&_, and-false, _||_, List, [], _∷_, ℕ, zero, suc, _+_, _*_}
 use Rattle.laws.specs.Kit.{_/_, _%_, _<_, arith, eqb, length, drop, length-drop, eq-eqb, ne-eqb, eqb-true}
-use Rattle.laws.proofs.Choose.{pick-either}
+use Rattle.laws.proofs.Choose.{pick-either, second}
 use Rattle.laws.proofs.Every.{and-left, and-right}
 use Rattle.packet.specs.declared.Packet.{Packet}
 use Rattle.packet.specs.declared.Past.{Past}
@@ -21,7 +21,7 @@ use Rattle.record.specs.declared.Checked.the-variants as answer
 use Rattle.record.specs.Paper.{packetBytes, packetAt, formatRefusal, done, more, packetsIn}
 use Rattle.record.specs.Step.{standsIn}
 use Rattle.record.specs.Walk.{fineWith, finish, recordsLeft, ranIn}
-use Rattle.record.proofs.Reading.{second, packets-end, packets-go}
+use Rattle.record.proofs.Reading.{packets-end, packets-go}
 use Rattle.record.proofs.Saying.{Says, next-says}
 use Rattle.record.proofs.Standing.{stands, stands-packet}
 

@@ -1,6 +1,7 @@
 -- Writing what was read: each accepted record is the bytes of its own fields, and the rest follows. By how many bytes there are.
 use Rattle.laws.specs.Kit.{_≡_, refl, sym, ap, subst, _∙_, Bool, true, false, _||_, List, [], _∷_, _++_, ℕ, zero, suc, _+_, _≤_, arith}
 use Rattle.laws.specs.Kit.{ℕ-discrete, length, take, drop, length-drop, drop-drop}
+use Rattle.laws.proofs.Choose.{neither}
 use Rattle.endian.specs.Number.{Bytes}
 use Rattle.endian.proofs.Width.{bytes-drop}
 use Rattle.packet.specs.declared.Past.{Past}
@@ -20,7 +21,7 @@ use Rattle.record.specs.Paper.{packetRefusal}
 use Rattle.record.specs.Paper.{Ending, done, stopped, Packets, packetsIn, file, refused, endedFile, asFile, fileOf}
 use Rattle.record.specs.Layout.{headOf, recordsOf, bytesIn}
 use Rattle.record.proofs.Writing.{length-file, heading-set-up, answers-done, writes-done}
-use Rattle.record.proofs.Reading.{neither, packet-here, parameters-here, packets-end, packets-stop, packets-go}
+use Rattle.record.proofs.Reading.{packet-here, parameters-here, packets-end, packets-stop, packets-go}
 use Rattle.record.proofs.Reading.{headingOf, reading-20, reading-stop, reading-go}
 use Rattle.record.proofs.Fields.{packet-again, parameters-again}
 

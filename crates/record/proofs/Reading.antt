@@ -1,9 +1,8 @@
 -- The packets of a file, one record at a time: none is left, or the first is accepted and the others follow, or it is refused.
 -- By the number of records still allowed, of which as many as there are bytes is always enough.
-use Rattle.laws.specs.Kit.{_≡_, refl, sym, ap, _∙_, true, false, List, ℕ, zero, suc, _+_, _-_, _≤_, _<_, arith, ℕ-discrete, eqb, length}
-use Rattle.laws.specs.Kit.{drop, length-drop, drop-drop, eq-eqb, ne-eqb, eqb-true, eqb-false, not-true}
-use Rattle.laws.specs.Choose.{orElse}
-use Rattle.laws.proofs.Choose.{pick-either}
+use Rattle.laws.specs.Kit.{_≡_, refl, sym, ap, _∙_, true, false, List, ℕ, zero, suc, _+_, _-_, _≤_, _<_, arith, ℕ-discrete, length}
+use Rattle.laws.specs.Kit.{drop, length-drop, drop-drop, eq-eqb, ne-eqb, not-true}
+use Rattle.laws.proofs.Choose.{neither}
 use Rattle.packet.specs.declared.Past.{Past}
 use Rattle.packet.specs.Step.{nothing, nextOf}
 use Rattle.record.specs.Paper.{parametersLength, packetLength, parametersBytes, packetBytes, headBytes}
@@ -11,16 +10,6 @@ use Rattle.record.specs.Paper.{versionOf, versionFits, bodyLength, kindO
 use Rattle.record.specs.Paper.{formatRefusal, parametersRefusal, packetRefusal, unread, read, readingOf}
 use Rattle.record.specs.Paper.{done, stopped, none, more, packetsBy, packetsIn}
 use Rattle.record.proofs.Format.{formed, kind-1, packet-kind, length-14, length-16}
-
--- two numbers of which the first goes before: none where both are none, the first where it is one
-pub neither : (a b : ℕ) → orElse a b ≡ 0 → (a ≡ 0) × (b ≡ 0)
-neither a b = pick-either (λ n. n ≡ 0 → (a ≡ 0) × (b ≡ 0)) (eqb a 0) (λ e f. (eqb-true a 0 e, f)) (λ e f. absurd (eqb-false a 0 e f))
-
-pub second : (a b : ℕ) → a ≡ 0 → orElse a b ≡ b
-second a b e = rw (eq-eqb a 0 e)
-
-pub before : (a b : ℕ) → 0 < a → orElse a b ≡ a
-before a b h = rw (ne-eqb a 0 (λ e. omega arith))
 
 -- a record that the format accepts after the parameters is a packet's, of 16 bytes
 pub record PacketHere (l : List ℕ) : Type 0 where

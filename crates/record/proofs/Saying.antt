@@ -2,7 +2,7 @@
 use Rattle.laws.specs.Kit.{_≡_, refl, sym, ap, subst, _∙_, Bool, true, false, List, [], _∷_, ℕ, _≤_, _<_, arith, ℕ-discrete, eqb, length}
 use Rattle.laws.specs.Kit.{drop}
 use Rattle.laws.specs.Choose.{pick}
-use Rattle.laws.proofs.Choose.{pick-either}
+use Rattle.laws.proofs.Choose.{pick-either, second, before}
 use Rattle.limits.specs.declared.Parameters.{Parameters}
 use Rattle.limits.specs.Paper.{setUpRefusal}
 use Rattle.packet.specs.Step.{nothing}
@@ -21,7 +21,7 @@ use Rattle.record.specs.Step.{wholeOf, nextBy, nextPiece, nextRead}
 use Rattle.record.proofs.Format.{Front, scrap, zero-length, short, whole, front, framed-nothing, framed-byte, framed-zero}
 use Rattle.record.proofs.Format.{framed-short, framed-whole, lone-23, scrap-21, zero-21, short-21, there}
 use Rattle.record.proofs.Ways.{other-version, head-cons}
-use Rattle.record.proofs.Reading.{second, before, parameters-here, headingOf, reading-20, reading-stop, reading-go}
+use Rattle.record.proofs.Reading.{parameters-here, headingOf, reading-20, reading-stop, reading-go}
 
 -- ---- after the head
 

@@ -2,6 +2,7 @@
 use Rattle.laws.specs.Kit.{_≡_, refl, sym, ap, _∙_, Bool, true, false, List, [], _∷_, _++_, ℕ, zero, suc, _+_, _<_, arith, eqb, length, getD}
 use Rattle.laws.specs.Kit.{length-append, drop-at, eq-eqb, ne-eqb, ℕ-discrete}
 use Rattle.laws.specs.Choose.{pick}
+use Rattle.laws.proofs.Choose.{second, before}
 use Rattle.limits.specs.declared.Class.the-variants.{Narrow, NarrowLinear, Wide, Unknown}
 use Rattle.limits.specs.declared.Parameters.{Parameters}
 use Rattle.limits.specs.Paper.{classOf, setUpRefusal}
@@ -13,7 +14,7 @@ use Rattle.record.specs.Paper.{asFile, fileOf}
 use Rattle.record.specs.Layout.{parameterRecord, headOf}
 use Rattle.record.specs.Step.{Whole}
 use Rattle.record.proofs.Format.{lone-23, parameters-1, length-16, there}
-use Rattle.record.proofs.Reading.{second, before, reading-20, reading-stop, reading-go}
+use Rattle.record.proofs.Reading.{reading-20, reading-stop, reading-go}
 use Rattle.record.proofs.Writing.{length-head}
 use Rattle.record.proofs.Fields.{ParametersBack, parameters-back}
 

@@ -5,6 +5,7 @@ use Rattle.laws.specs.Kit.{length-drop, drop-drop}
 use types.Run.{OneOf, miss}
 use denote.Enum.Declared.{tagOf}
 use Rattle.laws.specs.Fold.{fold}
+use Rattle.laws.proofs.Choose.{second, before}
 use Rattle.packet.specs.declared.Packet as packet
 use Rattle.packet.specs.declared.Tally.{Tally}
 use Rattle.packet.specs.Step.{numberOf, nextOf, tallied}
@@ -18,7 +19,7 @@ use Rattle.record.specs.Paper.{packetBytes, packetAt, Ending, done, stop
 use Rattle.record.specs.Step.{nextRead}
 use Rattle.record.specs.Walk.{fineWith, finishBy, finish, closing}
 use Rattle.record.proofs.Saying.{Says, next-says}
-use Rattle.record.proofs.Reading.{second, before, packet-here, packets-end, packets-stop, packets-go}
+use Rattle.record.proofs.Reading.{packet-here, packets-end, packets-stop, packets-go}
 
 -- an answer that is no packet ends the walk
 pub stops : (numbers : Parameters) (y : Tally) (at : ℕ) (l : List ℕ) (r : Next) → OneOf (1 ∷ 2 ∷ 3 ∷ []) (tagOf the-type r)

@@ -3,6 +3,7 @@
 use Rattle.laws.specs.Kit.{_≡_, refl, sym, ap, _∙_, Bool, false, _||_, List, [], _∷_, _++_, ℕ, _+_, _<_, arith, length, take, drop}
 use Rattle.laws.specs.Kit.{length-append, drop-at, eq-eqb}
 use Rattle.laws.specs.Choose.{AllBelow}
+use Rattle.laws.proofs.Choose.{second}
 use Rattle.packet.specs.declared.Past.{Past}
 use Rattle.packet.specs.declared.Scanned.the-variants as scan
 use Rattle.packet.specs.declared.Packet.{Packet}
@@ -22,7 +23,7 @@ use Rattle.record.specs.declared.Written.the-variants.{Done}
 use Rattle.record.specs.Write.{headingRefusal, WriteGives}
 use Rattle.record.specs.Step.{Whole}
 use Rattle.record.proofs.Format.{packet-2, length-14, there}
-use Rattle.record.proofs.Reading.{second, packets-end, packets-go}
+use Rattle.record.proofs.Reading.{packets-end, packets-go}
 use Rattle.record.proofs.Stores.{length-packet}
 use Rattle.record.proofs.Writing.{heading-fine, was-written, writes-done, packets-held}
 use Rattle.record.proofs.Fields.{packet-back}

@@ -2,7 +2,7 @@
 -- `l` is the rest of a file from one record's length on, and `at` that record's offset.
 use Rattle.laws.specs.Kit.{Bool, true, false, not, _&&_, _||_, List, [], _∷_, ℕ, zero, suc, _+_, ltb, eqb, length, drop, getD}
 use Rattle.laws.specs.Choose.{pick, orElse}
-use Rattle.limits.specs.Paper.{setUpRefusal, given}
+use Rattle.limits.specs.Paper.{setUpRefusal, editionRefusal, given}
 use Rattle.packet.specs.declared.Past.{Past}
 use Rattle.packet.specs.declared.Packet.{Packet}
 use Rattle.packet.specs.Step.{nothing, numberOf, nextOf}
@@ -181,3 +181,13 @@ asFile (read h r) = endedFile h (r .accepted) (r .ending)
 
 abbrev pub fileOf : List ℕ → File
 fileOf s = asFile (readingOf s)
+
+-- F13: "Record files carry none: the C call takes it as a number beside the file" (document 02, vi): where the file's parameters are accepted, an
+-- edition that there is not is refused at their record, whatever follows it; a file that has none is refused as it was
+abbrev pub besideEdition : ℕ → Reading → Reading
+besideEdition edition (unread number offset) = unread number offset
+besideEdition edition (read h r) = pick (eqb (editionRefusal edition) 0) (read h r) (unread (editionRefusal edition) 1)
+
+-- a file with an edition beside it
+abbrev pub fileIn : ℕ → List ℕ → File
+fileIn edition s = asFile (besideEdition edition (readingOf s))

@@ -17,7 +17,7 @@ use Rattle.record.specs.declared.Next.{Next}
 use Rattle.record.specs.declared.Next.the-variants as next
 use Rattle.record.specs.declared.Checked.{Checked}
 use Rattle.record.specs.declared.Checked.the-variants.{Fine, Refused}
-use Rattle.record.specs.Paper.{packetBytes, packetAt, Ending, done, stopped, Packets, resolved, File, file, refused, fileOf}
+use Rattle.record.specs.Paper.{packetBytes, packetAt, Ending, done, stopped, Packets, resolved, File, file, refused, fileIn}
 use Rattle.record.specs.Step.{standsIn}
 
 -- a file is fine with the stream numbers that it sets up with, how many packets it has, and how many frames they close
@@ -25,8 +25,9 @@ abbrev pub asChecked : File → Checked
 asChecked (file h ps) = Fine (resolved h) (length ps) (count (closesAt ps) (length ps))
 asChecked (refused number offset) = Refused number offset
 
-unfoldable pub checkedOf : List ℕ → Checked
-checkedOf s = asChecked (fileOf s)
+-- F13: with an edition beside it
+unfoldable pub checkedOf : ℕ → List ℕ → Checked
+checkedOf edition s = asChecked (fileIn edition s)
 
 -- document 01's number, 0 where nothing is refused, and its offset
 abbrev pub checkedNumber : Checked → ℕ

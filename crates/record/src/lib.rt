@@ -14,7 +14,6 @@ use packet::Ran;
 use packet::Scanned;
 use packet::Tally;
 ghost use Rattle.laws.specs.Kit.{_≡_, true, false, _+_, _*_, _≤_, _<_, length, drop, sets};
-ghost use Rattle.laws.specs.Choose.{orElse};
 ghost use Rattle.endian.specs.Number.{Room};
 ghost use Rattle.record.specs.declared.Head.the-variants.{Refused};
 ghost use Rattle.packet.specs.Paper.{packets};
@@ -436,9 +435,10 @@ fn refused_by(head: Head) -> Checked
     }
 }
 
-// One pass over a whole file that copies nothing: what `report` asks before it measures.
-pub fn check(s: &[u8]) -> Checked
-    ensures { λ r. ⌜ r ≡ checkedOf (now (s .entry)) ⌝ }
+// One pass over a whole file that copies nothing: what `report` asks before it measures. A file carries no edition: it is told beside the
+// file, and refused where the parameters stand, at offset 1, after all that is refused there.
+pub fn check(edition: u32, s: &[u8]) -> Checked
+    ensures { λ r. ⌜ r ≡ checkedOf edition (now (s .entry)) ⌝ }
 {
     let head = read_head(s, true);
     let Head::Ready {
@@ -451,7 +451,7 @@ pub fn check(s: &[u8]) -> Checked
         return refused_by(head);
     };
     let numbers = resolved(version, parameters);
-    let number = numbers.refusal();
+    let number = numbers.refusal_in(edition);
     if number != 0 {
         return Checked::Refused {
             number: number,
@@ -540,13 +540,6 @@ fn walk_packets(numbers: Parameters, from: Cursor, s: &[u8]) -> Checked
     }
 }
 
-// Of two refusals the one that goes before, and the other where there is none.
-fn first_of(number: u8, later: u8) -> u8
-    ensures { λ r. ⌜ r ≡ orElse number later ⌝ }
-{
-    if number == 0 { later } else { number }
-}
-
 fn version_refusal(version: u8) -> u8
     ensures { λ r. ⌜ r ≡ versionRefusal version ⌝ }
 {
@@ -560,7 +553,7 @@ fn heading_refusal(version: u8, written: Parameters) -> u8
     let of_version = version_refusal(version);
     let numbers = resolved(version, written);
     let of_numbers = numbers.refusal();
-    first_of(of_version, of_numbers)
+    laws::first_of(of_version, of_numbers)
 }
 
 // What the writer would answer for so many lent bytes. It writes nothing.

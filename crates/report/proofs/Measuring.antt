@@ -2,6 +2,7 @@
 -- It is the measurement's one loop (timing's Running) with rows as bytes; a packet that is read (Here) is the first of what is left.
 use Rattle.laws.specs.Kit.{_≡_, refl, sym, ap, subst, _∙_, true, false, List, _∷_, ℕ, _+_, _-_, _≤_, _<_, arith, length, take, drop}
 use Rattle.laws.specs.Kit.{length-drop, drop-drop}
+use Rattle.laws.proofs.Choose.{neither}
 use Rattle.packet.specs.declared.Packet.{Packet}
 use Rattle.packet.specs.Step.{nothing, nextOf}
 use Rattle.timing.specs.declared.StreamNumbers.{StreamNumbers}
@@ -17,7 +18,7 @@ use Rattle.timing.proofs.Running.{step-past}
 use Rattle.timing.proofs.Running as R
 use Rattle.record.specs.Paper.{packetBytes, headBytes, packetAt, done, Packets, packetRefusal, packetsIn}
 use Rattle.record.proofs.Ways.{rest-all}
-use Rattle.record.proofs.Reading.{neither, packet-here, packets-end, packets-go, packets-accepted}
+use Rattle.record.proofs.Reading.{packet-here, packets-end, packets-go, packets-accepted}
 use Rattle.record.proofs.ReadWrite.{packets-scan}
 use Rattle.report.specs.Paper.{rowBytes, summaryBytes}
 use Rattle.report.specs.Step.{packetsOf, MeasureAsks, MeasureGives}

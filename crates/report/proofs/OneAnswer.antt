@@ -9,8 +9,9 @@ use Rattle.report.specs.Step.{CallGives, WriteGives, LimitsGives, NextRe
 
 -- ---- the C functions: the number, and what the lent slice holds then
 
-pub measures-unique : (s out : List ℕ) (a b : ℕ) (p q : List ℕ) → CallGives s out a p → CallGives s out b q → (a ≡ b) × (p ≡ q)
-measures-unique s out a b p q x y = (one-answer (x .number-is) (y .number-is), one-answer (x .bytes-are) (y .bytes-are))
+pub measures-unique : (edition : ℕ) (s out : List ℕ) (a b : ℕ) (p q : List ℕ) → CallGives edition s out a p → CallGives edition s out b q
+    → (a ≡ b) × (p ≡ q)
+measures-unique edition s out a b p q x y = (one-answer (x .number-is) (y .number-is), one-answer (x .bytes-are) (y .bytes-are))
 
 pub writes-unique : (s : Heading) (ts ss ms out : List ℕ) (a b : ℕ) (p q : List ℕ) → WriteGives s ts ss ms out a p
     → WriteGives s ts ss ms out b q → (a ≡ b) × (p ≡ q)

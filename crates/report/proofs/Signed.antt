@@ -15,17 +15,21 @@ use Rattle.timing.proofs.InRange.{sound-fresh}
 use Rattle.timing.proofs.Dealing.{sound-after}
 use Rattle.timing.proofs.Scanning.{scan-runs}
 use Rattle.timing.proofs.Fitting.{summary-fits, rows-fit}
-use Rattle.record.specs.Paper.{Heading, file, fileOf}
-use Rattle.record.proofs.ReadWrite.{file-holds}
+use Rattle.limits.proofs.Editions.{in-known}
+use Rattle.record.specs.Paper.{Heading, resolved, file, fileIn}
+use Rattle.record.proofs.Editions.{accepted-edition}
+use Rattle.report.proofs.Asking.{holds-in}
 use Rattle.report.specs.Paper.{streamOf, numberBytes, stateOf, reportOf, signed, inBytes, encoded}
 
 -- ---- the numbers of a report
 
-pub report-fits : (s : List ℕ) (w : Heading) (ps : List Packet) → fileOf s ≡ file w ps → AllFit (reportOf (streamOf w) ps)
-report-fits s w ps e =
-    let x = streamOf w in
-    let holds = file-holds s w ps e in
-    let sound = sound-fresh x (holds .set-up) in
+pub report-fits : (edition : ℕ) (s : List ℕ) (w : Heading) (ps : List Packet) → fileIn edition s ≡ file w ps
+    → AllFit (reportOf (streamOf edition w) ps)
+report-fits edition s w ps e =
+    let x = streamOf edition w in
+    let holds = holds-in edition s w ps e in
+    let known = accepted-edition edition s w ps e .0 in
+    let sound = sound-fresh x (in-known (resolved w) edition known ∙ holds .set-up) in
     let passes = scan-runs ps (rulesOf x) (freshOf x) 0 (holds .closed) (holds .scan-fine) .0 in
     fit-append (map pos (summaryOf (stateOf x ps))) _ (summary-fits (stateOf x ps) (sound-after ps (freshOf x) sound passes))
     (rows-fit ps (freshOf x) sound passes)

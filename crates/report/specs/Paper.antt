@@ -8,12 +8,12 @@ use Rattle.endian.specs.Number.{bytesOf}
 use Rattle.packet.specs.declared.Packet.{Packet}
 use Rattle.timing.specs.declared.StreamNumbers.{StreamNumbers}
 use Rattle.timing.specs.declared.State.{State}
-use Rattle.timing.specs.Step.{ofParameters, rulesOf, freshOf, stateAfter, rowsAfter, numbers}
+use Rattle.timing.specs.Step.{inEdition, rulesOf, freshOf, stateAfter, rowsAfter, numbers}
 use Rattle.timing.specs.declared.Awaited.{Awaited}
 use Rattle.timing.specs.declared.Awaited.the-variants.{In, NoneLeft, Refused}
 use Rattle.timing.specs.Answers.{summaryWidth, summaryOf, setUpAs, setUpNumber, nextOf, awaitedNumber}
 use Rattle.frame.specs.declared.Row.{Row}
-use Rattle.record.specs.Paper.{Heading, resolved, File, file, refused, fileOf}
+use Rattle.record.specs.Paper.{Heading, resolved, File, file, refused, fileOf, fileIn}
 
 -- the state after the packets of a stream, and the rows of the frames that they close
 abbrev pub stateOf : StreamNumbers → List Packet → State
@@ -48,13 +48,13 @@ numberBytes = 8
 abbrev pub summaryBytes : ℕ
 summaryBytes = numberBytes * summaryWidth
 
--- F11: the stream numbers that a file sets up with
-abbrev pub streamOf : Heading → StreamNumbers
-streamOf h = ofParameters (resolved h)
+-- F11, F13: the stream numbers that a file sets up with, and the edition beside it
+abbrev pub streamOf : ℕ → Heading → StreamNumbers
+streamOf edition h = inEdition edition (resolved h)
 
--- the bytes of a file's report
-abbrev pub bytesFor : Heading → List Packet → List ℕ
-bytesFor h ps = encoded (reportOf (streamOf h) ps)
+-- the bytes of a file's report, by an edition
+abbrev pub bytesFor : ℕ → Heading → List Packet → List ℕ
+bytesFor edition h ps = encoded (reportOf (streamOf edition h) ps)
 
 -- C5: the refusal number and the offset: "both are 0 when accepted"
 pub record Answer : Type 0 where
@@ -65,30 +65,33 @@ abbrev pub answer : ℕ → ℕ → Answer
 answer number offset = record { number = number; offset = offset }
 
 -- C4: "Too few bytes is 15 at the file's length, after all else"
-abbrev pub answered : ℕ → ℕ → File → Answer
-answered size room (file h ps) = pick (leb (length (bytesFor h ps)) room) (answer 0 0) (answer 15 size)
-answered size room (refused number offset) = answer number offset
+abbrev pub answered : ℕ → ℕ → ℕ → File → Answer
+answered edition size room (file h ps) = pick (leb (length (bytesFor edition h ps)) room) (answer 0 0) (answer 15 size)
+answered edition size room (refused number offset) = answer number offset
 
--- what is answered of a file and so many lent bytes
-unfoldable pub answerOf : List ℕ → ℕ → Answer
-answerOf s room = answered (length s) room (fileOf s)
+-- F13: what is answered of a file, an edition beside it and so many lent bytes
+unfoldable pub answerOf : ℕ → List ℕ → ℕ → Answer
+answerOf edition s room = answered edition (length s) room (fileIn edition s)
 
--- X1: how many lent bytes are enough: those of the report; none are needed to be told of a refusal
+-- X1: how many lent bytes are enough: those of the report; none are needed to be told of a refusal. No edition is asked for: the reports of both
+-- are as long (`room-is` in demands)
 abbrev pub roomFor : File → ℕ
-roomFor (file h ps) = length (bytesFor h ps)
+roomFor (file h ps) = length (bytesFor 1 h ps)
 roomFor (refused number offset) = 0
 
 unfoldable pub roomOf : List ℕ → ℕ
 roomOf s = roomFor (fileOf s)
 
 -- C1, C4: "bytes beyond stay"; "refused, it writes nothing"
-abbrev pub filled : List ℕ → File → List ℕ
-filled out (file h ps) = pick (leb (length (bytesFor h ps)) (length out)) (bytesFor h ps ++ drop (length (bytesFor h ps)) out) out
-filled out (refused number offset) = out
+abbrev pub filled : ℕ → List ℕ → File → List ℕ
+filled edition out (file h ps) =
+    let bytes = bytesFor edition h ps in
+    pick (leb (length bytes) (length out)) (bytes ++ drop (length bytes) out) out
+filled edition out (refused number offset) = out
 
 -- and what the lent bytes hold then
-unfoldable pub filledBy : List ℕ → List ℕ → List ℕ
-filledBy s out = filled out (fileOf s)
+unfoldable pub filledBy : ℕ → List ℕ → List ℕ → List ℕ
+filledBy edition s out = filled edition out (fileIn edition s)
 
 -- X2: a stream's frame length and TRO in grains, C_MAX and VRX_FULL in packets
 abbrev pub limitsOf : StreamNumbers → List ℕ

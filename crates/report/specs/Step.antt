@@ -13,7 +13,7 @@ use Rattle.timing.specs.declared.Drawn.the-variants.{Figures, Refused as Not-Dr
 use Rattle.timing.specs.Step.{setUpOf, rulesOf, freshOf}
 use Rattle.timing.specs.Answers.{summaryWidth, graphOf, drawnNumber}
 use Rattle.timing.specs.Feed.{RunGives}
-use Rattle.record.specs.Paper.{headBytes, Heading, done, packetsIn, File, file, refused, fileOf}
+use Rattle.record.specs.Paper.{headBytes, Heading, done, packetsIn, File, file, refused, fileIn}
 use Rattle.record.specs.Layout.{bytesIn}
 use Rattle.record.specs.Write.{writtenOf, writtenNumber, leftBy}
 use Rattle.report.specs.declared.Asked.{Asked}
@@ -30,12 +30,12 @@ abbrev pub needed : ℕ → ℕ
 needed closed = neededBehind summaryWidth closed
 
 -- a file and the room for its report
-abbrev pub asAsked : ℕ → ℕ → File → Asked
-asAsked size room (file h ps) = pick (leb (length (bytesFor h ps)) room) (Fine (streamOf h)) (Refused 15 size)
-asAsked size room (refused number offset) = Refused number offset
+abbrev pub asAsked : ℕ → ℕ → ℕ → File → Asked
+asAsked edition size room (file h ps) = pick (leb (length (bytesFor edition h ps)) room) (Fine (streamOf edition h)) (Refused 15 size)
+asAsked edition size room (refused number offset) = Refused number offset
 
-unfoldable pub askedOf : List ℕ → ℕ → Asked
-askedOf s room = asAsked (length s) room (fileOf s)
+unfoldable pub askedOf : ℕ → List ℕ → ℕ → Asked
+askedOf edition s room = asAsked edition (length s) room (fileIn edition s)
 
 -- document 01's number, 0 where nothing is refused, and its offset
 abbrev pub askedNumber : Asked → ℕ
@@ -63,9 +63,9 @@ MeasureGives x s before state after = RunGives rowBytes (rulesOf x) (freshOf x) 
 
 -- ---- the C functions: the number, and what the lent slice holds then
 
-pub record CallGives (s out : List ℕ) (number : ℕ) (after : List ℕ) : Type 0 where
-  pub number-is : number ≡ answerOf s (length out) .number
-  pub bytes-are : after ≡ filledBy s out
+pub record CallGives (edition : ℕ) (s out : List ℕ) (number : ℕ) (after : List ℕ) : Type 0 where
+  pub number-is : number ≡ answerOf edition s (length out) .number
+  pub bytes-are : after ≡ filledBy edition s out
 
 -- X4: the writer for C: the number, and what it leaves in the lent bytes
 pub record WriteGives (h : Heading) (ts ss ms out : List ℕ) (number : ℕ) (after : List ℕ) : Type 0 where

@@ -3,6 +3,7 @@
 // It knows the record file and the measurement, and puts them together. It must never print, and keeps nothing between calls.
 use endian::write64;
 use frame::Row;
+use limits::FIRST_EDITION;
 use limits::Parameters;
 use record::Checked;
 use record::Written;
@@ -51,11 +52,11 @@ pub fn fits(front: usize, closed: u64, room: usize) -> bool
     closed <= ((numbers - front) / frame::ROW) as u64
 }
 
-// One pass that checks the file and counts its frames, then the room. It writes nothing.
-fn ask(file: &[u8], room: usize) -> Asked
-    ensures { λ r. ⌜ r ≡ askedOf (now (file .entry)) room ⌝ }
+// One pass that checks the file, with the edition beside it, and counts its frames; then the room. It writes nothing.
+fn ask(file: &[u8], edition: u32, room: usize) -> Asked
+    ensures { λ r. ⌜ r ≡ askedOf edition (now (file .entry)) room ⌝ }
 {
-    let checked = record::check(file);
+    let checked = record::check(edition, file);
     match checked {
         Checked::Fine {
             numbers,
@@ -65,6 +66,7 @@ fn ask(file: &[u8], room: usize) -> Asked
             if fits(SUMMARY, closed, room) {
                 return Asked::Fine(StreamNumbers {
                     parameters: numbers,
+                    edition: edition,
                 });
             }
             Asked::Refused {
@@ -157,12 +159,14 @@ fn measure(numbers: StreamNumbers, file: &[u8], out: &mut [u8]) -> State
     s
 }
 
-// A whole file: the refusal number and nothing written; or 0, and the nine numbers and the rows stand in front.
+// A whole file, by an edition of the test plan: the refusal number and nothing written; or 0, and the nine numbers and the rows stand in front.
+// The edition stands behind the file, where a program that was compiled before there were editions passes where its bytes are: such a
+// number is no edition, and is refused.
 #[no_mangle]
-pub extern "C" fn vtiming_measure(file: &[u8], out: &mut [u8]) -> u32
-    ensures { λ r. ⌜ CallGives (now (file .entry)) (now (out .entry)) r (now (out .exit)) ⌝ }
+pub extern "C" fn vtiming_measure(file: &[u8], edition: u32, out: &mut [u8]) -> u32
+    ensures { λ r. ⌜ CallGives edition (now (file .entry)) (now (out .entry)) r (now (out .exit)) ⌝ }
 {
-    let asked = ask(file, out.len());
+    let asked = ask(file, edition, out.len());
     match asked {
         Asked::Fine(numbers) => {
             let s = measure(numbers, file, out);
@@ -175,22 +179,22 @@ pub extern "C" fn vtiming_measure(file: &[u8], out: &mut [u8]) -> u32
 
 // The twin: where that refusal is, for so many lent bytes.
 #[no_mangle]
-pub extern "C" fn vtiming_measure_offset(file: &[u8], room: usize) -> u64
-    ensures { λ r. ⌜ r ≡ answerOf (now (file .entry)) room .offset ⌝ }
+pub extern "C" fn vtiming_measure_offset(file: &[u8], edition: u32, room: usize) -> u64
+    ensures { λ r. ⌜ r ≡ answerOf edition (now (file .entry)) room .offset ⌝ }
 {
-    let asked = ask(file, room);
+    let asked = ask(file, edition, room);
     match asked {
         Asked::Fine(_) => 0,
         Asked::Refused { number: _, offset } => offset,
     }
 }
 
-// How many lent bytes are enough for a file's report; 0 for a file that is refused.
+// How many lent bytes are enough for a file's report, whatever the edition; 0 for a file that is refused.
 #[no_mangle]
 pub extern "C" fn vtiming_measure_room(file: &[u8]) -> u64
     ensures { λ r. ⌜ r ≡ roomOf (now (file .entry)) ⌝ }
 {
-    let checked = record::check(file);
+    let checked = record::check(FIRST_EDITION, file);
     match checked {
         Checked::Fine {
             numbers: _,
@@ -295,7 +299,10 @@ fn stream(
         maxudp,
         tro,
     };
-    StreamNumbers { parameters: told }
+    StreamNumbers {
+        parameters: told,
+        edition: FIRST_EDITION,
+    }
 }
 
 // F and TRO in grains, C_MAX and VRX_FULL in packets; or 1 to 7, then 15, and nothing written.

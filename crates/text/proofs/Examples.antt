@@ -1,7 +1,7 @@
 -- Document 01's own output, and the ends of a signed number: the definitions compute to the lines as they are printed there.
 use Rattle.laws.specs.Kit.{_≡_, refl, pos, negsuc}
 use Rattle.bucket.specs.declared.Network.the-variants.{Pass as Passes, Burst}
-use Rattle.frame.specs.declared.Buffer.the-variants.{Pass, Under, Over}
+use Rattle.frame.specs.declared.Buffer.the-variants.{Pass, Under, Over, Broken}
 use Rattle.text.specs.Decimal.{codes, digitsOf, digits, signed}
 use Rattle.text.specs.Lines.{fields, rowLine, summaryLine, refusalLine}
 
@@ -34,6 +34,11 @@ over-printed : summaryLine 5 1 2 Passes (Over (record { frame = 10; place = 12 }
     ≡ codes "packets 5 frames 1 peak 2 network pass buffer over 10 12\n"
 unfolding summaryLine digitsOf
 over-printed = refl
+
+broken-printed : summaryLine 5 1 2 Passes (Broken (record { frame = 812; kind = 1 }))
+    ≡ codes "packets 5 frames 1 peak 2 network pass buffer broken 812 1\n"
+unfolding summaryLine digitsOf
+broken-printed = refl
 
 empty-refused : refusalLine 20 0 ≡ codes "refused 20 0\n"
 unfolding refusalLine digitsOf

@@ -5,7 +5,7 @@ use Rattle.bucket.specs.declared.Network.{Network}
 use Rattle.bucket.specs.declared.Network.the-variants.{Pass as Passes, Burst}
 use Rattle.frame.specs.declared.Row.{Row}
 use Rattle.frame.specs.declared.Buffer.{Buffer}
-use Rattle.frame.specs.declared.Buffer.the-variants.{None, Pass, Under, Over}
+use Rattle.frame.specs.declared.Buffer.the-variants.{None, Pass, Under, Over, Broken}
 use Rattle.text.specs.Decimal.{codes, digits}
 use Rattle.text.specs.Lines.{rowLine, pairWords, networkWords, bufferWords, summaryLine, refusalLine}
 use Rattle.text.proofs.Apart.{Stops, head-same, after, number-same}
@@ -46,6 +46,7 @@ BufferSized None = Unit
 BufferSized Pass = Unit
 BufferSized (Under p) = (p .frame < 10 ^ 20) × (p .place < 10 ^ 20)
 BufferSized (Over p) = (p .frame < 10 ^ 20) × (p .place < 10 ^ 20)
+BufferSized (Broken b) = (b .frame < 10 ^ 20) × (b .kind < 10 ^ 20)
 
 -- each answer begins with a letter of its own
 module _ (r s : List ℕ) (u : Stops r) (v : Stops s) where
@@ -62,22 +63,33 @@ module _ (r s : List ℕ) (u : Stops r) (v : Stops s) where
   buffer-same None Pass h k e = absurd (omega (arith, head-same e))
   buffer-same None (Under y) h k e = absurd (omega (arith, head-same e))
   buffer-same None (Over y) h k e = absurd (omega (arith, head-same e))
+  buffer-same None (Broken y) h k e = absurd (omega (arith, head-same e))
   buffer-same Pass None h k e = absurd (omega (arith, head-same e))
   buffer-same Pass Pass h k e = (refl, after (codes "pass") r s e)
   buffer-same Pass (Under y) h k e = absurd (omega (arith, head-same e))
   buffer-same Pass (Over y) h k e = absurd (omega (arith, head-same e))
+  buffer-same Pass (Broken y) h k e = absurd (omega (arith, head-same e))
   buffer-same (Under x) None h k e = absurd (omega (arith, head-same e))
   buffer-same (Under x) Pass h k e = absurd (omega (arith, head-same e))
   buffer-same (Under x) (Under y) h k e =
       let b = pair-same (codes "under ") (x .frame) (x .place) (y .frame) (y .place) r s h k u v e in
       (λ j. Under (record { frame = b .0 j; place = b .1 j }), b .2)
   buffer-same (Under x) (Over y) h k e = absurd (omega (arith, head-same e))
+  buffer-same (Under x) (Broken y) h k e = absurd (omega (arith, head-same e))
   buffer-same (Over x) None h k e = absurd (omega (arith, head-same e))
   buffer-same (Over x) Pass h k e = absurd (omega (arith, head-same e))
   buffer-same (Over x) (Under y) h k e = absurd (omega (arith, head-same e))
   buffer-same (Over x) (Over y) h k e =
       let b = pair-same (codes "over ") (x .frame) (x .place) (y .frame) (y .place) r s h k u v e in
       (λ j. Over (record { frame = b .0 j; place = b .1 j }), b .2)
+  buffer-same (Over x) (Broken y) h k e = absurd (omega (arith, head-same e))
+  buffer-same (Broken x) None h k e = absurd (omega (arith, head-same e))
+  buffer-same (Broken x) Pass h k e = absurd (omega (arith, head-same e))
+  buffer-same (Broken x) (Under y) h k e = absurd (omega (arith, head-same e))
+  buffer-same (Broken x) (Over y) h k e = absurd (omega (arith, head-same e))
+  buffer-same (Broken x) (Broken y) h k e =
+      let b = pair-same (codes "broken ") (x .frame) (x .kind) (y .frame) (y .kind) r s h k u v e in
+      (λ j. Broken (record { frame = b .0 j; kind = b .1 j }), b .2)
 
 -- what a summary prints
 pub record Summed : Type 0 where

@@ -5,7 +5,7 @@ use Rattle.bucket.specs.declared.Network.{Network}
 use Rattle.bucket.specs.declared.Network.the-variants.{Pass as Passes, Burst}
 use Rattle.frame.specs.declared.Row.{Row}
 use Rattle.frame.specs.declared.Buffer.{Buffer}
-use Rattle.frame.specs.declared.Buffer.the-variants.{None, Pass, Under, Over}
+use Rattle.frame.specs.declared.Buffer.the-variants.{None, Pass, Under, Over, Broken}
 use Rattle.frame.specs.Step.{numbersOf}
 use Rattle.text.specs.Decimal.{codes, digits, signed}
 
@@ -36,11 +36,13 @@ abbrev pub networkWords : Network → List ℕ
 networkWords Passes = codes "pass"
 networkWords (Burst run) = pairWords (codes "burst ") (run .first) (run .last)
 
+-- L3: "its printed word is `buffer broken FRAME KIND`"
 abbrev pub bufferWords : Buffer → List ℕ
 bufferWords None = codes "none"
 bufferWords Pass = codes "pass"
 bufferWords (Under p) = pairWords (codes "under ") (p .frame) (p .place)
 bufferWords (Over p) = pairWords (codes "over ") (p .frame) (p .place)
+bufferWords (Broken b) = pairWords (codes "broken ") (b .frame) (b .kind)
 
 abbrev pub summaryWords : (packets closed peak : ℕ) → Network → Buffer → List ℕ
 summaryWords packets closed peak network buffer =

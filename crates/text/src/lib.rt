@@ -128,14 +128,15 @@ fn put_network(network: Network, out: &mut [u8], at: usize) -> usize
 }
 
 fn put_buffer(buffer: Buffer, out: &mut [u8], at: usize) -> usize
-    requires { ⌜ at + 55 ≤ length (now out) ⌝ }
-    ensures { λ r. ⌜ Part 55 (codes " buffer " ++ bufferWords buffer) at (now (out .entry)) r (now (out .exit)) ⌝ }
+    requires { ⌜ at + 56 ≤ length (now out) ⌝ }
+    ensures { λ r. ⌜ Part 56 (codes " buffer " ++ bufferWords buffer) at (now (out .entry)) r (now (out .exit)) ⌝ }
 {
     match buffer {
         Buffer::None => put_word(b" buffer none", out, at),
         Buffer::Pass => put_word(b" buffer pass", out, at),
         Buffer::Under(p) => put_pair(b" buffer under ", p.frame, p.place, out, at),
         Buffer::Over(p) => put_pair(b" buffer over ", p.frame, p.place, out, at),
+        Buffer::Broken(b) => put_pair(b" buffer broken ", b.frame, b.kind, out, at),
     }
 }
 
@@ -149,8 +150,8 @@ fn put_sum(
     out: &mut [u8],
     at: usize,
 ) -> usize
-    requires { ⌜ at + 193 ≤ length (now out) ⌝ }
-    ensures { λ r. ⌜ Part 193 (summaryWords packets closed peak network buffer) at (now (out .entry)) r (now (out .exit)) ⌝ }
+    requires { ⌜ at + 194 ≤ length (now out) ⌝ }
+    ensures { λ r. ⌜ Part 194 (summaryWords packets closed peak network buffer) at (now (out .entry)) r (now (out .exit)) ⌝ }
 {
     let counted = put_counts(packets, closed, peak, out, at);
     let judged = put_network(network, out, counted);

@@ -12,7 +12,6 @@ use Rattle.grain.specs.Carry.{nextAfter}
 use Rattle.limits.specs.Fraction.{Same}
 use Rattle.limits.specs.Paper.{senderClass, readSpacing}
 use Rattle.limits.specs.Accepted.{Accepted}
-use Rattle.limits.proofs.Accepting.{accepted}
 use Rattle.limits.proofs.Facts.{spacing}
 use Rattle.limits.specs.Exact.{CMaxIs, VrxFullIs, TroIs}
 use Rattle.limits.proofs.Exactness.{c-max-is, vrx-full-is, tro-is}
@@ -22,22 +21,27 @@ use Rattle.bucket.specs.Paper as bucket
 use Rattle.bucket.proofs.Owner as proved-bucket
 use Rattle.frame.specs.declared.Row.{Row}
 use Rattle.frame.specs.declared.Frames.{Frames}
+use Rattle.frame.specs.declared.Buffer.{Buffer}
+use Rattle.frame.specs.declared.Buffer.the-variants.{None, Pass, Broken}
+use Rattle.frame.specs.declared.BrokenFrame.{BrokenFrame}
 use Rattle.frame.specs.Paper.{begunAt, closesAt, kindAt, numberAt, since, InFrame, RowIs, RowBegan, BufferIs, Dry, SomeLate}
-use Rattle.frame.specs.Paper.{NextReadIs, nextReadOf}
+use Rattle.frame.specs.Paper.{brokenFails, Fails, BrokenIs, AnswerIs, NextReadIs, nextReadOf}
+use Rattle.frame.specs.Editions.{FirstBufferIs, FrameFails, NoneClosed, AllFit}
 use Rattle.frame.specs.Step.{rowWidth, rowOf, numbersOf}
 use Rattle.frame.specs.ByPlace.{markedTime, closedAt, framesAt, rowsAt}
 use Rattle.frame.proofs.Stretches.{since-is}
 use Rattle.frame.proofs.Places.{began-after, began-later, began-next, frame-holds}
 use Rattle.frame.proofs.NextReads.{next-by-place, open-answers}
 use Rattle.frame.proofs.RowOfFrame.{row-is, offset-follows}
-use Rattle.frame.proofs.BufferOfFrames.{buffer-is, dry-late, late-dry}
+use Rattle.frame.proofs.BufferOfFrames.{buffer-unique, buffer-is, dry-late, late-dry}
+use Rattle.frame.proofs.Editions as by-edition
 use Rattle.timing.specs.declared.State.{State}
 use Rattle.timing.specs.declared.Judged.the-variants.{Given}
 use Rattle.timing.specs.Step.{frameOf, rulesOf, freshOf, stateAfter, rowsAfter, numbers}
 use Rattle.timing.specs.Answers.{answersOf, verdictOf, apartNumber, awaited, nextOf}
 use Rattle.timing.specs.Feed.{Call, allOf, Accepts, Deals, Rooms}
 use Rattle.timing.specs.History.{rowsTo, stateAt, AcceptedHistory, reached, rowsOfAll, plan, frames, arrivals, size, limit}
-use Rattle.timing.proofs.Planning.{planned, frame-long}
+use Rattle.timing.proofs.Planning.{fine, planned, frame-long}
 use Rattle.timing.proofs.InRange.{sound-fresh, of-sound}
 use Rattle.timing.proofs.Scanning.{numbers-length}
 use Rattle.timing.proofs.Awaiting.{is-told}
@@ -65,7 +69,7 @@ module _ (h : AcceptedHistory) where
   -- ---- its stream numbers
 
   is-accepted : Accepted (h .stream .parameters)
-  is-accepted = accepted (h .stream .parameters) (h .set-up)
+  is-accepted = fine (h .stream) (h .set-up)
 
   long : 0 < frameOf (h .stream)
   long = omega (arith, frame-long (h .stream) (h .set-up))
@@ -185,6 +189,46 @@ module _ (h : AcceptedHistory) where
   unfolding stateAt framesAt
   buffer-reached = as-declared (λ s. BufferIs (plan h) (frames h) (s .frames .buffer))
       (buffer-is (plan h) (planned (h .stream) (h .set-up)) (frames h) in-order)
+
+  -- ---- its buffer answer, by the edition
+
+  -- the answer reached is the only one
+  reached-is : (b : Buffer) → (reached h .frames .buffer ≡ b) ↔ BufferIs (plan h) (frames h) b
+  reached-is b = (
+    λ e. subst (BufferIs (plan h) (frames h)) e buffer-reached,
+    λ x. buffer-unique (plan h) (frames h) (reached h .frames .buffer) b buffer-reached x,
+  )
+
+  -- what is said of an answer that is so is said of the answer reached
+  reached-as : {A : Type 0} (b : Buffer) → BufferIs (plan h) (frames h) b ↔ A → (reached h .frames .buffer ≡ b) ↔ A
+  reached-as b x = (λ e. x .0 (reached-is b .0 e), λ a. reached-is b .1 (x .1 a))
+
+  pub fails-are : (i : ℕ) → i < size h → Fails (AnswerIs (plan h) (frames h)) i ↔ FrameFails (plan h) (frames h) i
+  fails-are = by-edition.fails-are (plan h) (planned (h .stream) (h .set-up)) (frames h) in-order
+
+  -- what the plan asks of its edition is what the stream's edition says
+  asks : {n : ℕ} → h .stream .edition ≡ n → brokenFails (plan h .edition) ≡ brokenFails n
+  unfolding rulesOf
+  asks e = ap brokenFails e
+
+  pub first-edition : h .stream .edition ≡ 1 → (b : Buffer) → BufferIs (plan h) (frames h) b ↔ FirstBufferIs (plan h) (frames h) b
+  first-edition e = by-edition.first-edition (plan h) (frames h) (asks e)
+
+  pub first-reached : h .stream .edition ≡ 1 → FirstBufferIs (plan h) (frames h) (reached h .frames .buffer)
+  first-reached e = first-edition e (reached h .frames .buffer) .0 buffer-reached
+
+  pub never-broken : h .stream .edition ≡ 1 → (b : BrokenFrame) → reached h .frames .buffer ≡ Broken b → ⊥
+  never-broken e b r = by-edition.never-broken (plan h) (frames h) (asks e) b (reached-is (Broken b) .0 r)
+
+  pub second-none : h .stream .edition ≡ 2 → (reached h .frames .buffer ≡ None) ↔ NoneClosed (plan h) (frames h)
+  second-none e = reached-as None (by-edition.second-none (plan h) (frames h) (asks e))
+
+  pub second-pass : h .stream .edition ≡ 2 → (reached h .frames .buffer ≡ Pass) ↔ AllFit (plan h) (frames h)
+  second-pass e = reached-as Pass (by-edition.second-pass (plan h) (frames h) (asks e))
+
+  pub broken-reached : (b : BrokenFrame) → (reached h .frames .buffer ≡ Broken b)
+      ↔ ((i : ℕ) × (i < size h) × BrokenIs (plan h) (frames h) i b × ((k : ℕ) → k < i → Fails (AnswerIs (plan h) (frames h)) k → ⊥))
+  broken-reached b = reached-as (Broken b) (by-edition.broken-is (plan h) (frames h) b)
 
   pub dry-if-late : (i : ℕ) → i < size h → kindAt (plan h) (frames h) i ≡ 0
       → Dry (plan h) (frames h) (since (frames h) i) ↔ SomeLate (plan h) (frames h) (since (frames h) i)

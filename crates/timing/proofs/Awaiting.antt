@@ -6,7 +6,8 @@ use Rattle.grain.specs.declared.NextRead.{NextRead}
 use Rattle.grain.specs.declared.NextRead.the-variants.{In, NoneLeft}
 use Rattle.grain.specs.Paper.{grains, nearest}
 use Rattle.grain.proofs.Upcoming.{next-is-read, next-read-unique}
-use Rattle.limits.specs.Paper.{rateOf, frameLength, activeRatio, classOf, troGrains, troFits, firstNo, setUpRefusal, given}
+use Rattle.limits.specs.Paper.{rateOf, frameLength, activeRatio, classOf, troGrains, troFits, firstNo, setUpRefusal}
+use Rattle.limits.specs.Paper.{editionRefusal, setUpIn, given}
 use Rattle.packet.specs.Step.{nothing, nextOf as pastOf, refusalOf}
 use Rattle.frame.specs.Paper.{readZero, nextReadOf}
 use Rattle.frame.specs.Range.{NextAsks}
@@ -15,7 +16,7 @@ use Rattle.timing.specs.declared.StreamNumbers.{StreamNumbers}
 use Rattle.timing.specs.declared.Rules.{Rules}
 use Rattle.timing.specs.declared.Awaited.{Awaited}
 use Rattle.timing.specs.declared.Awaited.the-variants.{In as Awaited-In, Refused as Not-Awaited}
-use Rattle.timing.specs.Step.{setUpOf, rulesOf}
+use Rattle.timing.specs.Step.{ofParameters, setUpOf, rulesOf}
 use Rattle.timing.specs.Answers.{apartNumber, nextNumber, awaited, nextOf, awaitedNumber}
 use Rattle.timing.proofs.Planning.{planned, reads-near, tro-longest, den-by-schedule}
 
@@ -163,7 +164,7 @@ module _ (first t : ℕ) where
 
 -- a first packet half a frame early, at 24000/1001 frames a second
 abbrev widest : StreamNumbers
-widest = record { parameters = given 1 0 3 1080 20000 1460 41708 }
+widest = ofParameters (given 1 0 3 1080 20000 1460 41708)
 
 widest-next : nextReadOf (rulesOf widest .plan) 62562500 62562500 ≡ In 844589250000000
 unfolding nextReadOf rulesOf frameLength rateOf troGrains activeRatio nearest
@@ -177,6 +178,6 @@ widest-next =
 
 -- P23: so the greatest numerator is reached
 pub most-reached : nextOf widest 62562500 62562500 ≡ Awaited-In 844589250000000 500000
-unfolding setUpRefusal firstNo frameLength rateOf troFits classOf rulesOf activeRatio
+unfolding setUpIn setUpRefusal firstNo editionRefusal frameLength rateOf troFits classOf rulesOf activeRatio
 most-reached =
     is-told 62562500 62562500 widest refl refl ∙ ap (λ (a : NextRead). awaited a (rulesOf widest .plan .reads .den)) widest-next

@@ -19,6 +19,7 @@ use Rattle.frame.specs.declared.Row.{Row}
 use Rattle.frame.specs.Paper.{bufferNumber}
 use Rattle.frame.specs.Step as F
 use Rattle.frame.specs.Range.{Planned, RowAsks}
+use Rattle.frame.proofs.Ranges.{third-most}
 use Rattle.frame.proofs.RowsFit.{AllFit, fit-append, small-fits, row-fits}
 use Rattle.timing.specs.declared.Rules.{Rules}
 use Rattle.timing.specs.declared.State.{State}
@@ -42,6 +43,7 @@ buffer-small buffer.None = omega arith
 buffer-small buffer.Pass = omega arith
 buffer-small (buffer.Under p) = omega arith
 buffer-small (buffer.Over p) = omega arith
+buffer-small (buffer.Broken b) = omega arith
 
 pub summary-fits : (s : State) → Sound s → AllFit (map pos (summaryOf s))
 unfolding summaryWith
@@ -54,7 +56,7 @@ summary-fits s x =
     let last = below (x .bucket .run-last) in
     let buffer = small-fits (buffer-small (s .frames .buffer)) in
     let frame = below (x .frames .answered .frame) in
-    let place = below (x .frames .answered .place) in
+    let place = small-fits (third-most (x .frames .answered) (x .past .few) (omega arith)) in
     (packets, (closed, (peak, (network, (first, (last, (buffer, (frame, (place, tt)))))))))
   where
     below : {m : ℕ} → m ≤ s .past .packets → SFits w64 (pos m)

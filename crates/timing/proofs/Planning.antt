@@ -6,6 +6,7 @@ use Rattle.laws.specs.Choose.{pick}
 use Rattle.limits.specs.Paper.{second, activeRatio, readNum, readDen}
 use Rattle.limits.specs.Accepted.{Accepted}
 use Rattle.limits.proofs.Accepting.{accepted}
+use Rattle.limits.proofs.Editions.{in-fine}
 use Rattle.limits.proofs.Rates.{frame-most, frame-least}
 use Rattle.limits.proofs.Facts.{tro-below, tro-most}
 use Rattle.grain.specs.Paper.{grains}
@@ -46,8 +47,9 @@ num-spread zero F n p = omega (arith, mul-le-mul-left F (let l : 25 ≤ 25 * n =
 num-spread (suc schedule) F n p = omega (arith, mul-le-mul-left F (let l : 1 ≤ 1 * n = omega arith in l))
 
 module _ (x : StreamNumbers) (e : setUpOf x ≡ 0) where
-  fine : Accepted (x .parameters)
-  fine = accepted (x .parameters) e
+  -- each of its seven parameters is in its place
+  pub fine : Accepted (x .parameters)
+  fine = accepted (x .parameters) (in-fine (x .parameters) (x .edition) e .0)
 
   pub frame-long : second ≤ 60 * frameOf x
   frame-long = frame-least (fine .rate-known)

@@ -2,4 +2,5 @@ pub mod Step
 pub mod Range
 pub mod Feed
 pub mod Answers
+pub mod Editions
 pub mod History

@@ -10,7 +10,7 @@ use Rattle.timing.specs.Step.{setUpOf, rulesOf}
 
 module _ (s : State) where
   -- every number of a state, in the order of docs/STATE.md, with the bytes of its type and its range. The stream numbers are in range
-  -- exactly where set-up accepts them, which is one test for all seven.
+  -- exactly where set-up accepts them, which is one test for all eight.
   abbrev pub streamTable : List Entry
   streamTable =
       entry (s .numbers .parameters .rate) 1 (same (setUpOf (s .numbers)) 0 ∷ [])
@@ -20,6 +20,7 @@ module _ (s : State) where
       ∷ entry (s .numbers .parameters .n) 4 []
       ∷ entry (s .numbers .parameters .maxudp) 2 []
       ∷ entry (s .numbers .parameters .tro) 4 []
+      ∷ entry (s .numbers .edition) 4 []
       ∷ []
 
   abbrev pub restTable : List Entry

@@ -3,7 +3,7 @@ use Rattle.laws.specs.Kit.{List, [], _∷_, _++_, ℕ, _+_, _*_, _/_, _%_, ℤ}
 use Rattle.laws.specs.Choose.{pick}
 use Rattle.laws.specs.Fold.{fold}
 use Rattle.grain.specs.Paper.{grains}
-use Rattle.limits.specs.Paper.{frameLength, senderClass, cMax, vrxFull, troGrains, readNum, readDen, setUpRefusal}
+use Rattle.limits.specs.Paper.{frameLength, senderClass, cMax, vrxFull, troGrains, readNum, readDen, setUpIn}
 use Rattle.limits.specs.declared.Parameters.{Parameters}
 use Rattle.packet.specs.declared.Packet.{Packet}
 use Rattle.packet.specs.Paper.{marked}
@@ -17,13 +17,17 @@ use Rattle.timing.specs.declared.State.{State}
 
 -- ---- what follows from the stream numbers
 
--- the stream numbers of parameters, where set-up is told nothing else
-abbrev pub ofParameters : Parameters → StreamNumbers
-ofParameters p = record { parameters = p }
+-- S11: "the edition is chosen at set-up", beside the parameters
+abbrev pub inEdition : ℕ → Parameters → StreamNumbers
+inEdition edition p = record { parameters = p; edition = edition }
 
--- N2: the refusals 1 to 7 of set-up, 0 where there is none
+-- S11: "`vtiming` and the writer mean edition 1": the stream numbers of parameters, where set-up is told nothing else
+abbrev pub ofParameters : Parameters → StreamNumbers
+ofParameters p = inEdition 1 p
+
+-- N2: the refusals 1 to 8 of set-up, 0 where there is none
 abbrev pub setUpOf : StreamNumbers → ℕ
-setUpOf x = setUpRefusal (x .parameters)
+setUpOf x = setUpIn (x .parameters) (x .edition)
 
 abbrev pub frameOf : StreamNumbers → ℕ
 frameOf x = frameLength (x .parameters .rate)
@@ -36,6 +40,7 @@ rulesOf x = record {
     tro = troGrains (frameOf x) (x .parameters .height) (x .parameters .tro);
     reads = record { num = readNum (x .parameters .schedule) (frameOf x); den = readDen (x .parameters .schedule) (x .parameters .n) };
     full = vrxFull (senderClass (x .parameters)) (x .parameters .maxudp) (frameOf x) (x .parameters .n);
+    edition = x .edition;
   };
   drains = record { num = 10 * frameOf x; den = 11 * x .parameters .n };
   limit = cMax (senderClass (x .parameters)) (x .parameters .schedule) (frameOf x) (x .parameters .n);

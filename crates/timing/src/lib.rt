@@ -28,9 +28,11 @@ use packet::Scanned;
 // How many numbers sum up a measurement.
 pub const SUMMARY: usize = 9;
 
-// What a stream is set up with: its parameters, and beside them what else set-up is told.
+// What a stream is set up with: its parameters, and the edition of the test plan that its buffer is judged by. A record file
+// carries no edition: it stands beside the file's own.
 pub struct StreamNumbers {
     pub parameters: Parameters,
+    pub edition: u32,
 }
 
 // What follows from them: the plan of the frames, the spacing of the drain instants,
@@ -86,7 +88,7 @@ pub enum Drawn {
     Refused(u8),
 }
 
-// How long it is until the next read: a numerator over a denominator, in grains; or no read is left; or 1 to 7, 12 or 13.
+// How long it is until the next read: a numerator over a denominator, in grains; or no read is left; or 1 to 8, 12 or 13.
 pub enum Awaited {
     In { numerator: u64, denominator: u64 },
     NoneLeft,
@@ -113,12 +115,12 @@ impl StreamNumbers {
         StreamNumbers::GRAINS_PER_NANOSECOND * ns
     }
 
-    // 0, or the number 1 to 7 by which set-up refuses.
+    // 0, or the number 1 to 8 by which set-up refuses.
     pub fn refusal(self) -> u8
         ensures { λ r. ⌜ r ≡ setUpOf self ⌝ }
     {
         let told = self.parameters;
-        told.refusal()
+        told.refusal_in(self.edition)
     }
 
     pub fn frame_length(self) -> u64
@@ -142,6 +144,7 @@ impl StreamNumbers {
                 den: limits::read_den(p.schedule, p.n),
             },
             full: limits::vrx_full(class, p.maxudp, frame, p.n),
+            edition: self.edition,
         };
         Rules {
             plan,
@@ -153,7 +156,7 @@ impl StreamNumbers {
         }
     }
 
-    // The fresh state, or the refusal 1 to 7 and no state.
+    // The fresh state, or the refusal 1 to 8 and no state.
     pub fn set_up(self) -> SetUp
         ensures { λ r. ⌜ r ≡ setUpAs self ⌝ }
     {

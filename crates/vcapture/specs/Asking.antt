@@ -1,9 +1,9 @@
--- What the program was called with: the number that stands at a place, and what the nine ask.
+-- What the program was called with: the number that stands at a place, and what the ten ask.
 use Rattle.laws.specs.Kit.{_≡_, List, ℕ, _≤_}
 use Rattle.window.specs.Said.{Argued}
 use Rattle.words.specs.declared.Word.{Word}
 use Rattle.words.specs.declared.Word.the-variants.{NoNumber, Number}
-use Rattle.words.specs.declared.Nine.{Nine}
+use Rattle.words.specs.declared.Numbers.{Numbers}
 use Rattle.words.specs.declared.Given.{Given}
 use Rattle.words.specs.declared.Given.the-variants.{NoCall}
 use Rattle.words.specs.Paper.{wordOf, givenOf}
@@ -14,8 +14,8 @@ pub record Stands-at (place : ℕ) (r : Word) : Type 0 where
   pub argued : Argued place word
   pub number : r ≡ wordOf word
 
--- R17: "Nine numbers are its arguments, in this order: port, offset, rate, schedule, class, height, n, MAXUDP, TRO."
-pub record Numbered (x : Nine) : Type 0 where
+-- R17: "Ten numbers are its arguments, in this order: port, offset, rate, schedule, class, height, n, MAXUDP, TRO, edition."
+pub record Numbered (x : Numbers) : Type 0 where
   pub port : Stands-at 1 (Number (x .port))
   pub offset : Stands-at 2 (Number (x .offset))
   pub rate : Stands-at 3 (Number (x .rate))
@@ -25,8 +25,9 @@ pub record Numbered (x : Nine) : Type 0 where
   pub n : Stands-at 7 (Number (x .n))
   pub maxudp : Stands-at 8 (Number (x .maxudp))
   pub tro : Stands-at 9 (Number (x .tro))
+  pub edition : Stands-at 10 (Number (x .edition))
 
--- R18: "A word that is no number [..] is no call at all"; else the nine ask what they ask
+-- R18: "A word that is no number [..] is no call at all"; else the ten ask what they ask
 pub data AskGives : Given → Type 0 where
-  no-number : (place : ℕ) → 1 ≤ place → place ≤ 9 → Stands-at place NoNumber → AskGives NoCall
-  numbered : (x : Nine) → Numbered x → AskGives (givenOf x)
+  no-number : (place : ℕ) → 1 ≤ place → place ≤ 10 → Stands-at place NoNumber → AskGives NoCall
+  numbered : (x : Numbers) → Numbered x → AskGives (givenOf x)

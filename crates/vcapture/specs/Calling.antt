@@ -9,7 +9,7 @@ use Rattle.vcapture.specs.declared.Answered.{Answered}
 use Rattle.vcapture.specs.declared.Answered.the-variants.{NoCall, Ran}
 use Rattle.vcapture.specs.Asking.{AskGives}
 
--- R17, R18: no call at all; or the run whose output is that of what the nine numbers ask
+-- R17, R18: no call at all; or the run whose output is that of what the ten numbers ask
 pub data CallGives (room : ℕ) : Answered → Type 0 where
   no-call : AskGives given.NoCall → CallGives room NoCall
   ran : (asked : Asked) (end : End) → AskGives (given.Asked asked) → ProgramGives (machine asked) room end → CallGives room (Ran end)

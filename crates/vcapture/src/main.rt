@@ -7,7 +7,7 @@ use spool::Stage;
 use window::Came;
 use window::End;
 use words::Given;
-use words::Nine;
+use words::Numbers;
 use words::Word;
 ghost use Rattle.laws.specs.Kit.{_≤_, length, take};
 ghost use Rattle.text.specs.Lines.{lineRoom};
@@ -39,13 +39,13 @@ fn number_at(place: usize) -> Word
     words::number_of(&word[0..size])
 }
 
-// The nine numbers, one by one; the first word that is none ends it.
+// The ten numbers, one by one; the first word that is none ends it.
 fn ask() -> Given
     ensures { λ r. ⌜ AskGives r ⌝ }
 {
-    let mut numbers = [0u64; 9];
+    let mut numbers = [0u64; 10];
     let mut k = 0;
-    while k < 9 {
+    while k < 10 {
         let word = number_at(k + 1);
         let Word::Number { value } = word else {
             return Given::NoCall;
@@ -53,7 +53,7 @@ fn ask() -> Given
         numbers[k] = value;
         k += 1;
     }
-    words::given_by(Nine {
+    words::given_by(Numbers {
         port: numbers[0],
         offset: numbers[1],
         rate: numbers[2],
@@ -63,6 +63,7 @@ fn ask() -> Given
         n: numbers[6],
         maxudp: numbers[7],
         tro: numbers[8],
+        edition: numbers[9],
     })
 }
 

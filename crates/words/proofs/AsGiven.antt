@@ -1,4 +1,4 @@
--- Nine numbers put in their places are refused, and measured, as they are given, whatever their size: set-up, the offset's test and so the
+-- Ten numbers put in their places are refused, and measured, as they are given, whatever their size: set-up, the offset's test and so the
 -- whole output are the same. By one law: what cannot tell a number too large from what stands instead of it cannot tell it from the number.
 use Rattle.laws.specs.Kit.{_≡_, refl, sym, ap, _∙_, _⊎_, inl, inr, Bool, true, false, and-false, List, [], _∷_, ℕ, zero, suc, _*_, _≤_}
 use Rattle.laws.specs.Kit.{_<_, arith}
@@ -8,16 +8,17 @@ use Rattle.laws.proofs.Choose.{false-true}
 use Rattle.limits.specs.declared.Class.{Class}
 use Rattle.limits.specs.declared.Class.the-variants.{Narrow, NarrowLinear, Wide, Unknown}
 use Rattle.limits.specs.Paper.{microsecond, frameLength, strictOn, classOf, allOnes, within, classFits, maxudpKnown, troFits, firstNo}
-use Rattle.limits.specs.Paper.{setUpRefusal}
+use Rattle.limits.specs.Paper.{setUpRefusal, editionRefusal, setUpIn}
 use Rattle.limits.proofs.Laws.{past-rates, past-classes}
 use Rattle.limits.proofs.Rates.{frame-most}
 use Rattle.limits.proofs.Accepting.{accepted}
+use Rattle.limits.proofs.Editions.{in-fine}
 use Rattle.timing.specs.Step.{setUpOf}
 use Rattle.capture.specs.Paper.{headerOf}
 use Rattle.text.specs.Lines.{refusalLine}
 use Rattle.reel.specs.declared.Asked.{Asked}
 use Rattle.reel.specs.Paper.{outputBy, outputOf}
-use Rattle.words.specs.declared.Nine.{Nine}
+use Rattle.words.specs.declared.Numbers.{Numbers}
 use Rattle.words.specs.Paper.{placed, insteadHeight, insteadTro, asGiven, askedOf}
 use Rattle.words.proofs.Placing.{fits}
 
@@ -93,13 +94,17 @@ tro-fits-alike x y = ap (λ (F : ℕ). troFits F (placed 4294967295 insteadTro y
 offset-alike : (x : ℕ) → leb (placed 4294967295 4294967295 x) 99 ≡ leb x 99
 offset-alike = alike (λ (x : ℕ). leb x 99) 4294967295 4294967295 (λ x h. sym (lt-leb x 99 (omega arith)))
 
+edition-alike : (x : ℕ) → editionRefusal (placed 4294967295 4294967295 x) ≡ editionRefusal x
+unfolding editionRefusal
+edition-alike = alike editionRefusal 4294967295 4294967295 (λ x h. rw (← above 1 2 x (omega arith)))
+
 -- ---- set-up, and the output
 
-module _ (x : Nine) where
-  -- R18: "One that is too large for its place, as a height of 65,536, is refused as set-up refuses such a number (1 to 7)"
-  pub set-up-as-given : setUpOf (askedOf x .numbers) ≡ setUpOf (asGiven x .numbers)
+module _ (x : Numbers) where
+  -- R18: "One that is too large for its place, as a height of 65,536, is refused as set-up refuses such a number (1 to 8)"
+  parameters-as-given : setUpRefusal (askedOf x .numbers .parameters) ≡ setUpRefusal (asGiven x .numbers .parameters)
   unfolding askedOf setUpRefusal
-  set-up-as-given =
+  parameters-as-given =
       ap (firstNo 1)
       (λ j.
       rate-alike (x .rate) j
@@ -110,6 +115,10 @@ module _ (x : Nine) where
       ∷ maxudp-alike (x .maxudp) j
       ∷ tro-fits-alike (x .rate) (x .tro) j
       ∷ [])
+
+  pub set-up-as-given : setUpOf (askedOf x .numbers) ≡ setUpOf (asGiven x .numbers)
+  unfolding askedOf setUpIn
+  set-up-as-given = rw (parameters-as-given, edition-alike (x .edition))
 
   -- R18: ".. or by 33"
   pub offset-as-given : leb (askedOf x .offset) 99 ≡ leb (asGiven x .offset) 99
@@ -137,7 +146,8 @@ module _ (x : Nine) where
   all-fit : setUpOf (asGiven x .numbers) ≡ 0 → x .offset ≤ 99 → askedOf x ≡ asGiven x
   unfolding askedOf
   all-fit e h =
-      let a = accepted (asGiven x .numbers .parameters) e in
+      let fine = in-fine (asGiven x .numbers .parameters) (x .edition) e in
+      let a = accepted (asGiven x .numbers .parameters) (fine .0) in
       λ j. record {
         numbers = record {
           parameters = record {
@@ -149,6 +159,7 @@ module _ (x : Nine) where
             maxudp = sym (fits 65535 65535 (x .maxudp) (udp-small (a .maxudp-known))) j;
             tro = sym (fits 4294967295 insteadTro (x .tro) (tro-small (a .tro-fits))) j;
           };
+          edition = sym (fits 4294967295 4294967295 (x .edition) (omega (arith, fine .1 .1))) j;
         };
         port = x .port;
         offset = sym (fits 4294967295 4294967295 (x .offset) (omega arith)) j;

@@ -1,10 +1,10 @@
 -- Words and numbers, computed: the rule's own height of 65,536, and the greatest and the shortest of what is a number.
 use Rattle.laws.specs.Kit.{_≡_, refl, [], ℕ}
 use Rattle.laws.specs.Fold.{fold}
-use Rattle.limits.specs.Paper.{rateOf, frameLength, classOf, troFits, firstNo, setUpRefusal}
+use Rattle.limits.specs.Paper.{rateOf, frameLength, classOf, troFits, firstNo, setUpRefusal, editionRefusal, setUpIn}
 use Rattle.timing.specs.Step.{setUpOf}
 use Rattle.text.specs.Decimal.{codes}
-use Rattle.words.specs.declared.Nine.{Nine}
+use Rattle.words.specs.declared.Numbers.{Numbers}
 use Rattle.words.specs.declared.Word.the-variants.{NoNumber, Number}
 use Rattle.words.specs.Paper.{allDigits, numberIn, wordOf, askedOf}
 
@@ -28,9 +28,9 @@ pub a-point : wordOf (codes "1.5") ≡ NoNumber
 unfolding wordOf numberIn allDigits
 a-point = refl
 
--- 1080p50, gapped and narrow, but for its height and TRO
-abbrev of-height : ℕ → ℕ → Nine
-of-height height tro = record {
+-- 1080p50, gapped and narrow, but for its height, its TRO and the edition
+abbrev of-height : ℕ → ℕ → ℕ → Numbers
+of-height height tro edition = record {
   port = 20000;
   offset = 37;
   rate = 6;
@@ -40,17 +40,23 @@ of-height height tro = record {
   n = 4;
   maxudp = 1460;
   tro = tro;
+  edition = edition;
 }
 
 -- R18: "as a height of 65,536, is refused as set-up refuses such a number"
-pub too-high : setUpOf (askedOf (of-height 65536 4294967295) .numbers) ≡ 4
-unfolding askedOf setUpRefusal firstNo classOf troFits frameLength rateOf
+pub too-high : setUpOf (askedOf (of-height 65536 4294967295 1) .numbers) ≡ 4
+unfolding askedOf setUpIn editionRefusal setUpRefusal firstNo classOf troFits frameLength rateOf
 too-high = refl
 
-pub too-late : setUpOf (askedOf (of-height 1080 4294967296) .numbers) ≡ 7
-unfolding askedOf setUpRefusal firstNo classOf troFits frameLength rateOf
+pub too-late : setUpOf (askedOf (of-height 1080 4294967296 1) .numbers) ≡ 7
+unfolding askedOf setUpIn editionRefusal setUpRefusal firstNo classOf troFits frameLength rateOf
 too-late = refl
 
-pub measured : setUpOf (askedOf (of-height 1080 4294967295) .numbers) ≡ 0
-unfolding askedOf setUpRefusal firstNo classOf troFits frameLength rateOf
+-- R18: an edition of 2^32 + 2 is not taken for 2
+pub no-edition : setUpOf (askedOf (of-height 1080 4294967295 4294967298) .numbers) ≡ 8
+unfolding askedOf setUpIn editionRefusal setUpRefusal firstNo classOf troFits frameLength rateOf
+no-edition = refl
+
+pub measured : setUpOf (askedOf (of-height 1080 4294967295 2) .numbers) ≡ 0
+unfolding askedOf setUpIn editionRefusal setUpRefusal firstNo classOf troFits frameLength rateOf
 measured = refl

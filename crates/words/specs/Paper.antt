@@ -1,13 +1,13 @@
--- The words of a call of the program for captures, as rule R18 has them: what number a word is, and what nine numbers ask.
+-- The words of a call of the program for captures, as rule R18 has them: what number a word is, and what ten numbers ask.
 use Rattle.laws.specs.Kit.{_≡_, Bool, true, _&&_, List, [], _∷_, ℕ, _≤_, leb, length}
 use Rattle.laws.specs.Choose.{pick}
 use Rattle.limits.specs.Paper.{within, given}
-use Rattle.timing.specs.Step.{ofParameters}
+use Rattle.timing.specs.Step.{inEdition}
 use Rattle.text.specs.Decimal.{value, Digits}
 use Rattle.reel.specs.declared.Asked.{Asked}
 use Rattle.words.specs.declared.Word.{Word}
 use Rattle.words.specs.declared.Word.the-variants.{NoNumber, Number}
-use Rattle.words.specs.declared.Nine.{Nine}
+use Rattle.words.specs.declared.Numbers.{Numbers}
 use Rattle.words.specs.declared.Given.{Given}
 use Rattle.words.specs.declared.Given.the-variants as call
 
@@ -38,10 +38,10 @@ pub record Spells (w : List ℕ) (n : ℕ) : Type 0 where
   pub all-digits : Digits w
   pub number : n ≡ value w
 
--- R18: "The program takes its numbers as they are given.": nine whole numbers of any size, each where it belongs
-abbrev pub asGiven : Nine → Asked
+-- R18: "The program takes its numbers as they are given.": ten whole numbers of any size, each where it belongs
+abbrev pub asGiven : Numbers → Asked
 asGiven x = record {
-  numbers = ofParameters (given (x .rate) (x .schedule) (x .class) (x .height) (x .n) (x .maxudp) (x .tro));
+  numbers = inEdition (x .edition) (given (x .rate) (x .schedule) (x .class) (x .height) (x .n) (x .maxudp) (x .tro));
   port = x .port;
   offset = x .offset;
 }
@@ -58,11 +58,12 @@ insteadHeight = 0
 abbrev pub insteadTro : ℕ
 insteadTro = 4294967294
 
--- R18: "One that is too large for its place, as a height of 65,536, is refused as set-up refuses such a number (1 to 7), or by 33.": instead
+-- R18: "One that is too large for its place, as a height of 65,536, is refused as set-up refuses such a number (1 to 8), or by 33.": instead
 -- of it stands a number that fits and is refused alike (output-as-given, proofs/AsGiven.antt)
-unfoldable pub askedOf : Nine → Asked
+unfoldable pub askedOf : Numbers → Asked
 askedOf x = record {
-  numbers = ofParameters
+  numbers = inEdition
+      (placed 4294967295 4294967295 (x .edition))
       (given
       (placed 255 255 (x .rate))
       (placed 255 255 (x .schedule))
@@ -76,5 +77,5 @@ askedOf x = record {
 }
 
 -- R18: ".. or a port above 65,535, is no call at all"
-unfoldable pub givenOf : Nine → Given
+unfoldable pub givenOf : Numbers → Given
 givenOf x = pick (leb (x .port) 65535) (call.Asked (askedOf x)) call.NoCall

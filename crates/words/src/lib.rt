@@ -1,4 +1,4 @@
-// The words that the program for captures is called with: the number that a word is, and what nine numbers ask.
+// The words that the program for captures is called with: the number that a word is, and what ten numbers ask.
 // It knows decimal digits, and from `reel` what is asked. It must never know where the words come from, nor what a number may be: of
 // each place it knows one number that is refused, and the refusal itself is set-up's and the offset's.
 ghost use Rattle.laws.specs.Kit.{_≡_, _-_, _≤_, length};
@@ -13,8 +13,8 @@ pub enum Word {
     Number { value: u64 },
 }
 
-// The nine numbers in the order of the words.
-pub struct Nine {
+// The ten numbers in the order of the words.
+pub struct Numbers {
     pub port: u64,
     pub offset: u64,
     pub rate: u64,
@@ -24,6 +24,7 @@ pub struct Nine {
     pub n: u64,
     pub maxudp: u64,
     pub tro: u64,
+    pub edition: u64,
 }
 
 // What they ask; or they are no call.
@@ -94,7 +95,7 @@ fn place(x: u64, most: u64, instead: u64) -> u64
     if x <= most { x } else { instead }
 }
 
-impl Nine {
+impl Numbers {
     // What stands instead of a number that does not fit is refused by the same refusal. A TRO of all ones would be the default.
     fn asked(self) -> Asked
         requires { ⌜ self .port ≤ 65535 ⌝ }
@@ -111,6 +112,7 @@ impl Nine {
                     maxudp: place(self.maxudp, MOST_16, MOST_16) as u16,
                     tro: place(self.tro, MOST_32, MOST_32 - 1) as u32,
                 },
+                edition: place(self.edition, MOST_32, MOST_32) as u32,
             },
             port: self.port as u16,
             offset: place(self.offset, MOST_32, MOST_32) as u32,
@@ -119,11 +121,11 @@ impl Nine {
 }
 
 // No port can be told instead of one that does not fit: it would be another stream.
-pub fn given_by(nine: Nine) -> Given
-    ensures { λ r. ⌜ r ≡ givenOf nine ⌝ }
+pub fn given_by(numbers: Numbers) -> Given
+    ensures { λ r. ⌜ r ≡ givenOf numbers ⌝ }
 {
-    if MOST_16 < nine.port {
+    if MOST_16 < numbers.port {
         return Given::NoCall;
     }
-    Given::Asked(nine.asked())
+    Given::Asked(numbers.asked())
 }

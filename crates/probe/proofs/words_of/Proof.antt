@@ -29,34 +29,37 @@ cast-t10 c = search needs
 cast-t11 : tie.Need-cast-t11
 cast-t11 c = search needs
 
-array-read-t14 : tie.Need-array-read-t14
-array-read-t14 c = search needs
+cast-t12 : tie.Need-cast-t12
+cast-t12 c = search needs
 
-array-read-t17 : tie.Need-array-read-t17
-array-read-t17 c = search needs
+array-read-t15 : tie.Need-array-read-t15
+array-read-t15 c = search needs
 
-array-read-t20 : tie.Need-array-read-t20
-array-read-t20 c = search needs
+array-read-t18 : tie.Need-array-read-t18
+array-read-t18 c = search needs
+
+array-read-t21 : tie.Need-array-read-t21
+array-read-t21 c = search needs
 
 flag-requires : tie.Need-flag-requires
 flag-requires c κs = search needs
 
-cast-t22 : tie.Need-cast-t22
-cast-t22 c = omega (arith, c .struct-known8 .given)
+cast-t23 : tie.Need-cast-t23
+cast-t23 c = omega (arith, c .struct-known9 .given)
 
-array-read-t25 : tie.Need-array-read-t25
-array-read-t25 c = search needs
+array-read-t26 : tie.Need-array-read-t26
+array-read-t26 c = search needs
 
-array-read-t28 : tie.Need-array-read-t28
-array-read-t28 c = search needs
+array-read-t29 : tie.Need-array-read-t29
+array-read-t29 c = search needs
 
-array-read-t31 : tie.Need-array-read-t31
-array-read-t31 c = search needs
+array-read-t32 : tie.Need-array-read-t32
+array-read-t32 c = search needs
 
 returns : tie.Need-returns
 unfolding wordsOf
 returns c =
-    let told = c .before .before .before .before .before .before .before .before .before .before in
+    let told = c .before .before .before .before .before .before .before .before .before .before .before in
     rw (told .verdict-words .ensures, c .before .flag .ensures)
 
 pub words-of-spec : {M : Type 1} → statement M
@@ -71,12 +74,13 @@ words-of-spec =
     cast-t9
     cast-t10
     cast-t11
-    array-read-t14
-    array-read-t17
-    array-read-t20
+    cast-t12
+    array-read-t15
+    array-read-t18
+    array-read-t21
     flag-requires
-    cast-t22
-    array-read-t25
-    array-read-t28
-    array-read-t31
+    cast-t23
+    array-read-t26
+    array-read-t29
+    array-read-t32
     returns)

@@ -15,20 +15,20 @@ refused-by-requires : tie.Need-refused-by-requires
 refused-by-requires c κs = search needs
 
 returns : tie.Need-returns
-returns c = c .refused-by .ensures ∙ opens-not _ _ (c .before .match .keys2) (c .before .before .read-head .ensures)
+returns c = c .refused-by .ensures ∙ opens-not _ _ _ (c .before .match .keys2) (c .before .before .read-head .ensures)
 
 resolved-requires : tie.Need-resolved-requires
 resolved-requires c κs = search needs
 
-refusal-requires : tie.Need-refusal-requires
-refusal-requires c κs = search needs
+refusal-in-requires : tie.Need-refusal-in-requires
+refusal-in-requires c κs = search needs
 
 returns-2 : tie.Need-returns-2
 returns-2 c =
     let told = c .before .before in
     let opened = told .before in
-    opens-refused _ (opened .before .before .before .read-head .ensures) (opened .before .head .given .1) (told .resolved .ensures) _
-    (sym (c .before .refusal .ensures)) (omega arith)
+    opens-refused _ _ (opened .before .before .before .read-head .ensures) (opened .before .head .given .1) (told .resolved .ensures) _
+    (sym (c .before .refusal-in .ensures)) (omega arith)
 
 check-packets-requires : tie.Need-check-packets-requires
 check-packets-requires c κs = search needs
@@ -37,9 +37,9 @@ returns-3 : tie.Need-returns-3
 returns-3 c =
     let told = c .before .before .before in
     let opened = told .before in
-    let fine = sym (c .before .before .refusal .ensures) ∙ c .before .if1 .left in
+    let fine = sym (c .before .before .refusal-in .ensures) ∙ c .before .if1 .left in
     c .check-packets .ensures
-    ∙ opens-fine _ (opened .before .before .before .read-head .ensures) (opened .before .head .given .1) (told .resolved .ensures) fine
+    ∙ opens-fine _ _ (opened .before .before .before .read-head .ensures) (opened .before .head .given .1) (told .resolved .ensures) fine
 
 pub check-spec : {M : Type 1} → statement M
 check-spec =
@@ -50,7 +50,7 @@ check-spec =
     refused-by-requires
     returns
     resolved-requires
-    refusal-requires
+    refusal-in-requires
     returns-2
     check-packets-requires
     returns-3)

@@ -18,7 +18,7 @@ returns : tie.Need-returns
 returns c =
     let after-fits = c .before in
     let told = after-fits .before .before in
-    asked-room _ _ _ _ _ (sym (told .before .before .check .ensures) ∙ told .checked .given .1)
+    asked-room _ _ _ _ _ _ (sym (told .before .before .check .ensures) ∙ told .checked .given .1)
     (sym (after-fits .fits2 .ensures) ∙ c .if1 .taken)
 
 enum-known-checked-2 : tie.Need-enum-known-checked-2
@@ -28,11 +28,11 @@ returns-2 : tie.Need-returns-2
 returns-2 c =
     let after-fits = c .before in
     let told = after-fits .before .before in
-    asked-15 _ _ _ _ _ (sym (told .before .before .check .ensures) ∙ told .checked .given .1)
+    asked-15 _ _ _ _ _ _ (sym (told .before .before .check .ensures) ∙ told .checked .given .1)
     (sym (after-fits .fits2 .ensures) ∙ c .if1 .left)
 
 returns-3 : tie.Need-returns-3
-returns-3 c = let told = c .before in asked-refused _ _ _ _ (sym (told .before .before .check .ensures) ∙ told .checked2 .given .1)
+returns-3 c = let told = c .before in asked-refused _ _ _ _ _ (sym (told .before .before .check .ensures) ∙ told .checked2 .given .1)
 
 pub ask-spec : {M : Type 1} → statement M
 ask-spec =

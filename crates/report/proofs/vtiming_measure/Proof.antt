@@ -16,13 +16,13 @@ enum-known-asked c = search needs
 measure-requires : tie.Need-measure-requires
 measure-requires c κs =
     let told = c .before .before in
-    fits-measurable _ _ _ (asked-fine _ _ _ (sym (told .before .before .ask .ensures) ∙ told .asked .given .1))
+    fits-measurable _ _ _ _ (asked-fine _ _ _ _ (sym (told .before .before .ask .ensures) ∙ told .asked .given .1))
 
 put-summary-requires : tie.Need-put-summary-requires
 put-summary-requires c κs =
     let told = c .before .before .before .before .before .before in
-    let fits = asked-fine _ _ _ (sym (told .before .before .ask .ensures) ∙ told .asked .given .1) in
-    let can = fits-measurable _ _ _ fits in
+    let fits = asked-fine _ _ _ _ (sym (told .before .before .ask .ensures) ∙ told .asked .given .1) in
+    let can = fits-measurable _ _ _ _ fits in
     let room = can .fits in
     (omega (arith, room), measured-in-range can (c .before .before .before .measure .ensures))
 
@@ -41,8 +41,8 @@ returns c =
     let fine = sym (told .before .before .ask .ensures) ∙ told .asked .given .1 in
     let measured = c .before .before .before .before .before .before .measure .ensures in
     record {
-      number-is = sym (ap (λ (a : Answer). a .number) (asked-answer _ _ _ fine));
-      bytes-are = report-filled _ _ _ (asked-fine _ _ _ fine) measured (c .before .before .put-summary .ensures);
+      number-is = sym (ap (λ (a : Answer). a .number) (asked-answer _ _ _ _ fine));
+      bytes-are = report-filled _ _ _ _ (asked-fine _ _ _ _ fine) measured (c .before .before .put-summary .ensures);
     }
 
 returns-2 : tie.Need-returns-2
@@ -50,8 +50,8 @@ returns-2 c =
     let told = c .before in
     let refused = sym (told .before .before .ask .ensures) ∙ told .asked2 .given .1 in
     record {
-      number-is = sym (ap (λ (a : Answer). a .number) (asked-answer _ _ _ refused));
-      bytes-are = refused-leaves _ _ _ _ refused;
+      number-is = sym (ap (λ (a : Answer). a .number) (asked-answer _ _ _ _ refused));
+      bytes-are = refused-leaves _ _ _ _ _ refused;
     }
 
 pub vtiming-measure-spec : {M : Type 1} → statement M

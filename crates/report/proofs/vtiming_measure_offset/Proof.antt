@@ -16,12 +16,12 @@ enum-known-asked : tie.Need-enum-known-asked
 enum-known-asked c = search needs
 
 returns : tie.Need-returns
-returns c = sym (ap (λ (a : Answer). a .offset) (asked-answer _ _ _ (sym (c .before .before .ask .ensures) ∙ c .enum-told .given .1)))
+returns c = sym (ap (λ (a : Answer). a .offset) (asked-answer _ _ _ _ (sym (c .before .before .ask .ensures) ∙ c .enum-told .given .1)))
 
 returns-2 : tie.Need-returns-2
 returns-2 c =
     let told = c .before in
-    sym (ap (λ (a : Answer). a .offset) (asked-answer _ _ _ (sym (told .before .before .ask .ensures) ∙ told .asked .given .1)))
+    sym (ap (λ (a : Answer). a .offset) (asked-answer _ _ _ _ (sym (told .before .before .ask .ensures) ∙ told .asked .given .1)))
 
 pub vtiming-measure-offset-spec : {M : Type 1} → statement M
 vtiming-measure-offset-spec =

@@ -47,6 +47,15 @@ slice-aggregate-put-pair-2 c = search needs
 put-pair-requires-2 : tie.Need-put-pair-requires-2
 put-pair-requires-2 c κs = search needs
 
+enum-known-buffer-3 : tie.Need-enum-known-buffer-3
+enum-known-buffer-3 c = search needs
+
+slice-aggregate-put-pair-3 : tie.Need-slice-aggregate-put-pair-3
+slice-aggregate-put-pair-3 c = search needs
+
+put-pair-requires-3 : tie.Need-put-pair-requires-3
+put-pair-requires-3 c κs = search needs
+
 same-length : tie.Need-same-length
 same-length c = search needs
 
@@ -79,6 +88,14 @@ returns-4 c =
     let put = c .before .before in
     part-is (omega arith) (words (put .before .before .before .before .buffer2 .given .1)) (put .put-pair2 .ensures)
 
+same-length-5 : tie.Need-same-length-5
+same-length-5 c = search needs
+
+returns-5 : tie.Need-returns-5
+returns-5 c =
+    let put = c .before .before in
+    part-is (omega arith) (words (put .before .before .before .before .buffer3 .given .1)) (put .put-pair3 .ensures)
+
 pub put-buffer-spec : {M : Type 1} → statement M
 put-buffer-spec =
     tie.close
@@ -95,6 +112,9 @@ put-buffer-spec =
     enum-known-buffer-2
     slice-aggregate-put-pair-2
     put-pair-requires-2
+    enum-known-buffer-3
+    slice-aggregate-put-pair-3
+    put-pair-requires-3
     same-length
     returns
     same-length-2
@@ -102,4 +122,6 @@ put-buffer-spec =
     same-length-3
     returns-3
     same-length-4
-    returns-4)
+    returns-4
+    same-length-5
+    returns-5)

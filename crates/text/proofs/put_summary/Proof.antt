@@ -23,7 +23,7 @@ unfolding summaryLine
 returns c =
     let end = c .before .before in
     let sum = end .before .before .before .before .before in
-    part-put {m = 194} (omega arith) (part-then (sum .put-sum .ensures) (end .put-word .ensures))
+    part-put {m = 195} (omega arith) (part-then (sum .put-sum .ensures) (end .put-word .ensures))
 
 pub put-summary-spec : {M : Type 1} → statement M
 put-summary-spec =

@@ -15,6 +15,9 @@ enum-known-self c = search needs
 enum-known-self-2 : tie.Need-enum-known-self-2
 enum-known-self-2 c = search needs
 
+enum-known-self-3 : tie.Need-enum-known-self-3
+enum-known-self-3 c = search needs
+
 returns : tie.Need-returns
 returns c = search needs
 
@@ -27,6 +30,9 @@ returns-3 c = rw (c .before .self .given .1)
 returns-4 : tie.Need-returns-4
 returns-4 c = rw (c .before .self2 .given .1)
 
+returns-5 : tie.Need-returns-5
+returns-5 c = rw (c .before .self3 .given .1)
+
 pub anew-spec : {M : Type 1} → statement M
 anew-spec =
     tie.close
@@ -35,7 +41,9 @@ anew-spec =
     enum-told-2
     enum-known-self
     enum-known-self-2
+    enum-known-self-3
     returns
     returns-2
     returns-3
-    returns-4)
+    returns-4
+    returns-5)

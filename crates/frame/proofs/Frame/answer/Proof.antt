@@ -8,8 +8,13 @@ use Rattle.frame.proofs.Frame.answer.Tie as tie
 kind-requires : tie.Need-kind-requires
 kind-requires c κs = search needs
 
+broken-answer-requires : tie.Need-broken-answer-requires
+broken-answer-requires c κs = search needs
+
 returns : tie.Need-returns
-returns c = answer-broken _ _ _ (λ z. c .if1 .taken (c .before .kind .ensures ∙ z))
+returns c =
+    let told = c .before in
+    c .broken-answer .ensures ∙ answer-broken _ _ _ (told .before .kind .ensures) (told .if1 .taken)
 
 returns-2 : tie.Need-returns-2
 returns-2 c = answer-under _ _ _ (omega arith) (omega arith)
@@ -21,4 +26,4 @@ returns-4 : tie.Need-returns-4
 returns-4 c = answer-pass _ _ _ (omega arith) (omega arith) (omega arith)
 
 pub answer-spec : {M : Type 1} → statement M
-answer-spec = tie.close (tie.spec kind-requires returns returns-2 returns-3 returns-4)
+answer-spec = tie.close (tie.spec kind-requires broken-answer-requires returns returns-2 returns-3 returns-4)

@@ -12,15 +12,23 @@ mul-periods c = search needs
 mul-longest : tie.Need-mul-longest
 mul-longest c = record { fits = omega (arith, bound-fits _ (c .before .before .pre)) }
 
+is-broken-requires : tie.Need-is-broken-requires
+is-broken-requires c κs = search needs
+
 frame-requires : tie.Need-frame-requires
 frame-requires c κs = search needs
 
 place-requires : tie.Need-place-requires
 place-requires c κs = search needs
 
+broken-fails-requires : tie.Need-broken-fails-requires
+broken-fails-requires c κs = search needs
+
 returns : tie.Need-returns
 unfolding after
-returns c = rw (c .before .frame .ensures, c .place .ensures)
+returns c =
+    let told = c .before in
+    rw (told .before .before .is-broken .ensures, told .before .frame .ensures, told .place .ensures, c .broken-fails .ensures)
 
 pub in-range-spec : {M : Type 1} → statement M
-in-range-spec = tie.close (tie.spec mul-periods mul-longest frame-requires place-requires returns)
+in-range-spec = tie.close (tie.spec mul-periods mul-longest is-broken-requires frame-requires place-requires broken-fails-requires returns)

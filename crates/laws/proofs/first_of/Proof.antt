@@ -1,7 +1,7 @@
 -- The first number, unless it is 0.
 use Rattle.laws.specs.Kit.{sym, eq-eqb, ne-eqb}
-use Rattle.record.proofs.first_of.Statement.{statement}
-use Rattle.record.proofs.first_of.Tie as tie
+use Rattle.laws.proofs.first_of.Statement.{statement}
+use Rattle.laws.proofs.first_of.Tie as tie
 
 returns : tie.Need-returns
 returns c = sym (rw (eq-eqb _ 0 (c .if1 .taken)))

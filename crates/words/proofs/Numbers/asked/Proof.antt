@@ -1,8 +1,8 @@
 -- Each number is put in its place, which holds it.
 use borrow.Author.Needs.{needs}
 use Rattle.words.specs.Paper.{askedOf}
-use Rattle.words.proofs.Nine.asked.Statement.{statement}
-use Rattle.words.proofs.Nine.asked.Tie as tie
+use Rattle.words.proofs.Numbers.asked.Statement.{statement}
+use Rattle.words.proofs.Numbers.asked.Tie as tie
 
 place-requires : tie.Need-place-requires
 place-requires c κs = search needs
@@ -49,14 +49,20 @@ place-requires-7 c κs = search needs
 cast-t16 : tie.Need-cast-t16
 cast-t16 c = search needs
 
-cast-t19 : tie.Need-cast-t19
-cast-t19 c = search needs
-
 place-requires-8 : tie.Need-place-requires-8
 place-requires-8 c κs = search needs
 
+cast-t19 : tie.Need-cast-t19
+cast-t19 c = search needs
+
 cast-t21 : tie.Need-cast-t21
 cast-t21 c = search needs
+
+place-requires-9 : tie.Need-place-requires-9
+place-requires-9 c κs = search needs
+
+cast-t23 : tie.Need-cast-t23
+cast-t23 c = search needs
 
 returns : tie.Need-returns
 unfolding askedOf
@@ -81,7 +87,9 @@ asked-spec =
     sub-place
     place-requires-7
     cast-t16
-    cast-t19
     place-requires-8
+    cast-t19
     cast-t21
+    place-requires-9
+    cast-t23
     returns)
