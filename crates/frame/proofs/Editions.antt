@@ -14,6 +14,13 @@ use Rattle.frame.specs.ByPlace.{answerAt}
 use Rattle.frame.specs.Range.{Planned}
 use Rattle.frame.proofs.BufferOfFrames.{quiet, over-fails, whole-judged, answer-unique, not-failing, answered}
 
+-- V12: the two editions
+pub one-spares : brokenFails 1 ≡ false
+one-spares = refl
+
+pub two-fails : brokenFails 2 ≡ true
+two-fails = refl
+
 -- ---- two ways to say what each place answers
 
 -- where each place answers alike, the same answer decides

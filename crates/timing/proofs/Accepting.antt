@@ -212,19 +212,19 @@ module _ (h : AcceptedHistory) where
   asks e = ap brokenFails e
 
   pub first-edition : h .stream .edition ≡ 1 → (b : Buffer) → BufferIs (plan h) (frames h) b ↔ FirstBufferIs (plan h) (frames h) b
-  first-edition e = by-edition.first-edition (plan h) (frames h) (asks e)
+  first-edition e = by-edition.first-edition (plan h) (frames h) (asks e ∙ by-edition.one-spares)
 
   pub first-reached : h .stream .edition ≡ 1 → FirstBufferIs (plan h) (frames h) (reached h .frames .buffer)
   first-reached e = first-edition e (reached h .frames .buffer) .0 buffer-reached
 
   pub never-broken : h .stream .edition ≡ 1 → (b : BrokenFrame) → reached h .frames .buffer ≡ Broken b → ⊥
-  never-broken e b r = by-edition.never-broken (plan h) (frames h) (asks e) b (reached-is (Broken b) .0 r)
+  never-broken e b r = by-edition.never-broken (plan h) (frames h) (asks e ∙ by-edition.one-spares) b (reached-is (Broken b) .0 r)
 
   pub second-none : h .stream .edition ≡ 2 → (reached h .frames .buffer ≡ None) ↔ NoneClosed (plan h) (frames h)
-  second-none e = reached-as None (by-edition.second-none (plan h) (frames h) (asks e))
+  second-none e = reached-as None (by-edition.second-none (plan h) (frames h) (asks e ∙ by-edition.two-fails))
 
   pub second-pass : h .stream .edition ≡ 2 → (reached h .frames .buffer ≡ Pass) ↔ AllFit (plan h) (frames h)
-  second-pass e = reached-as Pass (by-edition.second-pass (plan h) (frames h) (asks e))
+  second-pass e = reached-as Pass (by-edition.second-pass (plan h) (frames h) (asks e ∙ by-edition.two-fails))
 
   pub broken-reached : (b : BrokenFrame) → (reached h .frames .buffer ≡ Broken b)
       ↔ ((i : ℕ) × (i < size h) × BrokenIs (plan h) (frames h) i b × ((k : ℕ) → k < i → Fails (AnswerIs (plan h) (frames h)) k → ⊥))

@@ -12,8 +12,8 @@ mul-periods c = search needs
 mul-longest : tie.Need-mul-longest
 mul-longest c = record { fits = omega (arith, bound-fits _ (c .before .before .pre)) }
 
-is-broken-requires : tie.Need-is-broken-requires
-is-broken-requires c κs = search needs
+number-requires : tie.Need-number-requires
+number-requires c κs = search needs
 
 frame-requires : tie.Need-frame-requires
 frame-requires c κs = search needs
@@ -28,7 +28,7 @@ returns : tie.Need-returns
 unfolding after
 returns c =
     let told = c .before in
-    rw (told .before .before .is-broken .ensures, told .before .frame .ensures, told .place .ensures, c .broken-fails .ensures)
+    rw (told .before .before .number .ensures, told .before .frame .ensures, told .place .ensures, c .broken-fails .ensures)
 
 pub in-range-spec : {M : Type 1} → statement M
-in-range-spec = tie.close (tie.spec mul-periods mul-longest is-broken-requires frame-requires place-requires broken-fails-requires returns)
+in-range-spec = tie.close (tie.spec mul-periods mul-longest number-requires frame-requires place-requires broken-fails-requires returns)
