@@ -35,6 +35,7 @@
  *    5  the packets per frame are not 1 to 20,000                     count the packets of a good frame
  *    6  MAXUDP is not 1460 or 8960                                    1460 is the standard limit, 8960 the extended one
  *    7  TRO is a frame long or longer                                 give it in microseconds, or VTIMING_DEFAULT_TRO
+ *    8  the edition is not 1 or 2                                     give VTIMING_EDITION_1 or VTIMING_EDITION_2
  *   10  the three arrays differ in length                             lend as many of each
  *   11  a marker is above 1                                           it is one bit of the RTP header: lend 0 or 1
  *   12  a packet arrives earlier than the one before it               put the packets in order of arrival
@@ -52,14 +53,26 @@
  *   32  a record's part of a second is a second or more               the capture was damaged there
  *   33  the offset is above 99                                        37 for a capture clock of UTC, 0 for one of TAI
  *
- * vtiming_next_read gives 12 and 13 of a packet and the first packet of its frame.
+ * vtiming_next_read gives 12 and 13 of a packet and the first packet of its frame. 8 comes out of vtiming_measure and
+ * vtiming_capture alone: the other functions are told no edition.
  *
  * Class 0 is the strict class of the schedule: narrow (1) on schedule 0, narrow linear (2) on schedule 1. So it is wherever a
  * class is given, and in a record file of version 2. A record file of version 1 alone keeps 0 as wide (3), as all did before
  * version 3.0.0 of this library; what vtiming_measure answers of such a file has not changed.
  *
- * What a program must change that was made for 2.3.0 or older: vtiming_write and vtiming_write_place have the version as their
- * first argument; give them VTIMING_RECORD_VERSION. Where the program gives class 0 and means wide, give 3.
+ * The edition is that of the stations' test plan by which the buffer is judged. Edition 1 judges the whole frames alone, as all
+ * was judged before version 4.0.0 of this library, so that an earlier report comes out as it did. Under edition 2 a broken frame
+ * (kind 1, 2 or 3) fails the buffer too. Nothing but the buffer answer depends on it, numbers 6 to 8 of the summary. A record file
+ * says nothing of an edition, and no answer does: a report should name the one that was given.
+ *
+ * What a program must change that was made for 3.0.0 or older: vtiming_measure, vtiming_measure_offset, vtiming_capture and
+ * vtiming_capture_place have the edition as an argument, in front of the room. Give VTIMING_EDITION_1 for the answers of before; a
+ * program that gives VTIMING_EDITION_2 must know 4, VTIMING_BUFFER_BROKEN, in number 6. Then compile it again: the compiler names
+ * each call that lacks the argument. A program that is only linked again hands over the address of its room as the edition. The
+ * low 32 bits of an address are neither 1 nor 2 in practice, so it is refused by 8 and nothing is written; nothing is promised of it.
+ *
+ * Made for 2.3.0 or older, it must change this too: vtiming_write and vtiming_write_place have the version as their first argument;
+ * give them VTIMING_RECORD_VERSION. Where the program gives class 0 and means wide, give 3.
  *
  * 9, a state out of its range, cannot come out of these functions: no state crosses this border.
  *
@@ -77,8 +90,8 @@ extern "C" {
 #endif
 
 /* The version of this header and of the archive that it belongs to. */
-#define VTIMING_VERSION "3.0.0"
-#define VTIMING_VERSION_MAJOR 3
+#define VTIMING_VERSION "4.0.0"
+#define VTIMING_VERSION_MAJOR 4
 #define VTIMING_VERSION_MINOR 0
 #define VTIMING_VERSION_PATCH 0
 
@@ -120,6 +133,7 @@ enum vtiming_refusal {
     VTIMING_REFUSED_PACKETS_PER_FRAME = 5,
     VTIMING_REFUSED_MAXUDP = 6,
     VTIMING_REFUSED_TRO = 7,
+    VTIMING_REFUSED_EDITION = 8,
     VTIMING_REFUSED_LENGTHS = 10,
     VTIMING_REFUSED_MARKER = 11,
     VTIMING_REFUSED_ORDER = 12,
@@ -138,7 +152,15 @@ enum vtiming_refusal {
     VTIMING_REFUSED_OFFSET = 33
 };
 
-/* The kind of a frame: number 1 of its row. */
+/* The edition of the test plan by which the buffer is judged: what vtiming_measure and vtiming_capture are told. 1 judges whole
+ * frames alone, as before version 4.0.0. 2 is the plan of the stations' interoperability group in which a broken frame fails too.
+ * The functions take uint32_t, and the names are given as they are. */
+enum vtiming_edition {
+    VTIMING_EDITION_1 = 1,
+    VTIMING_EDITION_2 = 2
+};
+
+/* The kind of a frame: number 1 of its row. It is also number 8 of the summary where number 6 is VTIMING_BUFFER_BROKEN. */
 enum vtiming_frame_kind {
     VTIMING_FRAME_WHOLE = 0,
     VTIMING_FRAME_SHORT = 1,
@@ -152,17 +174,19 @@ enum vtiming_network_answer {
     VTIMING_NETWORK_BURST = 1
 };
 
-/* The buffer answer: number 6. */
+/* The buffer answer: number 6. VTIMING_BUFFER_BROKEN comes under edition 2 alone. */
 enum vtiming_buffer_answer {
     VTIMING_BUFFER_NONE = 0,
     VTIMING_BUFFER_PASS = 1,
     VTIMING_BUFFER_UNDER = 2,
-    VTIMING_BUFFER_OVER = 3
+    VTIMING_BUFFER_OVER = 3,
+    VTIMING_BUFFER_BROKEN = 4
 };
 
 /* Measures a whole record file, of version 1 or 2.
  *
  *   file, file_len   the file's bytes, all of them
+ *   edition          VTIMING_EDITION_1 or VTIMING_EDITION_2
  *   out, out_len     room for the answer: 72 bytes and 88 for each frame that closes; vtiming_measure_room says how many
  *
  * The answer is a row of numbers, each 8 bytes, signed, big-endian; vtiming_number reads one of them:
@@ -172,9 +196,15 @@ enum vtiming_buffer_answer {
  *   2  peak          the fullest the network bucket was
  *   3  network       0 pass, 1 burst
  *   4, 5             first and last packet of the failing run, from 0; 0 where the network passes
- *   6  buffer        0 none (no whole frame), 1 pass, 2 under (ran dry), 3 over (overflowed)
+ *   6  buffer        0 none, 1 pass, 2 under (ran dry), 3 over (overflowed), 4 broken (edition 2 alone)
  *   7                the first failing frame; 0 where none fails
- *   8                under: the first packet that came too late, from 0 in its frame; over: the buffer's peak; else 0
+ *   8                under: the first packet that came too late, from 0 in its frame; over: the buffer's peak; broken: the
+ *                    frame's kind, 1 to 3; else 0
+ *
+ * The first failing frame decides. Under edition 1 a whole frame fails, under before over; none means that no whole frame has
+ * closed, and pass that every whole frame fits. Under edition 2 a broken frame fails by being broken, a whole one as under
+ * edition 1; none means that no frame has closed, and pass that every closed frame is whole and fits. The lead-in, and a frame
+ * that is still open at the end, are not judged.
  *
  * and then a row of eleven for each frame:
  *
@@ -189,16 +219,18 @@ enum vtiming_buffer_answer {
  *
  * For kinds 1 to 3 the numbers 3 to 9 are 0; the last is filled for every kind. So number j of row r is 9 + 11·r + j of all.
  *
- * Refuses by 20 to 23, 1 to 7 and 11 to 14 at the first record that is refused, and by 15 after all else. */
-uint32_t vtiming_measure(const uint8_t *file, size_t file_len, uint8_t *out, size_t out_len);
+ * Refuses by 20 to 23, 1 to 8 and 11 to 14 at the first record that is refused, and by 15 after all else. 8 is given at the
+ * parameters, at offset 1, where these are accepted otherwise, and before any later record is looked at: so a file that has no
+ * parameters is never refused by 8. */
+uint32_t vtiming_measure(const uint8_t *file, size_t file_len, uint32_t edition, uint8_t *out, size_t out_len);
 
 /* The twin of vtiming_measure, given how much room there would be: the offset in the file of the refused record (0 for
- * 20), the file's length for 15, 0 for an accepted file. */
-uint64_t vtiming_measure_offset(const uint8_t *file, size_t file_len, size_t out_len);
+ * 20, 1 for 8), the file's length for 15, 0 for an accepted file. */
+uint64_t vtiming_measure_offset(const uint8_t *file, size_t file_len, uint32_t edition, size_t out_len);
 
 /* How many bytes vtiming_measure fills for this file, so that no host has to guess: ask, lend as many, measure. That is 72
  * and 88 for each frame that closes; one byte fewer would be refused by 15. It is 0 for a file that vtiming_measure refuses
- * whatever is lent, by 20 to 23, 1 to 7 or 11 to 14. */
+ * whatever is lent, by 20 to 23, 1 to 7 or 11 to 14. It is told no edition, since the room is the same under both. */
 uint64_t vtiming_measure_room(const uint8_t *file, size_t file_len);
 
 /* Measures one stream of a whole network capture: classic pcap, in microseconds or nanoseconds, in either byte order, of
@@ -209,6 +241,7 @@ uint64_t vtiming_measure_room(const uint8_t *file, size_t file_len);
  *   offset           whole seconds, 0 to 99, that are added to each time of the capture so that it counts from the SMPTE
  *                    epoch: 37 for a clock that shows UTC (since 2017), 0 for one that shows TAI
  *   rate to tro      the seven numbers of the stream, as vtiming_write has them; class 0 is 1 on schedule 0, 2 on schedule 1
+ *   edition          VTIMING_EDITION_1 or VTIMING_EDITION_2, as of vtiming_measure
  *   out, out_len     room for the answer: 88 bytes and 88 for each frame that closes; vtiming_capture_room says how many
  *
  * A frame of the capture is a packet of the stream where its captured bytes hold all of these: Ethernet's header with type
@@ -226,21 +259,22 @@ uint64_t vtiming_measure_room(const uint8_t *file, size_t file_len);
  * So number j of row r is 11 + 11·r + j of all. Packets are counted among those of the stream, from 0, and not among the
  * records: a row's last number too.
  *
- * Refuses by 1 to 7; then by 33, also where the capture is empty; by 30; record by record by 31, 32 (of skipped records too)
- * and 12 to 14; and by 15 after all else. 11 cannot come: the marker is one bit. A capture of no record, or of skipped ones
- * only, is accepted. */
+ * Refuses by 1 to 7, then by 8; then by 33, also where the capture is empty; by 30; record by record by 31, 32 (of skipped
+ * records too) and 12 to 14; and by 15 after all else. 11 cannot come: the marker is one bit. A capture of no record, or of
+ * skipped ones only, is accepted. */
 uint32_t vtiming_capture(const uint8_t *capture, size_t capture_len, uint16_t port, uint32_t offset, uint8_t rate,
                          uint8_t schedule, uint8_t stream_class, uint16_t height, uint32_t packets_per_frame,
-                         uint16_t maxudp, uint32_t tro, uint8_t *out, size_t out_len);
+                         uint16_t maxudp, uint32_t tro, uint32_t edition, uint8_t *out, size_t out_len);
 
 /* The twin of vtiming_capture, given how much room there would be: for 31 and 32 the record of the capture, from 0; for 12 to
- * 14 the packet of the stream, from 0; else 0, for 15 too. */
+ * 14 the packet of the stream, from 0; else 0, for 8 and 15 too. */
 uint64_t vtiming_capture_place(const uint8_t *capture, size_t capture_len, uint16_t port, uint32_t offset, uint8_t rate,
                                uint8_t schedule, uint8_t stream_class, uint16_t height, uint32_t packets_per_frame,
-                               uint16_t maxudp, uint32_t tro, size_t out_len);
+                               uint16_t maxudp, uint32_t tro, uint32_t edition, size_t out_len);
 
 /* How many bytes vtiming_capture fills for this capture and these numbers: 88 and 88 for each frame that closes; one byte
- * fewer would be refused by 15. It is 0 for a capture that vtiming_capture refuses whatever is lent. */
+ * fewer would be refused by 15. It is 0 for a capture that vtiming_capture refuses whatever is lent, under both editions: it is
+ * told none, since the room is the same. */
 uint64_t vtiming_capture_room(const uint8_t *capture, size_t capture_len, uint16_t port, uint32_t offset, uint8_t rate,
                               uint8_t schedule, uint8_t stream_class, uint16_t height, uint32_t packets_per_frame,
                               uint16_t maxudp, uint32_t tro);
@@ -272,8 +306,8 @@ static inline int64_t vtiming_number(const uint8_t *answer, size_t k)
  *   markers          0 or 1
  *   out, out_len     room for the file: 19 bytes and 16 for each packet
  *
- * Refuses by 20 first of all, then by 1 to 7, 10, then packet by packet 11 to 14, then 24. What it writes, vtiming_measure accepts,
- * given room. */
+ * Refuses by 20 first of all, then by 1 to 7, 10, then packet by packet 11 to 14, then 24. What it writes, vtiming_measure accepts
+ * under either edition, given room. */
 uint32_t vtiming_write(uint8_t version, uint8_t rate, uint8_t schedule, uint8_t stream_class, uint16_t height,
                        uint32_t packets_per_frame, uint16_t maxudp, uint32_t tro, const uint64_t *arrivals,
                        size_t arrival_count, const uint32_t *stamps, size_t stamp_count, const uint8_t *markers,
