@@ -1,13 +1,17 @@
 /* Tries what the package installs, as somebody else's program would use it: prints of each record file that is named what
  * `vtiming` prints of it, and of each capture (NAME.pcap) what `vcapture --port 20000 --rate 50 --packets 8` does, by the C functions and
- * the names of the header alone; before that, the header's version. tools/package compiles it as C and as C++ and compares what it
- * prints. No file here closes a frame before it is refused, which the program would print and the C call does not tell. */
+ * the names of the header alone, all under edition 1; before that, the header's version. tools/package compiles it as C and as C++ and
+ * compares what it prints. No file here closes a frame before it is refused, which the program would print and the C call does not tell. */
 #include <vtiming.h>
 #include <inttypes.h>
 #include <stdio.h>
 #include <string.h>
 
 enum { LONGEST = 65536 };
+
+/* What is no edition. */
+static const uint32_t no_editions[] = {0, VTIMING_EDITION_2 + 1, UINT32_MAX};
+enum { NO_EDITIONS = sizeof no_editions / sizeof no_editions[0] };
 
 #define TRY(what)                                                   \
     do {                                                            \
@@ -28,6 +32,7 @@ static const char *refusal(uint32_t number)
     case VTIMING_REFUSED_PACKETS_PER_FRAME: return "5";
     case VTIMING_REFUSED_MAXUDP: return "6";
     case VTIMING_REFUSED_TRO: return "7";
+    case VTIMING_REFUSED_EDITION: return "8";
     case VTIMING_REFUSED_MARKER: return "11";
     case VTIMING_REFUSED_ORDER: return "12";
     case VTIMING_REFUSED_SPAN: return "13";
@@ -68,6 +73,7 @@ static void put_verdict(const uint8_t *answer)
     case VTIMING_BUFFER_PASS: printf(" buffer pass"); break;
     case VTIMING_BUFFER_UNDER: printf(" buffer under %" PRId64 " %" PRId64, c, d); break;
     case VTIMING_BUFFER_OVER: printf(" buffer over %" PRId64 " %" PRId64, c, d); break;
+    case VTIMING_BUFFER_BROKEN: printf(" buffer broken %" PRId64 " %s", c, kind(d)); break;
     }
 }
 
@@ -85,45 +91,80 @@ static void put_answer(const uint8_t *answer, size_t numbers)
     put_verdict(answer);
 }
 
+/* `one` and `two` are the answers under the two editions, with so many numbers in front of the rows. They differ in the buffer answer
+ * alone: where a broken frame comes before the one that fails under edition 1, it decides under edition 2. */
+static int try_both(const uint8_t *one, const uint8_t *two, size_t numbers)
+{
+    int64_t frames = vtiming_number(one, 1), broken = 0, buffer = vtiming_number(one, 6);
+#define KIND(frame) vtiming_number(one, numbers + VTIMING_ROW_NUMBERS * (size_t)(frame) + 1)
+    while (broken < frames && KIND(broken) == VTIMING_FRAME_WHOLE) broken++;
+    int fails = buffer == VTIMING_BUFFER_UNDER || buffer == VTIMING_BUFFER_OVER;
+    int decides = broken < frames && !(fails && vtiming_number(one, 7) < broken);
+    TRY(buffer != VTIMING_BUFFER_BROKEN);
+    for (size_t k = 0; k < numbers + VTIMING_ROW_NUMBERS * (size_t)frames; k++)
+        TRY((decides && k >= 6 && k <= 8) || vtiming_number(one, k) == vtiming_number(two, k));
+    TRY(!decides || vtiming_number(two, 6) == VTIMING_BUFFER_BROKEN);
+    TRY(!decides || (vtiming_number(two, 7) == broken && vtiming_number(two, 8) == KIND(broken)));
+#undef KIND
+    return 0;
+}
+
 static int put_file(const uint8_t *file, size_t size)
 {
-    static uint8_t answer[VTIMING_ENOUGH_BYTES(LONGEST)];
+    static uint8_t answer[VTIMING_ENOUGH_BYTES(LONGEST)], second[VTIMING_ENOUGH_BYTES(LONGEST)];
     size_t room = (size_t)vtiming_measure_room(file, size);
     TRY(room <= sizeof answer);
-    uint32_t refused = vtiming_measure(file, size, answer, room);
+    uint32_t refused = vtiming_measure(file, size, VTIMING_EDITION_1, answer, room);
     TRY((room == 0) == (refused != VTIMING_ACCEPTED));
     if (refused != VTIMING_ACCEPTED) {
-        printf("refused %s %" PRIu64 "\n", refusal(refused), vtiming_measure_offset(file, size, room));
+        uint64_t offset = vtiming_measure_offset(file, size, VTIMING_EDITION_1, room);
+        TRY(vtiming_measure(file, size, VTIMING_EDITION_2, second, room) == refused);
+        TRY(vtiming_measure_offset(file, size, VTIMING_EDITION_2, room) == offset);
+        printf("refused %s %" PRIu64 "\n", refusal(refused), offset);
         return 0;
     }
     put_answer(answer, VTIMING_SUMMARY_NUMBERS);
     printf("\n");
-    return 0;
+    TRY(vtiming_measure(file, size, VTIMING_EDITION_2, second, room) == VTIMING_ACCEPTED);
+    return try_both(answer, second, VTIMING_SUMMARY_NUMBERS);
 }
 
 /* The stream of the example captures: 1080p50, gapped, narrow, eight packets a frame, captured by a clock that shows UTC. */
 static int put_capture(const uint8_t *capture, size_t size)
 {
     enum { PORT = 20000, OFFSET = 37, ROOM = VTIMING_CAPTURE_SUMMARY_BYTES + 8 * VTIMING_ROW_BYTES };
-    static uint8_t answer[ROOM];
-    uint32_t refused = vtiming_capture(capture, size, PORT, OFFSET, 6, 0, 1, 1080, 8, 1460, VTIMING_DEFAULT_TRO, answer, ROOM);
+    static uint8_t answer[ROOM], second[ROOM];
+#define CAPTURE(offset, tro, edition, out, room) \
+    vtiming_capture(capture, size, PORT, offset, 6, 0, 1, 1080, 8, 1460, tro, edition, out, room)
+#define PLACE(edition, room) \
+    vtiming_capture_place(capture, size, PORT, OFFSET, 6, 0, 1, 1080, 8, 1460, VTIMING_DEFAULT_TRO, edition, room)
+    uint32_t refused = CAPTURE(OFFSET, VTIMING_DEFAULT_TRO, VTIMING_EDITION_1, answer, ROOM);
+    TRY(CAPTURE(OFFSET, VTIMING_DEFAULT_TRO, VTIMING_EDITION_2, second, ROOM) == refused);
+    TRY(PLACE(VTIMING_EDITION_1, ROOM) == PLACE(VTIMING_EDITION_2, ROOM));
     size_t room = (size_t)vtiming_capture_room(capture, size, PORT, OFFSET, 6, 0, 1, 1080, 8, 1460, VTIMING_DEFAULT_TRO);
+    /* Of any capture a TRO of a whole frame comes first, then the edition, then an offset above 99, and the room last. */
+    for (size_t k = 0; k < NO_EDITIONS; k++) {
+        TRY(CAPTURE(100, 20000, no_editions[k], second, 0) == VTIMING_REFUSED_TRO);
+        TRY(CAPTURE(100, VTIMING_DEFAULT_TRO, no_editions[k], second, 0) == VTIMING_REFUSED_EDITION);
+        TRY(CAPTURE(OFFSET, VTIMING_DEFAULT_TRO, no_editions[k], second, ROOM) == VTIMING_REFUSED_EDITION);
+        TRY(PLACE(no_editions[k], ROOM) == 0);
+    }
+    for (uint32_t edition = VTIMING_EDITION_1; edition <= VTIMING_EDITION_2; edition++)
+        TRY(CAPTURE(100, VTIMING_DEFAULT_TRO, edition, second, ROOM) == VTIMING_REFUSED_OFFSET);
     if (refused != VTIMING_ACCEPTED) {
         TRY(room == 0);
-        printf("refused %s %" PRIu64 "\n", refusal(refused),
-               vtiming_capture_place(capture, size, PORT, OFFSET, 6, 0, 1, 1080, 8, 1460, VTIMING_DEFAULT_TRO, ROOM));
+        printf("refused %s %" PRIu64 "\n", refusal(refused), PLACE(VTIMING_EDITION_1, ROOM));
         return 0;
     }
-    /* One byte less than the answer is too little, and so is an offset above 99, whatever the capture. */
+    /* One byte less than the answer is too little. */
     TRY(room == VTIMING_CAPTURE_SUMMARY_BYTES + VTIMING_ROW_BYTES * (size_t)vtiming_number(answer, 1));
-    TRY(vtiming_capture(capture, size, PORT, OFFSET, 6, 0, 1, 1080, 8, 1460, VTIMING_DEFAULT_TRO, answer, room - 1) ==
-        VTIMING_REFUSED_ROOM);
-    TRY(vtiming_capture(capture, size, PORT, 100, 6, 0, 1, 1080, 8, 1460, VTIMING_DEFAULT_TRO, answer, ROOM) ==
-        VTIMING_REFUSED_OFFSET);
+    TRY(CAPTURE(OFFSET, VTIMING_DEFAULT_TRO, VTIMING_EDITION_1, answer, room - 1) == VTIMING_REFUSED_ROOM);
     TRY(vtiming_number(answer, 0) + vtiming_number(answer, 10) == vtiming_number(answer, 9));
     put_answer(answer, VTIMING_CAPTURE_SUMMARY_NUMBERS);
     printf(" records %" PRId64 " skipped %" PRId64 "\n", vtiming_number(answer, 9), vtiming_number(answer, 10));
-    return 0;
+#undef CAPTURE
+#undef PLACE
+    return try_both(answer, second, VTIMING_CAPTURE_SUMMARY_NUMBERS);
 }
 
 /* By its name. */
@@ -146,8 +187,8 @@ static int try_decoder(void)
 }
 
 /* A lead-in packet and then one frame of `count` packets, where `n` are wanted: `step` ns apart from `first` on, with another
- * timestamp at place `odd`. Written, and then measured into `answer`. */
-static int measured(uint32_t n, size_t count, uint64_t first, uint64_t step, size_t odd, uint8_t *answer)
+ * timestamp at place `odd`. Written, and then measured into `answer` under that edition. */
+static int measured(uint32_t edition, uint32_t n, size_t count, uint64_t first, uint64_t step, size_t odd, uint8_t *answer)
 {
     uint64_t arrivals[11] = {19000000};
     uint32_t stamps[11] = {0};
@@ -166,34 +207,46 @@ static int measured(uint32_t n, size_t count, uint64_t first, uint64_t step, siz
     TRY(vtiming_write(VTIMING_RECORD_VERSION, 6, 0, 1, 1080, n, 1460, VTIMING_DEFAULT_TRO, arrivals, packets, stamps, packets, markers,
                       packets, file, size) == VTIMING_ACCEPTED);
     TRY(vtiming_measure_room(file, size) == VTIMING_SUMMARY_BYTES + VTIMING_ROW_BYTES);
-    TRY(vtiming_measure(file, size, answer, VTIMING_SUMMARY_BYTES + VTIMING_ROW_BYTES - 1) == VTIMING_REFUSED_ROOM);
-    TRY(vtiming_measure(file, size, answer, VTIMING_SUMMARY_BYTES + VTIMING_ROW_BYTES) == VTIMING_ACCEPTED);
+    TRY(vtiming_measure(file, size, edition, answer, VTIMING_SUMMARY_BYTES + VTIMING_ROW_BYTES - 1) == VTIMING_REFUSED_ROOM);
+    TRY(vtiming_measure(file, size, edition, answer, VTIMING_SUMMARY_BYTES + VTIMING_ROW_BYTES) == VTIMING_ACCEPTED);
+    return 0;
+}
+
+/* The one frame of an answer is broken, of that kind: under edition 1 there is no whole frame, and under edition 2 it fails. */
+static int try_broken(uint32_t edition, int64_t wanted, const uint8_t *answer)
+{
+    int fails = edition == VTIMING_EDITION_2;
+    TRY(vtiming_number(answer, 9 + 1) == wanted && vtiming_number(answer, 7) == 0);
+    TRY(vtiming_number(answer, 6) == (fails ? VTIMING_BUFFER_BROKEN : VTIMING_BUFFER_NONE));
+    TRY(vtiming_number(answer, 8) == (fails ? wanted : 0));
     return 0;
 }
 
 /* Each kind and each answer that examples/ does not show. */
-static int try_answers(void)
+static int try_answers(uint32_t edition)
 {
     uint8_t answer[VTIMING_SUMMARY_BYTES + VTIMING_ROW_BYTES];
     /* It begins a microsecond before its frame time: FPT and VL are below 0. */
-    if (measured(4, 4, 19999000, 4800000, 11, answer)) return 1;
+    if (measured(edition, 4, 4, 19999000, 4800000, 11, answer)) return 1;
     TRY(vtiming_number(answer, 9 + 1) == VTIMING_FRAME_WHOLE && vtiming_number(answer, 6) == VTIMING_BUFFER_PASS);
     TRY(vtiming_number(answer, 9 + 3) == -27000 && vtiming_number(answer, 9 + 5) == -27000);
     TRY(vtiming_number(answer, 9 + 6) == 20640000 + 27000);
-    if (measured(4, 3, 20700000, 4800000, 11, answer)) return 1;
-    TRY(vtiming_number(answer, 9 + 1) == VTIMING_FRAME_SHORT && vtiming_number(answer, 6) == VTIMING_BUFFER_NONE);
+    if (measured(edition, 4, 3, 20700000, 4800000, 11, answer)) return 1;
+    if (try_broken(edition, VTIMING_FRAME_SHORT, answer)) return 1;
     /* Nothing of it is measured, but it is told where it began: after the lead-in packet. */
     for (size_t k = 3; k < 10; k++) TRY(vtiming_number(answer, 9 + k) == 0);
     TRY(vtiming_number(answer, 9 + 10) == 1);
-    if (measured(4, 5, 20700000, 4800000, 11, answer)) return 1;
-    TRY(vtiming_number(answer, 9 + 1) == VTIMING_FRAME_LONG && vtiming_number(answer, 9 + 2) == 5);
-    if (measured(4, 4, 20700000, 4800000, 2, answer)) return 1;
-    TRY(vtiming_number(answer, 9 + 1) == VTIMING_FRAME_STAMP && vtiming_number(answer, 9 + 2) == 2);
+    if (measured(edition, 4, 5, 20700000, 4800000, 11, answer)) return 1;
+    if (try_broken(edition, VTIMING_FRAME_LONG, answer)) return 1;
+    TRY(vtiming_number(answer, 9 + 2) == 5);
+    if (measured(edition, 4, 4, 20700000, 4800000, 2, answer)) return 1;
+    if (try_broken(edition, VTIMING_FRAME_STAMP, answer)) return 1;
+    TRY(vtiming_number(answer, 9 + 2) == 2);
     /* The first read is 764.4 microseconds after the frame time. */
-    if (measured(4, 4, 20800000, 4800000, 11, answer)) return 1;
+    if (measured(edition, 4, 4, 20800000, 4800000, 11, answer)) return 1;
     TRY(vtiming_number(answer, 6) == VTIMING_BUFFER_UNDER && vtiming_number(answer, 9 + 9) == -1);
     /* Ten packets at once, where the buffer holds eight and the bucket four. */
-    if (measured(10, 10, 20100000, 0, 11, answer)) return 1;
+    if (measured(edition, 10, 10, 20100000, 0, 11, answer)) return 1;
     TRY(vtiming_number(answer, 6) == VTIMING_BUFFER_OVER && vtiming_number(answer, 8) == 10);
     TRY(vtiming_number(answer, 3) == VTIMING_NETWORK_BURST);
     return 0;
@@ -212,10 +265,60 @@ static int try_room(void)
     TRY(vtiming_write(VTIMING_RECORD_VERSION, 6, 0, 1, 1080, 1, 1460, VTIMING_DEFAULT_TRO, arrivals, PACKETS, stamps, PACKETS, markers,
                       PACKETS, file, SIZE) == VTIMING_ACCEPTED);
     TRY(vtiming_measure_room(file, SIZE) == VTIMING_SUMMARY_BYTES + (PACKETS - 1) * VTIMING_ROW_BYTES);
-    TRY(vtiming_measure(file, SIZE, answer, 5 * SIZE) == VTIMING_REFUSED_ROOM);
-    TRY(vtiming_measure(file, SIZE, answer, VTIMING_ENOUGH_BYTES(SIZE)) == VTIMING_ACCEPTED);
+    TRY(vtiming_measure(file, SIZE, VTIMING_EDITION_1, answer, 5 * SIZE) == VTIMING_REFUSED_ROOM);
+    TRY(vtiming_measure(file, SIZE, VTIMING_EDITION_1, answer, VTIMING_ENOUGH_BYTES(SIZE)) == VTIMING_ACCEPTED);
     for (int64_t frame = 0; frame < PACKETS - 1; frame++)
         TRY(vtiming_number(answer, VTIMING_SUMMARY_NUMBERS + VTIMING_ROW_NUMBERS * (size_t)frame + 10) == frame + 1);
+    return 0;
+}
+
+/* Two frames, where one packet a frame is wanted: one that comes after its read, and one of two packets. The first to fail decides. What is
+ * no edition is refused at the parameters, where these are right, and nothing is written. */
+static int try_editions(void)
+{
+    enum { PACKETS = 4, SIZE = VTIMING_HEAD_BYTES + PACKETS * VTIMING_PACKET_BYTES,
+           ROOM = VTIMING_SUMMARY_BYTES + 2 * VTIMING_ROW_BYTES, RATE_AT = 4, LAST_MARKER_AT = SIZE - 1 };
+    static const uint64_t late_first[PACKETS] = {19000000, 20800000, 40100000, 40200000};
+    static const uint64_t broken_first[PACKETS] = {19000000, 20100000, 20200000, 40800000};
+    static const uint8_t late_markers[PACKETS] = {1, 1, 0, 1}, broken_markers[PACKETS] = {1, 0, 1, 1};
+    static const uint32_t stamps[PACKETS] = {0};
+    uint8_t file[SIZE], answer[ROOM], untouched[ROOM];
+#define WRITE(arrivals, markers)                                                                                                    \
+    vtiming_write(VTIMING_RECORD_VERSION, 6, 0, 1, 1080, 1, 1460, VTIMING_DEFAULT_TRO, arrivals, PACKETS, stamps, PACKETS, markers, PACKETS, \
+                  file, SIZE)
+#define BUFFER(edition, number, frame, detail)                                                                     \
+    (vtiming_measure(file, SIZE, edition, answer, ROOM) == VTIMING_ACCEPTED && vtiming_number(answer, 6) == number && \
+     vtiming_number(answer, 7) == frame && vtiming_number(answer, 8) == detail)
+    TRY(WRITE(late_first, late_markers) == VTIMING_ACCEPTED);
+    TRY(BUFFER(VTIMING_EDITION_1, VTIMING_BUFFER_UNDER, 0, 0) && BUFFER(VTIMING_EDITION_2, VTIMING_BUFFER_UNDER, 0, 0));
+    TRY(WRITE(broken_first, broken_markers) == VTIMING_ACCEPTED);
+    TRY(BUFFER(VTIMING_EDITION_1, VTIMING_BUFFER_UNDER, 1, 0) && BUFFER(VTIMING_EDITION_2, VTIMING_BUFFER_BROKEN, 0, VTIMING_FRAME_LONG));
+#undef WRITE
+#undef BUFFER
+    memset(answer, 0xA5, ROOM);
+    memcpy(untouched, answer, ROOM);
+    for (size_t k = 0; k < NO_EDITIONS; k++) {
+        uint32_t none = no_editions[k];
+        TRY(vtiming_measure(file, SIZE, none, answer, ROOM) == VTIMING_REFUSED_EDITION);
+        TRY(memcmp(answer, untouched, ROOM) == 0 && vtiming_measure_offset(file, SIZE, none, ROOM) == 1);
+        /* Before too little room, and before a marker of 2. */
+        TRY(vtiming_measure(file, SIZE, none, answer, 0) == VTIMING_REFUSED_EDITION);
+        file[LAST_MARKER_AT] = 2;
+        TRY(vtiming_measure(file, SIZE, none, answer, ROOM) == VTIMING_REFUSED_EDITION);
+        TRY(vtiming_measure_offset(file, SIZE, none, ROOM) == 1);
+        file[LAST_MARKER_AT] = 1;
+        /* After a wrong rate, and never of a file that has no parameters. */
+        file[RATE_AT] = 9;
+        TRY(vtiming_measure(file, SIZE, none, answer, ROOM) == VTIMING_REFUSED_RATE);
+        file[RATE_AT] = 6;
+        TRY(vtiming_measure(file, 0, none, answer, ROOM) == VTIMING_REFUSED_VERSION);
+        TRY(vtiming_measure(file, 1, none, answer, ROOM) == VTIMING_REFUSED_PARAMETERS);
+        TRY(vtiming_measure(file, VTIMING_HEAD_BYTES - 1, none, answer, ROOM) == VTIMING_REFUSED_CUT);
+        TRY(vtiming_measure(file, VTIMING_HEAD_BYTES, none, answer, ROOM) == VTIMING_REFUSED_EDITION);
+        TRY(memcmp(answer, untouched, ROOM) == 0);
+    }
+    /* The room is the same under both editions, and is told without one. */
+    TRY(vtiming_measure_room(file, SIZE) == ROOM);
     return 0;
 }
 
@@ -230,7 +333,7 @@ static int try_versions(void)
     vtiming_write(version, rate, 0, 0, 1080, 4, 1460, VTIMING_DEFAULT_TRO, arrivals, PACKETS, stamps, PACKETS, markers, count, file, SIZE)
     for (uint8_t version = 1; version <= VTIMING_RECORD_VERSION; version++) {
         TRY(WRITE(version, 6, PACKETS) == VTIMING_ACCEPTED && file[0] == version && file[6] == 0);
-        TRY(vtiming_measure(file, SIZE, answer, sizeof answer) == VTIMING_ACCEPTED);
+        TRY(vtiming_measure(file, SIZE, VTIMING_EDITION_1, answer, sizeof answer) == VTIMING_ACCEPTED);
         TRY(vtiming_number(answer, 3) == (version == 1 ? VTIMING_NETWORK_PASS : VTIMING_NETWORK_BURST));
     }
     /* The version is asked first: the rate is wrong too, and a marker is missing. */
@@ -238,7 +341,7 @@ static int try_versions(void)
     TRY(WRITE(0, 6, PACKETS) == VTIMING_REFUSED_VERSION && file[0] == VTIMING_RECORD_VERSION);
 #undef WRITE
     file[0] = VTIMING_RECORD_VERSION + 1;
-    TRY(vtiming_measure(file, SIZE, answer, sizeof answer) == VTIMING_REFUSED_VERSION);
+    TRY(vtiming_measure(file, SIZE, VTIMING_EDITION_1, answer, sizeof answer) == VTIMING_REFUSED_VERSION);
     TRY(vtiming_limits(6, 0, 0, 1080, 4320, 1460, VTIMING_DEFAULT_TRO, limits, 4) == VTIMING_ACCEPTED && limits[2] == 5);
     TRY(vtiming_limits(6, 1, 0, 1080, 4320, 1460, VTIMING_DEFAULT_TRO, limits, 4) == VTIMING_ACCEPTED && limits[2] == 5);
     return 0;
@@ -278,7 +381,8 @@ static int try_limits_and_graph(void)
 int main(int count, char **names)
 {
     static uint8_t file[LONGEST];
-    if (try_decoder() || try_answers() || try_room() || try_versions() || try_next_read() || try_limits_and_graph()) return 1;
+    if (try_decoder() || try_answers(VTIMING_EDITION_1) || try_answers(VTIMING_EDITION_2) || try_editions()) return 1;
+    if (try_room() || try_versions() || try_next_read() || try_limits_and_graph()) return 1;
     printf("%s %d.%d.%d\n", VTIMING_VERSION, VTIMING_VERSION_MAJOR, VTIMING_VERSION_MINOR, VTIMING_VERSION_PATCH);
     for (int k = 1; k < count; k++) {
         FILE *from = fopen(names[k], "rb");
