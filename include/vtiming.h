@@ -53,8 +53,8 @@
  *   32  a record's part of a second is a second or more               the capture was damaged there
  *   33  the offset is above 99                                        37 for a capture clock of UTC, 0 for one of TAI
  *
- * vtiming_next_read gives 12 and 13 of a packet and the first packet of its frame. 8 comes out of vtiming_measure and
- * vtiming_capture alone: the other functions are told no edition.
+ * vtiming_next_read gives 12 and 13 of a packet and the first packet of its frame. vtiming_measure and vtiming_capture alone
+ * give 8.
  *
  * Class 0 is the strict class of the schedule: narrow (1) on schedule 0, narrow linear (2) on schedule 1. So it is wherever a
  * class is given, and in a record file of version 2. A record file of version 1 alone keeps 0 as wide (3), as all did before
@@ -201,8 +201,8 @@ enum vtiming_buffer_answer {
  *   8                under: the first packet that came too late, from 0 in its frame; over: the buffer's peak; broken: the
  *                    frame's kind, 1 to 3; else 0
  *
- * The first failing frame decides. Under edition 1 a whole frame fails, under before over; none means that no whole frame has
- * closed, and pass that every whole frame fits. Under edition 2 a broken frame fails by being broken, a whole one as under
+ * The first failing frame decides. Under edition 1 whole frames alone can fail, by under before over; none means that no whole
+ * frame has closed, and pass that every whole frame fits. Under edition 2 a broken frame fails by broken, and a whole one as under
  * edition 1; none means that no frame has closed, and pass that every closed frame is whole and fits. The lead-in, and a frame
  * that is still open at the end, are not judged.
  *
