@@ -18,12 +18,13 @@ pub struct CallAnswer {
 /// for rows"; `room` is that slice's length. "Order: 9, 10, then packet by
 /// packet 11 to 14, then 15."
 pub fn call(
+    edition: u32,
     numbers: &Numbers,
     history: &[Packet],
     (arrivals, timestamps, markers): (&[u64], &[u32], &[u8]),
     room: usize,
 ) -> Result<CallAnswer, Refusal> {
-    let limits = set_up(numbers).map_err(|number| Refusal::new(number, 0))?;
+    let limits = set_up(edition, numbers).map_err(|number| Refusal::new(number, 0))?;
     let packets = zip(arrivals, timestamps, markers)?;
     if let Some(refusal) = first_refused(Past::of(history), &packets) {
         return Err(refusal);

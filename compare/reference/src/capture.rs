@@ -28,17 +28,23 @@ pub const GREATEST_OFFSET: u32 = 99;
 const SECOND: u64 = 1_000_000_000;
 
 /// All that a caller gives beside the capture's bytes: "UDP to a given port",
-/// "the offset from the capture clock to the SMPTE epoch" in whole seconds, and
-/// the seven stream numbers.
+/// "the offset from the capture clock to the SMPTE epoch" in whole seconds, the
+/// seven stream numbers, and by request (vi) the test plan's edition.
 #[derive(Clone, Copy, Debug, PartialEq, Eq)]
 pub struct Asked {
     pub port: u16,
     pub offset: u32,
     pub numbers: Numbers,
+    pub edition: u32,
 }
 
 impl Asked {
-    /// The nine words that the program is called with.
+    /// The same by another edition.
+    pub fn by(&self, edition: u32) -> Asked {
+        Asked { edition, ..*self }
+    }
+
+    /// The ten words that the program is called with.
     pub fn words(&self) -> Vec<String> {
         let numbers = &self.numbers;
         [
@@ -51,6 +57,7 @@ impl Asked {
             numbers.packets_per_frame,
             numbers.maxudp,
             tro_field(numbers.tro),
+            u64::from(self.edition),
         ]
         .map(|number| number.to_string())
         .to_vec()
@@ -356,11 +363,11 @@ impl Reading {
     }
 }
 
-/// Set-up and a whole capture: 1 to 7, then 33, 30, then record by record 31,
+/// Set-up and a whole capture: 1 to 7, 8, then 33, 30, then record by record 31,
 /// 32 and 12 to 14 of the packet handed on. A packet is refused at its own
 /// record, so before any record that comes later in the file.
 pub fn read(asked: &Asked, bytes: &[u8]) -> Reading {
-    let limits = match set_up(&asked.numbers) {
+    let limits = match set_up(asked.edition, &asked.numbers) {
         Ok(limits) => limits,
         Err(number) => {
             return Reading {

@@ -2,49 +2,53 @@
 //!
 //! First those of the fixed inputs, which are document 01's own and reach every
 //! outcome; then those of as many generated inputs as are asked for. An input is
-//! one case, or several where a file is measured or written: the same under
-//! version 1, then under 2, then under others, which are refused. A file that is
-//! of no version stays as it is. A case is handed over as bytes, big-endian
-//! throughout:
+//! one case, or several. A file is measured in version 1 and in version 2, in each
+//! by edition 1 and by edition 2; then in other versions and by other editions,
+//! which are refused. A file that is of no version stays as it is. Lists are
+//! written in version 1, in 2 and in others. Captures are measured, and stream
+//! numbers set up, by edition 1, by 2 and by others; lists are fed by edition 1 and
+//! by 2, and set-up refuses their numbers by others. A case is handed over as
+//! bytes, big-endian throughout:
 //!
 //!   size of what follows (4), index (8), call (1), the call's input, rooms
 //!
 //! with the index of its input, and the input by call
 //!
-//!   1 measure: length (4), file
+//!   1 measure: edition (4), length (4), file
 //!   2 write:   version (1), seven numbers (15), three counts (4 each), arrivals
 //!              (8 each), timestamps (4 each), markers (1 each)
 //!   3 limits:  seven numbers (15)
 //!   4 graph:   three figures (8 each)
-//!   5 set-up:  seven numbers (15)
-//!   7 capture: seven numbers (15), port (2), offset (4), length (4), capture,
-//!              and which parts the frames have that it hands on (1): 1 a tag,
+//!   5 set-up:  seven numbers (15), edition (4)
+//!   7 capture: seven numbers (15), edition (4), port (2), offset (4), length
+//!              (4), capture, and which parts the frames have that it hands on (1): 1 a tag,
 //!              2 options, 4 contributors, 8 an extension
 //!   8 next read: seven numbers (15), arrival of the frame's first packet (8),
 //!              arrival of the packet that waits (8)
 //!
 //! and the rooms: count (1), for each elements lent (8), number (1) and place
 //! (8); then length (4) and bytes of what an accepted call writes, and for
-//! `write` length and bytes of what `measure` then makes of the file. What
-//! set-up writes is the library's own: the length is 0.
+//! `write` length and bytes of what `measure` then makes of the file by edition 1.
+//! What set-up writes is the library's own: the length is 0.
 //!
 //! A case of `feed` is a row of calls and has no rooms:
 //!
-//!   6 feed:    seven numbers (15), count (4), and for each call whether the
-//!              stream is set up before it (1), words lent (1), words changed
-//!              (1) with place (1) and value (8) of each, three counts (4
-//!              each), arrivals, timestamps and markers, row numbers lent (4),
-//!              summary numbers lent (1), number (1), place (8); and where the
-//!              number is 0, the summary (9 of 8) and the row numbers written,
-//!              counted (4), 8 each
+//!   6 feed:    seven numbers (15), edition (4), count (4), and for each call
+//!              whether the stream is set up before it (1), words lent (1),
+//!              words changed (1) with place (1) and value (8) of each, three
+//!              counts (4 each), arrivals, timestamps and markers, row numbers
+//!              lent (4), summary numbers lent (1), number (1), place (8); and
+//!              where the number is 0, the summary (9 of 8) and the row numbers
+//!              written, counted (4), 8 each
 
 use crate::capture::{expected_capture_call, parts_seen, Asked};
 use crate::feed::{cut_everywhere, dealt, ranges_after, Feed, Lists};
 use crate::fixed_captures::fixed_captures;
-use crate::generate::{damaged, file, front, other_version, random_bytes, under, OTHER_VERSIONS};
+use crate::generate::{damaged, file, front, other_edition, other_version, random_bytes, under};
+use crate::generate::{OTHER_EDITIONS, OTHER_VERSIONS};
 use crate::graph::graph;
 use crate::next_read::{next_read, three_numbers, Wait};
-use crate::numbers::{set_up, Numbers};
+use crate::numbers::{set_up, Numbers, EDITIONS, EDITION_1};
 use crate::output::expected_c_call;
 use crate::packet::{Packet, LONGEST_HISTORY};
 use crate::random::Random;
@@ -58,7 +62,10 @@ use crate::Refusal;
 /// What is called, and with what.
 #[derive(Clone, Debug, PartialEq)]
 pub enum Call {
-    Measure(Vec<u8>),
+    Measure {
+        file: Vec<u8>,
+        edition: u32,
+    },
     Write {
         version: u8,
         numbers: Numbers,
@@ -70,9 +77,13 @@ pub enum Call {
         margin: i64,
         latency: i64,
     },
-    SetUp(Numbers),
+    SetUp {
+        numbers: Numbers,
+        edition: u32,
+    },
     Feed {
         numbers: Numbers,
+        edition: u32,
         calls: Vec<Feed>,
     },
     Capture {
@@ -105,53 +116,143 @@ pub struct Case {
 /// In so many inputs in a row each kind of call has its share.
 pub const ROUND: u64 = 31;
 
-/// The cases of generated input `index` of a seed: of a file or lists under each
-/// version, and under another one.
+/// What an input is tried with beside versions 1 and 2 and editions 1 and 2:
+/// those that there are not. Which version goes with which edition takes turns.
+struct Others {
+    versions: Vec<u8>,
+    editions: Vec<u32>,
+    turn: usize,
+}
+
+impl Others {
+    /// All that are worth a look, for a fixed input.
+    fn fixed(turn: usize) -> Others {
+        Others {
+            versions: OTHER_VERSIONS.to_vec(),
+            editions: OTHER_EDITIONS.to_vec(),
+            turn,
+        }
+    }
+
+    /// One of each.
+    fn any(random: &mut Random, turn: usize) -> Others {
+        Others {
+            versions: vec![other_version(random)],
+            editions: vec![other_edition(random)],
+            turn,
+        }
+    }
+
+    /// Each edition that there is, and each of the others.
+    fn all_editions(&self) -> Vec<u32> {
+        [&EDITIONS[..], &self.editions].concat()
+    }
+}
+
+/// The cases of generated input `index` of a seed.
 pub fn cases(seed: u64, index: u64) -> Vec<Case> {
     // The files of `generate` depend on seed and number too; the other cases
     // must not repeat their choices.
     let mut random = Random::new(seed ^ 0x6361_7365, index);
-    let call = match index % ROUND {
-        0..=11 => Call::Measure(file(seed, index)),
-        12..=15 => lists(&mut random),
-        16 if index / ROUND % 2 == 0 => Call::Limits(any_numbers(&mut random)),
-        16 => Call::SetUp(any_numbers(&mut random)),
-        17..=18 => fed(&mut random),
-        19 => figures(&mut random),
-        20 => Call::NextRead(wait(&mut random)),
-        _ => {
-            let (asked, bytes) = capture(seed, index);
-            Call::Capture { asked, bytes }
-        }
+    let turn = (index + index / ROUND) as usize;
+    let others = Others::any(&mut Random::new(seed ^ 0x6f74_6865, index), turn);
+    let calls = match index % ROUND {
+        0..=11 => measured(&others, &file(seed, index)),
+        12..=15 => written(&others, lists(&mut random)),
+        16 if index / ROUND % 2 == 0 => vec![Call::Limits(any_numbers(&mut random))],
+        16 => set_ups(&others, any_numbers(&mut random)),
+        17..=18 => fed(&mut random, &others),
+        19 => vec![figures(&mut random)],
+        20 => vec![Call::NextRead(wait(&mut random))],
+        _ => captured(&others, capture(seed, index)),
     };
-    let [one, two] = VERSIONS;
-    let versions = [one, two, other_version(&mut random)];
-    answered_under(&versions, &mut random, call)
+    answered_all(&mut random, calls)
 }
 
-fn answered_under(versions: &[u8], random: &mut Random, call: Call) -> Vec<Case> {
-    let calls = of_versions(versions, call).into_iter();
+fn answered_all(random: &mut Random, calls: Vec<Call>) -> Vec<Case> {
+    let calls = calls.into_iter();
     calls.map(|call| answered(random, call)).collect()
 }
 
-/// The same file, or the same lists, under each of these versions; any other
-/// call has none.
-fn of_versions(versions: &[u8], call: Call) -> Vec<Call> {
-    match call {
-        Call::Measure(file) => under(versions, &file)
-            .into_iter()
-            .map(Call::Measure)
-            .collect(),
-        Call::Write { numbers, lists, .. } => versions
-            .iter()
-            .map(|&version| Call::Write {
-                version,
-                numbers,
-                lists: lists.clone(),
-            })
-            .collect(),
-        _ => vec![call],
+/// The same file in each version by each edition. Then in versions that there are
+/// not, by any edition, and by editions that there are not, in any version.
+fn measured(others: &Others, file: &[u8]) -> Vec<Call> {
+    let call = |file: &[u8], edition: u32| Call::Measure {
+        file: file.to_vec(),
+        edition,
+    };
+    let mut calls = vec![];
+    let good = under(&VERSIONS, file);
+    for file in &good {
+        calls.extend(EDITIONS.map(|edition| call(file, edition)));
     }
+    // One that is of no version has none to change.
+    if good.len() > 1 {
+        let editions = others.all_editions();
+        let turns = editions.iter().cycle().skip(others.turn);
+        let files = under(&others.versions, file);
+        calls.extend(
+            files
+                .iter()
+                .zip(turns)
+                .map(|(file, edition)| call(file, *edition)),
+        );
+    }
+    let turns = good.iter().cycle().skip(others.turn);
+    let editions = others.editions.iter();
+    calls.extend(
+        editions
+            .zip(turns)
+            .map(|(edition, file)| call(file, *edition)),
+    );
+    calls
+}
+
+/// The same lists, to be written in each version and in others.
+fn written(others: &Others, (numbers, lists): (Numbers, Lists)) -> Vec<Call> {
+    let versions = [&VERSIONS[..], &others.versions].concat();
+    let call = |version: u8| Call::Write {
+        version,
+        numbers,
+        lists: lists.clone(),
+    };
+    versions.into_iter().map(call).collect()
+}
+
+/// The same capture by each edition and by others.
+fn captured(others: &Others, (asked, bytes): (Asked, Vec<u8>)) -> Vec<Call> {
+    let call = |edition: u32| Call::Capture {
+        asked: asked.by(edition),
+        bytes: bytes.clone(),
+    };
+    others.all_editions().into_iter().map(call).collect()
+}
+
+/// The same numbers by each edition and by others.
+fn set_ups(others: &Others, numbers: Numbers) -> Vec<Call> {
+    let editions = others.all_editions().into_iter();
+    let call = |edition: u32| Call::SetUp { numbers, edition };
+    editions.map(call).collect()
+}
+
+/// A list fed by each edition; and as no stream is set up by any other, its
+/// numbers are set up by those alone.
+fn fed_by_each(
+    others: &Others,
+    numbers: Numbers,
+    mut calls: impl FnMut(u32) -> Vec<Feed>,
+) -> Vec<Call> {
+    let mut all = vec![];
+    for edition in EDITIONS {
+        all.push(Call::Feed {
+            numbers,
+            edition,
+            calls: calls(edition),
+        });
+    }
+    let editions = others.editions.iter();
+    all.extend(editions.map(|&edition| Call::SetUp { numbers, edition }));
+    all
 }
 
 /// The call with each room that is worth lending, and the answers.
@@ -190,7 +291,7 @@ struct Written {
 /// them has an answer of its own.
 fn outcome(call: &Call) -> Result<Written, Refusal> {
     match call {
-        Call::Measure(file) => of_bytes(expected_c_call(file, usize::MAX)),
+        Call::Measure { file, edition } => of_bytes(expected_c_call(*edition, file, usize::MAX)),
         Call::Capture { asked, bytes } => of_bytes(expected_capture_call(asked, bytes, usize::MAX)),
         Call::Write {
             version,
@@ -198,14 +299,15 @@ fn outcome(call: &Call) -> Result<Written, Refusal> {
             lists,
         } => {
             let file = writer(*version, numbers, lists.lent(), usize::MAX)?;
-            let measured = expected_c_call(&file, usize::MAX).2;
+            let measured = expected_c_call(EDITION_1, &file, usize::MAX).2;
             Ok(Written {
                 elements: file.len() as u64,
                 filled: file,
                 measured: measured.expect("what is written is accepted"),
             })
         }
-        Call::Limits(numbers) => of_eights(set_up(numbers).map(|limits| {
+        // It "mean[s] edition 1", as all that takes none.
+        Call::Limits(numbers) => of_eights(set_up(EDITION_1, numbers).map(|limits| {
             let four = [limits.frame, limits.tro, limits.c_max, limits.vrx_full];
             four.map(|number| number as u64)
         })),
@@ -219,10 +321,13 @@ fn outcome(call: &Call) -> Result<Written, Refusal> {
         })),
         Call::NextRead(wait) => of_eights(next_read(wait).map(three_numbers)),
         // What stands in the words is the library's own.
-        Call::SetUp(numbers) => of_eights(set_up(numbers).map(|_| [])).map(|nothing| Written {
-            elements: STATE_WORDS,
-            ..nothing
-        }),
+        Call::SetUp { numbers, edition } => {
+            let nothing = of_eights(set_up(*edition, numbers).map(|_| []))?;
+            Ok(Written {
+                elements: STATE_WORDS,
+                ..nothing
+            })
+        }
         Call::Feed { .. } => Ok(Written::default()),
     }
 }
@@ -278,7 +383,7 @@ fn room(call: &Call, outcome: &Result<Written, Refusal>, lent: u64) -> Room {
 /// fewer than the file needs", and its place is 0 as that of every other 15 here.
 fn too_few(call: &Call) -> (u8, u64) {
     match call {
-        Call::Measure(file) => (15, file.len() as u64),
+        Call::Measure { file, .. } => (15, file.len() as u64),
         Call::Write { .. } => (24, 0),
         _ => (15, 0),
     }
@@ -288,7 +393,7 @@ fn too_few(call: &Call) -> (u8, u64) {
 
 /// A stream as three lists, now and then with refused numbers, or with lists
 /// that differ in length by one or by all, where a list may be refused too.
-fn lists(random: &mut Random) -> Call {
+fn lists(random: &mut Random) -> (Numbers, Lists) {
     let (mut numbers, mut packets) = stream(random);
     packets.truncate(random.pick(&[2, 20, 200, 200, 2000, 20_000]));
     if random.chance(5) {
@@ -309,28 +414,22 @@ fn lists(random: &mut Random) -> Call {
             _ => lists.markers.push(random.pick(&[0, 1, 2])),
         }
     }
-    to_write(numbers, lists)
+    (numbers, lists)
 }
 
-/// To be written as some version: which, is said by `of_versions`.
-fn to_write(numbers: Numbers, lists: Lists) -> Call {
-    Call::Write {
-        version: VERSIONS[0],
-        numbers,
-        lists,
-    }
-}
-
-/// A stream dealt out over calls; a short one cut everywhere, now and then.
-fn fed(random: &mut Random) -> Call {
+/// A stream dealt out over calls; a short one cut everywhere, now and then. By
+/// each edition it is dealt out anew.
+fn fed(random: &mut Random, others: &Others) -> Vec<Call> {
     let (numbers, mut packets) = stream(random);
     packets.truncate(random.pick(&[2, 12, 12, 60, 60, 200, 200, 400, 2000]));
-    let calls = if packets.len() <= 12 && random.chance(30) {
-        cut_everywhere(&numbers, &packets, 4)
-    } else {
-        dealt(random, &numbers, &packets)
-    };
-    Call::Feed { numbers, calls }
+    let everywhere = packets.len() <= 12 && random.chance(30);
+    fed_by_each(others, numbers, |edition| {
+        if everywhere {
+            cut_everywhere(edition, &numbers, &packets, 4)
+        } else {
+            dealt(random, edition, &numbers, &packets)
+        }
+    })
 }
 
 fn any_numbers(random: &mut Random) -> Numbers {
@@ -405,18 +504,24 @@ fn example() -> Vec<Packet> {
 /// limit, its example, and one of each outcome, so that none depends on the seed.
 pub fn fixed() -> Vec<Vec<Case>> {
     let mut random = Random::new(0, 0);
-    let versions = [&VERSIONS[..], &OTHER_VERSIONS].concat();
-    let mut calls: Vec<Call> = fixed_numbers().into_iter().map(Call::Limits).collect();
-    calls.extend(fixed_lists());
-    calls.extend(fixed_files(&mut random));
-    calls.extend(fixed_figures());
-    calls.extend(fixed_feeds());
-    let captures = captures().into_iter();
-    calls.extend(captures.map(|(asked, bytes)| Call::Capture { asked, bytes }));
-    calls.extend(waits().into_iter().map(Call::NextRead));
-    calls
+    let alone = |call| vec![call];
+    let numbers = fixed_numbers().into_iter().map(Call::Limits);
+    let mut inputs: Vec<Vec<Call>> = numbers.map(alone).collect();
+    for (turn, lists) in fixed_lists().into_iter().enumerate() {
+        inputs.push(written(&Others::fixed(turn), lists));
+    }
+    for (turn, file) in fixed_files(&mut random).iter().enumerate() {
+        inputs.push(measured(&Others::fixed(turn), file));
+    }
+    inputs.extend(fixed_figures().into_iter().map(alone));
+    inputs.extend(fixed_feeds());
+    for (turn, capture) in captures().into_iter().enumerate() {
+        inputs.push(captured(&Others::fixed(turn), capture));
+    }
+    inputs.extend(waits().into_iter().map(Call::NextRead).map(alone));
+    inputs
         .into_iter()
-        .map(|call| answered_under(&versions, &mut random, call))
+        .map(|calls| answered_all(&mut random, calls))
         .collect()
 }
 
@@ -549,6 +654,87 @@ pub fn class_0_streams() -> Vec<(Numbers, Vec<Packet>)> {
     [at_the_limits((0, 0)), at_the_limits((1, 0))].concat()
 }
 
+/// Request (vi): a frame as it is sent, which passes, fails or is broken.
+#[derive(Clone, Copy, Debug, PartialEq, Eq)]
+enum Sent {
+    Good,
+    /// Its first packet comes after read 0.
+    Late,
+    /// All packets before read 0, of which the buffer holds one.
+    Piled,
+    Short,
+    Long,
+    Stamp,
+    /// Without its marker: it is still open, or makes the next one long.
+    Open,
+}
+
+const SENT: [Sent; 6] = [
+    Sent::Good,
+    Sent::Late,
+    Sent::Piled,
+    Sent::Short,
+    Sent::Long,
+    Sent::Stamp,
+];
+
+/// A lead-in, and frames of four packets as they are named. Frame times are 20 ms
+/// apart, read 0 comes 764,444 ns after each, and the others 4.8 ms apart.
+fn sent(frames: &[Sent]) -> (Numbers, Vec<Packet>) {
+    let mut list = packets(&[(1_000_000, 0, 0), (1_000_000, 0, 1)]);
+    for (frame, sent) in (1..).zip(frames) {
+        let (first, step) = match sent {
+            Sent::Late => (800_000, 4_700_000),
+            Sent::Piled => (700_000, 0),
+            _ => (700_000, 4_800_000),
+        };
+        let count = match sent {
+            Sent::Short => 3,
+            Sent::Long => 5,
+            _ => 4,
+        };
+        for j in 0..count {
+            let arrival = frame * 20_000_000 + first + j * step;
+            let other = u32::from(*sent == Sent::Stamp && j == 2);
+            let marker = u8::from(j + 1 == count && *sent != Sent::Open);
+            list.push(Packet::new(arrival, 1800 * frame as u32 + other, marker));
+        }
+    }
+    let numbers = Numbers {
+        maxudp: 8960,
+        ..NARROW
+    };
+    (numbers, list)
+}
+
+/// Request (vi): frames that pass, that fail and that are broken, alone, in each
+/// order of two, after one that passes, and before one that is still open; and
+/// lists of which no frame closes.
+pub fn edition_streams() -> Vec<(Numbers, Vec<Packet>)> {
+    let mut lists = vec![vec![], vec![Sent::Open], vec![Sent::Open, Sent::Open]];
+    lists.push(vec![Sent::Good; 3]);
+    for first in SENT {
+        lists.push(vec![first]);
+        lists.push(vec![first, Sent::Open]);
+        for second in SENT {
+            lists.push(vec![first, second]);
+            if first != Sent::Good {
+                lists.push(vec![Sent::Good, first, second]);
+            }
+        }
+    }
+    let (numbers, lead_in) = sent(&[]);
+    let mut all: Vec<(Numbers, Vec<Packet>)> = lists.iter().map(|list| sent(list)).collect();
+    // A lead-in that goes on, and frames of one packet: none can be short.
+    all.push((numbers, lead_in[..1].to_vec()));
+    let one = Numbers {
+        packets_per_frame: 1,
+        ..numbers
+    };
+    all.extend([sent(&[Sent::Good]).1, sent(&[Sent::Open]).1].map(|list| (one, list)));
+    all
+}
+
 /// Lists that document 01 speaks of, with the numbers they need, and those of
 /// requests (v) and (viii).
 fn streams() -> Vec<(Numbers, Vec<Packet>)> {
@@ -640,10 +826,10 @@ fn streams() -> Vec<(Numbers, Vec<Packet>)> {
     [of_document_01, wraps_and_ties(), by_class].concat()
 }
 
-fn fixed_lists() -> Vec<Call> {
-    let mut calls = vec![];
+fn fixed_lists() -> Vec<(Numbers, Lists)> {
+    let mut all = vec![];
     for (numbers, packets) in streams() {
-        calls.push(to_write(numbers, Lists::of(&packets)));
+        all.push((numbers, Lists::of(&packets)));
     }
     let so_many = |arrivals, timestamps, markers| Lists {
         arrivals: vec![1; arrivals],
@@ -652,20 +838,21 @@ fn fixed_lists() -> Vec<Call> {
         markers: vec![2; markers],
     };
     for (arrivals, timestamps, markers) in [(1, 2, 2), (2, 1, 2), (2, 2, 1), (0, 0, 1), (1, 0, 0)] {
-        calls.push(to_write(NARROW, so_many(arrivals, timestamps, markers)));
+        all.push((NARROW, so_many(arrivals, timestamps, markers)));
     }
     for numbers in [fixed_numbers(), mended_numbers()].concat() {
         // 1 to 7 come before 10, which comes before 11.
-        calls.push(to_write(numbers, so_many(1, 0, 0)));
-        calls.push(to_write(numbers, so_many(0, 1, 2)));
+        all.push((numbers, so_many(1, 0, 0)));
+        all.push((numbers, so_many(0, 1, 2)));
     }
-    calls
+    all
 }
 
-fn fixed_files(random: &mut Random) -> Vec<Call> {
+fn fixed_files(random: &mut Random) -> Vec<Vec<u8>> {
     let [version, _] = VERSIONS;
     let written = |numbers: &Numbers, packets: &[Packet]| write(version, numbers, packets);
-    let mut files: Vec<Vec<u8>> = streams().iter().map(|(n, p)| written(n, p)).collect();
+    let lists = [streams(), edition_streams()].concat();
+    let mut files: Vec<Vec<u8>> = lists.iter().map(|(n, p)| written(n, p)).collect();
     for numbers in [fixed_numbers(), mended_numbers()].concat() {
         files.push(written(&numbers, &[]));
     }
@@ -686,7 +873,7 @@ fn fixed_files(random: &mut Random) -> Vec<Call> {
         files.push(damaged(random));
         files.push(random_bytes(random));
     }
-    files.into_iter().map(Call::Measure).collect()
+    files
 }
 
 /// Records that are cut, of an unknown kind, of a wrong length, out of their
@@ -744,15 +931,19 @@ fn fixed_figures() -> Vec<Call> {
     calls
 }
 
-/// Every list of document 01 cut everywhere, and both sides of every range of
-/// a state, in the lead-in, at a frame's end and within a frame.
-fn fixed_feeds() -> Vec<Call> {
-    let mut calls: Vec<Call> = fixed_numbers().into_iter().map(Call::SetUp).collect();
-    for (numbers, packets) in streams() {
-        calls.push(Call::Feed {
-            numbers,
-            calls: cut_everywhere(&numbers, &packets, usize::MAX),
-        });
+/// Every list of document 01 cut everywhere, those of request (vi) in two, and both
+/// sides of every range of a state, in the lead-in, at a frame's end and within a
+/// frame; all by each edition.
+fn fixed_feeds() -> Vec<Vec<Call>> {
+    let numbers = [fixed_numbers(), mended_numbers()].concat();
+    let set_up = |(turn, numbers)| set_ups(&Others::fixed(turn), numbers);
+    let mut inputs: Vec<Vec<Call>> = numbers.into_iter().enumerate().map(set_up).collect();
+    let everywhere = streams().into_iter().map(|stream| (stream, usize::MAX));
+    let in_two = edition_streams().into_iter().map(|stream| (stream, 0));
+    for ((numbers, packets), in_three) in everywhere.chain(in_two) {
+        inputs.push(fed_by_each(&Others::fixed(0), numbers, |edition| {
+            cut_everywhere(edition, &numbers, &packets, in_three)
+        }));
     }
     let late = packets(&[
         (700_000_000_000, 0, 0),
@@ -764,16 +955,19 @@ fn fixed_feeds() -> Vec<Call> {
         (700_019_000_004, 7, 1),
         (700_038_000_000, 9, 0),
     ]);
+    // By edition 2 the answer is broken after seven packets of the one, and after
+    // five of the other, where it becomes under by edition 1 after nine.
+    let (numbers, broken) = sent(&[Sent::Short, Sent::Late]);
     for (numbers, packets, ends) in [
         (NARROW, example(), vec![0, 1, 2, 5]),
         (NARROW, late, vec![0, 1, 3, 5, 7, 8]),
+        (numbers, broken, vec![5, 7, 9]),
     ] {
-        calls.push(Call::Feed {
-            numbers,
-            calls: ranges_after(&numbers, &packets, &ends),
-        });
+        inputs.push(fed_by_each(&Others::fixed(0), numbers, |edition| {
+            ranges_after(edition, &numbers, &packets, &ends)
+        }));
     }
-    calls
+    inputs
 }
 
 /// The fixed waits for the next read.
@@ -781,9 +975,10 @@ pub fn waits() -> Vec<Wait> {
     fixed_waits(&fixed_numbers())
 }
 
-/// The fixed captures, with what is asked of each.
+/// The fixed captures, with what is asked of each, by edition 1.
 pub fn captures() -> Vec<(Asked, Vec<u8>)> {
-    fixed_captures(&streams(), &fixed_numbers())
+    let streams = [streams(), edition_streams()].concat();
+    fixed_captures(&streams, &fixed_numbers())
 }
 
 // --- as bytes ---
@@ -812,8 +1007,9 @@ impl Case {
 
 fn push_call(body: &mut Vec<u8>, call: &Call) {
     match call {
-        Call::Measure(file) => {
+        Call::Measure { file, edition } => {
             body.push(1);
+            body.extend(edition.to_be_bytes());
             push_counted(body, file);
         }
         Call::Write {
@@ -835,9 +1031,17 @@ fn push_call(body: &mut Vec<u8>, call: &Call) {
             body.push(4);
             body.extend(figures.iter().flat_map(|figure| figure.to_be_bytes()));
         }
-        Call::SetUp(numbers) => push_seven(body, 5, numbers),
-        Call::Feed { numbers, calls } => {
+        Call::SetUp { numbers, edition } => {
+            push_seven(body, 5, numbers);
+            body.extend(edition.to_be_bytes());
+        }
+        Call::Feed {
+            numbers,
+            edition,
+            calls,
+        } => {
             push_seven(body, 6, numbers);
+            body.extend(edition.to_be_bytes());
             body.extend((calls.len() as u32).to_be_bytes());
             calls.iter().for_each(|feed| push_feed(body, feed));
         }
@@ -857,6 +1061,7 @@ fn push_seven(body: &mut Vec<u8>, call: u8, numbers: &Numbers) {
 
 fn push_capture(body: &mut Vec<u8>, asked: &Asked, bytes: &[u8]) {
     push_seven(body, 7, &asked.numbers);
+    body.extend(asked.edition.to_be_bytes());
     body.extend(asked.port.to_be_bytes());
     body.extend(asked.offset.to_be_bytes());
     push_counted(body, bytes);

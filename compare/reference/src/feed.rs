@@ -8,11 +8,11 @@
 use std::collections::BTreeMap;
 
 use crate::measure::{measure_accepted, Measurement, Row, ROW_NUMBERS};
-use crate::numbers::{set_up, Limits, Numbers};
+use crate::numbers::{set_up, Numbers};
 use crate::output::nine_numbers;
 use crate::packet::{first_refused, zip, Packet, Past, LONGEST_HISTORY, MOST_PACKETS};
 use crate::random::Random;
-use crate::ranges::{changed_nine, changes, Change, PACKETS, STATE_WORDS};
+use crate::ranges::{changed_nine, changes, Change, Stream, PACKETS, STATE_WORDS};
 use crate::Refusal;
 
 /// The numbers that sum up a state.
@@ -65,8 +65,7 @@ pub struct Feed {
 
 /// A list of accepted packets as it is dealt out, and the calls made of it.
 struct Feeder {
-    numbers: Numbers,
-    limits: Limits,
+    stream: Stream,
     list: Vec<Packet>,
     /// How many packets of the list have been fed.
     fed: usize,
@@ -77,11 +76,14 @@ struct Feeder {
 }
 
 impl Feeder {
-    /// Set-up accepts the numbers.
-    fn new(numbers: &Numbers, list: &[Packet]) -> Feeder {
+    /// Set-up accepts the edition and the numbers.
+    fn new(edition: u32, numbers: &Numbers, list: &[Packet]) -> Feeder {
+        let limits = set_up(edition, numbers).expect("numbers of a stream that is fed");
         Feeder {
-            numbers: *numbers,
-            limits: set_up(numbers).expect("numbers of a stream that is fed"),
+            stream: Stream {
+                numbers: *numbers,
+                limits,
+            },
             list: list.to_vec(),
             fed: 0,
             measured: BTreeMap::new(),
@@ -99,9 +101,15 @@ impl Feeder {
         &self.list[..self.fed]
     }
 
+    /// Both sides of every range of the state that has been reached.
+    fn changes(&mut self) -> Vec<Change> {
+        let so_far = self.up_to(self.fed);
+        changes(&self.stream, self.history(), &so_far)
+    }
+
     /// The whole list up to a place, measured as one.
     fn up_to(&mut self, end: usize) -> Measurement {
-        let (limits, list) = (&self.limits, &self.list);
+        let (limits, list) = (&self.stream.limits, &self.list);
         let measured = || measure_accepted(limits, &list[..end]);
         self.measured.entry(end).or_insert_with(measured).clone()
     }
@@ -244,7 +252,7 @@ fn wrong_packet(feeder: &mut Feeder, random: &mut Random, end: usize) {
 /// Words that are no state in range, words that just are one, and a state that
 /// has had all the packets there may be.
 fn other_words(feeder: &mut Feeder, random: &mut Random, end: usize) {
-    let all = changes(&feeder.numbers, feeder.history());
+    let all = feeder.changes();
     let packets = feeder.list[feeder.fed..end].to_vec();
     for _ in 0..6 {
         let mut lists = Lists::of(&packets);
@@ -254,7 +262,7 @@ fn other_words(feeder: &mut Feeder, random: &mut Random, end: usize) {
         }
         feeder.changed(&all[random.place(all.len())], lists);
     }
-    let words = random.pick(&[0, 1, 31, 31]);
+    let words = random.pick(&[0, 1, STATE_WORDS - 1, STATE_WORDS - 1]);
     feeder.call(Lists::of(&packets), PLENTY, SUMMARY).words = words;
     let (fewer, marker) = (random.below(3), random.pick(&[0, 1, 1, 2]));
     feeder.full(fewer, marker);
@@ -265,9 +273,14 @@ fn other_words(feeder: &mut Feeder, random: &mut Random, end: usize) {
 /// A stream dealt out: at once, and again over some calls, with calls that are
 /// refused in between. A packet that is refused is tried last, by itself and
 /// with half of those before it.
-pub fn dealt(random: &mut Random, numbers: &Numbers, packets: &[Packet]) -> Vec<Feed> {
+pub fn dealt(
+    random: &mut Random,
+    edition: u32,
+    numbers: &Numbers,
+    packets: &[Packet],
+) -> Vec<Feed> {
     let (good, bad) = split(packets);
-    let mut feeder = Feeder::new(numbers, good);
+    let mut feeder = Feeder::new(edition, numbers, good);
     feeder.accepted(good.len(), [0, random.below(20), 0]);
     feeder.set_up_again();
     let mut ends: Vec<usize> = (0..random.below(5))
@@ -299,9 +312,14 @@ pub fn dealt(random: &mut Random, numbers: &Numbers, packets: &[Packet]) -> Vec<
 
 /// A short stream at once, then cut in two at each place, and in three at each
 /// pair of places among the first so many; every call with just enough room.
-pub fn cut_everywhere(numbers: &Numbers, packets: &[Packet], in_three: usize) -> Vec<Feed> {
+pub fn cut_everywhere(
+    edition: u32,
+    numbers: &Numbers,
+    packets: &[Packet],
+    in_three: usize,
+) -> Vec<Feed> {
     let (good, bad) = split(packets);
-    let mut feeder = Feeder::new(numbers, good);
+    let mut feeder = Feeder::new(edition, numbers, good);
     feeder.accepted(good.len(), [0; 3]);
     let last = good.len().min(in_three);
     let three = (0..=last).flat_map(|first| (first..=last).map(move |second| (first, second)));
@@ -320,15 +338,20 @@ pub fn cut_everywhere(numbers: &Numbers, packets: &[Packet], in_three: usize) ->
 
 /// Both sides of every range, after each of some first packets of a stream,
 /// and the other refusals there.
-pub fn ranges_after(numbers: &Numbers, packets: &[Packet], ends: &[usize]) -> Vec<Feed> {
+pub fn ranges_after(
+    edition: u32,
+    numbers: &Numbers,
+    packets: &[Packet],
+    ends: &[usize],
+) -> Vec<Feed> {
     let mut random = Random::new(0, 9);
-    let mut feeder = Feeder::new(numbers, packets);
+    let mut feeder = Feeder::new(edition, numbers, packets);
     for &end in ends {
         feeder.accepted(end, [0; 3]);
-        for change in changes(numbers, &packets[..end]) {
+        for change in feeder.changes() {
             feeder.changed(&change, Lists::default());
         }
-        for words in [0, 1, 31] {
+        for words in [0, 1, STATE_WORDS - 1] {
             feeder.call(Lists::default(), 0, SUMMARY).words = words;
         }
         for (fewer, marker) in [(0, 0), (0, 1), (0, 2), (1, 0), (2, 1)] {

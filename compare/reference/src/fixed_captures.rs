@@ -3,7 +3,7 @@
 //! small capture cut and changed at every place.
 
 use crate::capture::{Asked, GREATEST_OFFSET, MICROSECONDS, NANOSECONDS};
-use crate::numbers::Numbers;
+use crate::numbers::{Numbers, EDITION_1};
 use crate::packet::{Packet, LONGEST_HISTORY};
 use crate::pcap::{Capture, Frame, IPV4, TAG};
 use crate::traffic::{OTHER_TAGS, WRONG_LINKS, WRONG_MAGICS};
@@ -24,12 +24,14 @@ const ASKED: Asked = Asked {
     port: PORT,
     offset: 37,
     numbers: ONE_A_FRAME,
+    edition: EDITION_1,
 };
 
 type Captures = Vec<(Asked, Vec<u8>)>;
 
 /// All of them; with captures of the given streams, and the given numbers asked
-/// of a capture, some of which set-up refuses.
+/// of a capture, some of which set-up refuses. Each by edition 1: by which others
+/// it is measured, `cases` says.
 pub fn fixed_captures(streams: &[(Numbers, Vec<Packet>)], numbers: &[Numbers]) -> Captures {
     [
         of_streams(streams),
@@ -120,6 +122,7 @@ fn of_streams(streams: &[(Numbers, Vec<Packet>)]) -> Captures {
                 port: PORT,
                 offset: 0,
                 numbers: *numbers,
+                edition: EDITION_1,
             };
             captures.push((asked, capture.bytes()));
         }

@@ -3,7 +3,7 @@
 use std::io;
 use std::path::Path;
 
-use crate::numbers::Numbers;
+use crate::numbers::{Numbers, EDITIONS};
 use crate::packet::Packet;
 use crate::random::Random;
 use crate::record::{packet_body, parameters_body, record, write, VERSIONS};
@@ -17,6 +17,22 @@ pub(crate) fn other_version(random: &mut Random) -> u8 {
     let [below, above, last] = OTHER_VERSIONS;
     let any = random.between(i128::from(above), i128::from(last)) as u8;
     random.pick(&[below, above, last, any])
+}
+
+/// Editions that are refused by 8: those beside 1 and 2, the last of a byte and
+/// the last of all.
+pub const OTHER_EDITIONS: [u32; 4] = [0, 3, 255, u32::MAX];
+
+/// One of these, or any that is neither 1 nor 2; some of them are 1 or 2 in their
+/// last byte.
+pub(crate) fn other_edition(random: &mut Random) -> u32 {
+    let any = random.between(3, i128::from(u32::MAX)) as u32;
+    let high = random
+        .pick(&[1 << 8, 1 << 16, 1 << 31, any & !0xff])
+        .max(1 << 8);
+    let lookalike = high | random.pick(&EDITIONS);
+    let [zero, three, byte, last] = OTHER_EDITIONS;
+    random.pick(&[zero, three, byte, last, any, lookalike])
 }
 
 /// The file with each of these version bytes, everything else the same, if it is

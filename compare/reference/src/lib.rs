@@ -38,7 +38,7 @@ pub use capture::{expected_capture_call, expected_capture_output, expected_packe
 pub use graph::{graph, Graph};
 pub use measure::{measure, Buffer, Measurement, Network};
 pub use next_read::{next_read, NextRead, Wait};
-pub use numbers::{set_up, Limits, Numbers};
+pub use numbers::{set_up, Edition, Limits, Numbers, EDITIONS, EDITION_1, EDITION_2};
 pub use output::{expected_c_call, expected_output};
 pub use packet::Packet;
 pub use record::{parse, write, writer};

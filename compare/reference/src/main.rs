@@ -11,18 +11,19 @@ use vtiming_reference::program::{capture_inputs, inputs, run_all, Told, OF_CAPTU
 use vtiming_reference::traffic;
 use vtiming_reference::{expected_c_call, expected_output, graph, next_read, set_up};
 use vtiming_reference::{expected_capture_call, expected_capture_output, expected_packets, Asked};
-use vtiming_reference::{Numbers, Wait};
+use vtiming_reference::{Numbers, Wait, EDITION_1};
 
 const USAGE: &str = "usage:
   reference print FILE|-          what vtiming prints for the file
-  reference ccall ROOM FILE|-     number, offset and bytes of the C call
+  reference ccall EDITION ROOM FILE|-
+                                  number, offset and bytes of the C call
   reference limits RATE SCHEDULE CLASS HEIGHT N MAXUDP TRO|default
   reference next-read RATE SCHEDULE CLASS HEIGHT N MAXUDP TRO|default FIRST ARRIVAL
                                   how long a packet waits for the next read of its frame
   reference graph FPT MARGIN VL   the graph's doubles for figures in grains
-  reference capture PORT OFFSET RATE SCHEDULE CLASS HEIGHT N MAXUDP TRO|default FILE|-
+  reference capture PORT OFFSET RATE SCHEDULE CLASS HEIGHT N MAXUDP TRO|default EDITION FILE|-
                                   what vcapture prints for the capture
-  reference capturecall ROOM PORT OFFSET RATE SCHEDULE CLASS HEIGHT N MAXUDP TRO|default FILE|-
+  reference capturecall ROOM PORT OFFSET RATE SCHEDULE CLASS HEIGHT N MAXUDP TRO|default EDITION FILE|-
                                   number, place and bytes of the C call on a capture
   reference packets PORT OFFSET FILE|-
                                   each record of the capture: skipped, or the packet it hands on
@@ -39,21 +40,21 @@ const USAGE: &str = "usage:
                                   that differs is copied to KEEP
   reference captures SEED COUNT DIR[:DIR..] KEEP COMMAND..
                                   the same of vcapture, on COUNT generated captures, on fixed ones and on
-                                  the .pcap files of each DIR; the nine words follow those of COMMAND";
+                                  the .pcap files of each DIR; the ten words follow those of COMMAND";
 
 fn main() {
     let arguments: Vec<String> = std::env::args().skip(1).collect();
     let words: Vec<&str> = arguments.iter().map(|word| word.as_str()).collect();
     let done = match words.as_slice() {
         ["print", file] => print(file),
-        ["ccall", room, file] => c_call(room, file),
+        ["ccall", edition, room, file] => c_call(edition, room, file),
         ["limits", numbers @ ..] if numbers.len() == 7 => limits(numbers),
         ["next-read", numbers @ .., first, arrival] if numbers.len() == 7 => {
             wait(numbers, first, arrival)
         }
         ["graph", fpt, margin, vl] => figures(fpt, margin, vl),
-        ["capture", asked @ .., file] if asked.len() == 9 => capture(asked, file),
-        ["capturecall", room, asked @ .., file] if asked.len() == 9 => {
+        ["capture", asked @ .., file] if asked.len() == 10 => capture(asked, file),
+        ["capturecall", room, asked @ .., file] if asked.len() == 10 => {
             capture_call(room, asked, file)
         }
         ["packets", port, offset, file] => packets(port, offset, file),
@@ -105,8 +106,9 @@ fn print(file: &str) -> io::Result<()> {
     say(&expected_output(&contents(file)?))
 }
 
-fn c_call(room: &str, file: &str) -> io::Result<()> {
-    say_answer(expected_c_call(&contents(file)?, number(room)?))
+fn c_call(edition: &str, room: &str, file: &str) -> io::Result<()> {
+    let (edition, room) = (number(edition)?, number(room)?);
+    say_answer(expected_c_call(edition, &contents(file)?, room))
 }
 
 fn say_answer((number, place, filled): (u8, u64, Option<Vec<u8>>)) -> io::Result<()> {
@@ -130,12 +132,13 @@ fn packets(port: &str, offset: &str, file: &str) -> io::Result<()> {
     say(&expected_packets(&contents(file)?, port, offset))
 }
 
-/// Port and offset, and then the seven numbers.
+/// Port and offset, then the seven numbers, and the edition.
 fn asked(words: &[&str]) -> io::Result<Asked> {
     Ok(Asked {
         port: number(words[0])?,
         offset: number(words[1])?,
-        numbers: seven(&words[2..])?,
+        numbers: seven(&words[2..9])?,
+        edition: number(words[9])?,
     })
 }
 
@@ -152,7 +155,7 @@ fn seven(words: &[&str]) -> io::Result<Numbers> {
 }
 
 fn limits(words: &[&str]) -> io::Result<()> {
-    say(&match set_up(&seven(words)?) {
+    say(&match set_up(EDITION_1, &seven(words)?) {
         Err(number) => format!("refused {}\n", number),
         Ok(limits) => format!(
             "F {} TRO {} C_MAX {} VRX_FULL {}\n",

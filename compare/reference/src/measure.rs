@@ -2,7 +2,7 @@
 
 use crate::bucket::{bucket, Run};
 use crate::frame::{closed_frames, times, Frame, Kind};
-use crate::numbers::{set_up, Limits, Numbers};
+use crate::numbers::{set_up, Edition, Limits, Numbers};
 use crate::packet::{first_refused, Packet, Past};
 use crate::reads::reading;
 use crate::Refusal;
@@ -21,13 +21,16 @@ pub enum Network {
 
 /// "Buffer: none (no whole frame yet); pass; under (least below 0) with frame
 /// and the lowest j whose packet arrives after read j; over (VRX peak above
-/// VRX_FULL) with frame and peak."
+/// VRX_FULL) with frame and peak." Request (vi): "Under edition 2 the buffer
+/// answer gains a case that names frame and kind; [...] and none means no frame
+/// closed."
 #[derive(Clone, Copy, Debug, PartialEq, Eq)]
 pub enum Buffer {
     None,
     Pass,
     Under { frame: u64, packet: u64 },
     Over { frame: u64, peak: i128 },
+    Broken { frame: u64, kind: u64 },
 }
 
 #[derive(Clone, Debug, PartialEq, Eq)]
@@ -42,8 +45,12 @@ pub struct Measurement {
 
 /// Set-up and one list. Set-up's refusals have place 0, a packet's has its
 /// place in the list.
-pub fn measure(numbers: &Numbers, packets: &[Packet]) -> Result<Measurement, Refusal> {
-    let limits = set_up(numbers).map_err(|number| Refusal::new(number, 0))?;
+pub fn measure(
+    edition: u32,
+    numbers: &Numbers,
+    packets: &[Packet],
+) -> Result<Measurement, Refusal> {
+    let limits = set_up(edition, numbers).map_err(|number| Refusal::new(number, 0))?;
     match first_refused(Past::default(), packets) {
         Some(refusal) => Err(refusal),
         None => Ok(measure_accepted(&limits, packets)),
@@ -63,17 +70,23 @@ pub fn measure_accepted(limits: &Limits, packets: &[Packet]) -> Measurement {
         frames: judged.len() as u64,
         peak: bucket.peak,
         network: bucket.burst.map_or(Network::Pass, Network::Burst),
-        buffer: buffer_answer(&judged),
+        buffer: buffer_answer(limits, &judged),
         rows: judged.iter().map(|frame| frame.row).collect(),
     }
 }
 
-/// A frame's row and its own buffer answer, `Buffer::None` for a broken frame:
-/// "Judging a broken frame's buffer" is an error.
+/// A frame's row, and "the lowest j whose packet arrives after read j" of a whole
+/// one: all that its buffer is judged by.
 struct Judged {
     row: Row,
-    buffer: Buffer,
+    first_late: Option<u64>,
 }
+
+/// Where in a row stand its frame, its kind, VRX peak and VRX least.
+const FRAME: usize = 0;
+const KIND: usize = 1;
+const PEAK: usize = 8;
+const LEAST: usize = 9;
 
 /// Frame numbers count broken frames too: each closed frame writes a row with
 /// its "frame number from 0".
@@ -84,7 +97,7 @@ fn judge(limits: &Limits, number: usize, frame: &Frame) -> Judged {
     } else {
         Judged {
             row: broken_row(number, kind, frame.place),
-            buffer: Buffer::None,
+            first_late: None,
         }
     }
 }
@@ -116,30 +129,88 @@ fn judge_whole(limits: &Limits, number: usize, frame: &Frame) -> Judged {
         narrow(reading.least),
         frame.place as i64,
     ];
-    let frame = number as u64;
-    // "in one frame under goes first."
-    let buffer = match reading.first_late {
-        Some(packet) => Buffer::Under { frame, packet },
-        None if reading.peak > limits.vrx_full => Buffer::Over {
-            frame,
-            peak: reading.peak,
-        },
-        None => Buffer::Pass,
-    };
-    Judged { row, buffer }
+    Judged {
+        row,
+        first_late: reading.first_late,
+    }
 }
 
 fn narrow(value: i128) -> i64 {
     i64::try_from(value).expect("every number of a row has room in 64 bits")
 }
 
-/// "The first failing frame decides"; none where there is "no whole frame yet".
-fn buffer_answer(frames: &[Judged]) -> Buffer {
-    let answers = || frames.iter().map(|frame| frame.buffer);
-    let failing = |buffer: &Buffer| !matches!(buffer, Buffer::None | Buffer::Pass);
-    match answers().find(failing) {
-        Some(buffer) => buffer,
-        None if answers().any(|buffer| buffer == Buffer::Pass) => Buffer::Pass,
+/// "The first failing frame decides"; request (vi): "broken or not". Where none
+/// fails, the buffer passes if there is a frame that was judged: by edition 1 a
+/// whole one, as none means "no whole frame yet"; by edition 2 any closed one.
+fn buffer_answer(limits: &Limits, frames: &[Judged]) -> Buffer {
+    let judged = |frame: &&Judged| limits.edition == Edition::Two || frame.row[KIND] == 0;
+    let of_frame = |frame: &Judged| failure(limits, frame);
+    let answer = match frames.iter().find_map(of_frame) {
+        Some(failed) => failed,
+        None if frames.iter().any(|frame| judged(&frame)) => Buffer::Pass,
+        None => Buffer::None,
+    };
+    assert_eq!(answer, by_ways_to_fail(limits, frames));
+    answer
+}
+
+/// How a frame fails, if it does. "Judging a broken frame's buffer" is an error
+/// of edition 1; by edition 2 "a stream with any broken frame fails its buffer",
+/// and nothing else is asked of such a frame. Of a whole one "in one frame under
+/// goes first."
+fn failure(limits: &Limits, judged: &Judged) -> Option<Buffer> {
+    let row = &judged.row;
+    let frame = row[FRAME] as u64;
+    match (limits.edition, row[KIND]) {
+        (Edition::One, 1..=3) => None,
+        (Edition::Two, kind @ 1..=3) => Some(Buffer::Broken {
+            frame,
+            kind: kind as u64,
+        }),
+        _ if row[LEAST] < 0 => Some(Buffer::Under {
+            frame,
+            packet: judged.first_late.expect("where the buffer runs dry"),
+        }),
+        _ if i128::from(row[PEAK]) > limits.vrx_full => Some(Buffer::Over {
+            frame,
+            peak: i128::from(row[PEAK]),
+        }),
+        _ => None,
+    }
+}
+
+/// The same once more, from the first frame that fails in each way: which of
+/// them comes first. The peak and the least of a broken frame's row are 0, so
+/// that such a frame is neither under nor over; and where one frame is both, the
+/// order of the ways decides.
+fn by_ways_to_fail(limits: &Limits, frames: &[Judged]) -> Buffer {
+    let first = |fails: &dyn Fn(&Judged) -> bool| frames.iter().position(fails);
+    let broken = first(&|frame| frame.row[KIND] != 0);
+    let under = first(&|frame| frame.first_late.is_some());
+    let over = first(&|frame| i128::from(frame.row[PEAK]) > limits.vrx_full);
+    let by_edition = broken.filter(|_| limits.edition == Edition::Two);
+    let ways = [by_edition, under, over];
+    let decides = ways.iter().flatten().min().copied();
+    let frame = decides.unwrap_or(0) as u64;
+    let whole = frames.iter().filter(|frame| frame.row[KIND] == 0).count();
+    let counted = match limits.edition {
+        Edition::One => whole,
+        Edition::Two => frames.len(),
+    };
+    match ways.iter().position(|way| way.is_some() && *way == decides) {
+        Some(0) => Buffer::Broken {
+            frame,
+            kind: frames[frame as usize].row[KIND] as u64,
+        },
+        Some(1) => Buffer::Under {
+            frame,
+            packet: frames[frame as usize].first_late.expect("it is under"),
+        },
+        Some(_) => Buffer::Over {
+            frame,
+            peak: i128::from(frames[frame as usize].row[PEAK]),
+        },
+        None if counted > 0 => Buffer::Pass,
         None => Buffer::None,
     }
 }

@@ -3,7 +3,7 @@
 
 use crate::fraction::Fraction;
 use crate::frame::t_cf;
-use crate::numbers::{set_up, Limits, Numbers};
+use crate::numbers::{set_up, Limits, Numbers, EDITION_1};
 use crate::packet::{Packet, Past};
 use crate::reads::{read_instant, strictly_before};
 
@@ -34,10 +34,10 @@ pub struct NextRead {
     pub denominator: i128,
 }
 
-/// Refusals 1 to 7, then 12 and 13, which a packet meets after a history of the
+/// Refusals 1 to 7 (there is no edition, and so no 8), then 12 and 13, which a packet meets after a history of the
 /// frame's first packet alone; 15 is for the room, and comes after them.
 fn accepted(wait: &Wait) -> Result<Limits, u8> {
-    let limits = set_up(&wait.numbers)?;
+    let limits = set_up(EDITION_1, &wait.numbers)?;
     match Past::of(&[first_packet(wait)]).refuses(&packet(wait)) {
         Some(number) => Err(number),
         None => Ok(limits),

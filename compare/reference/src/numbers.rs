@@ -1,4 +1,5 @@
-//! The grain, the seven stream numbers, and what set-up derives from them.
+//! The grain, the seven stream numbers and the test plan's edition, and what
+//! set-up derives from them.
 
 use crate::fraction::Fraction;
 
@@ -41,9 +42,33 @@ impl Numbers {
     }
 }
 
+/// Request (vi): "the edition is chosen at set-up". What carries none means
+/// edition 1: `vtiming`, the writer, the limits, the next read.
+pub const EDITION_1: u32 = 1;
+pub const EDITION_2: u32 = 2;
+pub const EDITIONS: [u32; 2] = [EDITION_1, EDITION_2];
+
+/// The editions of the test plan.
+#[derive(Clone, Copy, Debug, PartialEq, Eq)]
+pub enum Edition {
+    One,
+    Two,
+}
+
+/// "an edition other than 1 or 2" is none.
+fn edition_of(number: u32) -> Option<Edition> {
+    match number {
+        EDITION_1 => Some(Edition::One),
+        EDITION_2 => Some(Edition::Two),
+        _ => None,
+    }
+}
+
 /// What set-up derives.
 #[derive(Clone, Copy, Debug, PartialEq, Eq)]
 pub struct Limits {
+    /// The test plan by which the buffer is judged. No limit depends on it.
+    pub edition: Edition,
     /// F, in grains.
     pub frame: i128,
     /// R of the schedule.
@@ -160,8 +185,9 @@ fn vrx_full(class: Class, n: i128, maxudp: i128, frame: i128) -> i128 {
 }
 
 /// Set-up. "1..7: set-up, in this order: rate, schedule, class (unknown or
-/// against the schedule), height, n, MAXUDP, TRO."
-pub fn set_up(numbers: &Numbers) -> Result<Limits, u8> {
+/// against the schedule), height, n, MAXUDP, TRO." Request (vi): "8 for an
+/// edition other than 1 or 2, after 7."
+pub fn set_up(edition: u32, numbers: &Numbers) -> Result<Limits, u8> {
     let frame = frame_length(numbers.rate).ok_or(1)?;
     let r = schedule_ratio(numbers.schedule).ok_or(2)?;
     let class = class_of(numbers.class, numbers.schedule).ok_or(3)?;
@@ -169,8 +195,10 @@ pub fn set_up(numbers: &Numbers) -> Result<Limits, u8> {
     check((1..=20_000).contains(&numbers.packets_per_frame), 5)?;
     check([1460, 8960].contains(&numbers.maxudp), 6)?;
     let tro = tro_grains(numbers.tro, numbers.height, frame).ok_or(7)?;
+    let edition = edition_of(edition).ok_or(8)?;
     let n = i128::from(numbers.packets_per_frame);
     Ok(Limits {
+        edition,
         frame,
         r,
         n,

@@ -1,6 +1,7 @@
 //! What the program prints for a file, and what the C call answers for it.
 
 use crate::measure::{measure_accepted, Buffer, Measurement, Network, Row};
+use crate::numbers::EDITION_1;
 use crate::record::{read, FileReading};
 use crate::Refusal;
 
@@ -8,9 +9,15 @@ use crate::Refusal;
 /// of each row as it closes, then one last line: packets, frames closed, peak,
 /// verdicts [...]; or, after the rows closed before a refusal, `refused`,
 /// number, offset." Request (ii): "Printed frame lines and the C call's rows
-/// grow by it", the eleventh number.
+/// grow by it", the eleventh number. Request (vi): "`vtiming` [...] mean[s]
+/// edition 1".
 pub fn expected_output(bytes: &[u8]) -> String {
-    let reading = read(bytes);
+    output_by(EDITION_1, bytes)
+}
+
+/// What would be printed by an edition.
+pub(crate) fn output_by(edition: u32, bytes: &[u8]) -> String {
+    let reading = read(edition, bytes);
     let measurement = measured(&reading);
     let rows = measurement.iter().flat_map(|m| m.rows.iter());
     let mut text: String = rows.map(row_line).collect();
@@ -63,15 +70,16 @@ fn buffer_words(buffer: &Buffer) -> String {
         Buffer::Pass => "pass".to_string(),
         Buffer::Under { frame, packet } => format!("under {} {}", frame, packet),
         Buffer::Over { frame, peak } => format!("over {} {}", frame, peak),
+        Buffer::Broken { frame, kind } => format!("broken {} {}", frame, kind),
     }
 }
 
-/// The C call on a file with `room` lent bytes: number, offset, and the bytes
-/// written at the front of the lent ones. "Too few bytes is 15 at the file's
+/// The C call on a file by an edition, with `room` lent bytes: number, offset,
+/// and the bytes written at the front of the lent ones. "Too few bytes is 15 at the file's
 /// length, after all else; refused, it writes nothing. The call returns the
 /// number, a twin that writes nothing the offset; both are 0 when accepted."
-pub fn expected_c_call(bytes: &[u8], room: usize) -> (u8, u64, Option<Vec<u8>>) {
-    let reading = read(bytes);
+pub fn expected_c_call(edition: u32, bytes: &[u8], room: usize) -> (u8, u64, Option<Vec<u8>>) {
+    let reading = read(edition, bytes);
     if let Some(refusal) = reading.refusal {
         return (refusal.number, refusal.place, None);
     }
@@ -94,7 +102,8 @@ pub(crate) fn c_bytes(head: &[i64], rows: &[Row]) -> Vec<u8> {
 
 /// "packets, frames, peak; network 0 pass or 1 burst, first, last; buffer 0
 /// none, 1 pass, 2 under or 3 over, frame, packet or peak; 0 where there is
-/// none".
+/// none". Request (vi): the C call "reports a broken frame as 4 with frame and
+/// kind".
 pub(crate) fn nine_numbers(measurement: &Measurement) -> [i64; 9] {
     let (network, first, last) = match measurement.network {
         Network::Pass => (0, 0, 0),
@@ -105,6 +114,7 @@ pub(crate) fn nine_numbers(measurement: &Measurement) -> [i64; 9] {
         Buffer::Pass => (1, 0, 0),
         Buffer::Under { frame, packet } => (2, frame as i64, packet as i64),
         Buffer::Over { frame, peak } => (3, frame as i64, peak as i64),
+        Buffer::Broken { frame, kind } => (4, frame as i64, kind as i64),
     };
     [
         measurement.packets as i64,

@@ -12,10 +12,10 @@ use std::sync::{Arc, Mutex};
 use std::time::{Duration, Instant};
 
 use crate::capture::{self, expected_capture_output, Asked};
-use crate::cases::{captures, class_0_streams};
-use crate::generate::{file, under};
-use crate::numbers::Numbers;
-use crate::output::expected_output;
+use crate::cases::{captures, class_0_streams, edition_streams};
+use crate::generate::{file, under, OTHER_EDITIONS};
+use crate::numbers::{Numbers, EDITIONS, EDITION_1, EDITION_2};
+use crate::output::{expected_output, output_by};
 use crate::record::{packet_body, parameters_body, read, record, write, VERSIONS};
 use crate::traffic;
 
@@ -55,13 +55,32 @@ impl Input {
         }
     }
 
-    /// What its last line says, and whether that shows what class 0 means.
+    /// What its last line says, and whether that shows what class 0 means, and by
+    /// which edition it was measured.
     fn outcomes(&self) -> Vec<String> {
         let own = outcomes(&self.wanted());
-        let shown = self.class_0_meant_otherwise();
+        let others = [self.class_0_meant_otherwise(), self.by_the_other_edition()];
+        let shown = others.into_iter().flatten();
         let shown = shown.filter(|(_, text)| outcomes(text) != own);
-        let name = shown.map(|(name, _)| name.to_string());
-        own.into_iter().chain(name).collect()
+        let names: Vec<String> = shown.map(|(name, _)| name.to_string()).collect();
+        own.into_iter().chain(names).collect()
+    }
+
+    /// The edition by which it is measured, and the text that would come by the
+    /// other one. Of a record file edition 1 is meant.
+    fn by_the_other_edition(&self) -> Option<(&'static str, String)> {
+        match &self.what {
+            What::RecordFile => Some(("by edition 1", output_by(EDITION_2, &self.bytes))),
+            What::Capture(asked) => {
+                let (name, other) = match asked.edition {
+                    EDITION_1 => ("by edition 1", EDITION_2),
+                    EDITION_2 => ("by edition 2", EDITION_1),
+                    _ => return None,
+                };
+                let text = expected_capture_output(&asked.by(other), &self.bytes);
+                Some((name, text))
+            }
+        }
     }
 
     /// Of an input of class 0, what that means there, and the text that would
@@ -69,7 +88,7 @@ impl Input {
     fn class_0_meant_otherwise(&self) -> Option<(&'static str, String)> {
         match &self.what {
             What::RecordFile => {
-                let reading = read(&self.bytes);
+                let reading = read(EDITION_1, &self.bytes);
                 reading.numbers.filter(|numbers| numbers.class == 0)?;
                 let (name, other) = match reading.version? {
                     1 => ("class 0 as wide", 2),
@@ -127,7 +146,7 @@ impl Input {
 }
 
 fn record_ends(bytes: &[u8]) -> Vec<(usize, u8)> {
-    let reading = read(bytes);
+    let reading = read(EDITION_1, bytes);
     let mut end = match reading.numbers {
         Some(numbers) => 1 + record(&parameters_body(&numbers)).len(),
         None => return vec![],
@@ -157,6 +176,14 @@ pub fn inputs(seed: u64, count: u64, directory: &Path) -> io::Result<Vec<Input>>
     for (place, (numbers, packets)) in class_0_streams().iter().enumerate() {
         let file = write(VERSIONS[0], numbers, packets);
         inputs.extend(in_both_versions(&format!("fixed file {}", place), &file));
+    }
+    // So that it shows that edition 1 is meant.
+    for (place, (numbers, packets)) in edition_streams().iter().enumerate() {
+        inputs.push(Input {
+            name: format!("fixed file {} of the editions", place),
+            bytes: write(VERSIONS[1], numbers, packets),
+            what: What::RecordFile,
+        });
     }
     for path in files_of(directory, "rec")? {
         inputs.push(Input {
@@ -208,25 +235,28 @@ pub fn capture_inputs(seed: u64, count: u64, directories: &[&Path]) -> io::Resul
     Ok(inputs)
 }
 
-/// Of the fixed captures those that reach an outcome which none before them
-/// reached, so that no outcome depends on the seed; and those with a frame that
-/// no pipe holds at once.
+/// Of the fixed captures, by each edition, those that reach an outcome which none
+/// before them reached by that edition, so that no outcome depends on the seed;
+/// and those with a frame that no pipe holds at once.
 fn worth_running() -> Vec<Input> {
     let mut reached = BTreeMap::new();
     let mut kept = vec![];
     for (place, (asked, bytes)) in captures().into_iter().enumerate() {
-        let input = Input {
-            name: format!("fixed capture {}", place),
-            bytes,
-            what: What::Capture(asked),
-        };
-        let outcomes = input.outcomes();
-        let new = outcomes
-            .iter()
-            .any(|outcome| !reached.contains_key(outcome));
-        if new || input.bytes.len() > 1 << 17 {
-            reached.extend(outcomes.into_iter().map(|outcome| (outcome, place)));
-            kept.push(input);
+        for edition in [&EDITIONS[..], &OTHER_EDITIONS].concat() {
+            let input = Input {
+                name: format!("fixed capture {} by edition {}", place, edition),
+                bytes: bytes.clone(),
+                what: What::Capture(asked.by(edition)),
+            };
+            let outcomes = input.outcomes().into_iter();
+            let outcomes: Vec<_> = outcomes.map(|outcome| (edition, outcome)).collect();
+            let new = outcomes
+                .iter()
+                .any(|outcome| !reached.contains_key(outcome));
+            if new || (edition == EDITION_1 && bytes.len() > 1 << 17) {
+                reached.extend(outcomes.into_iter().map(|outcome| (outcome, place)));
+                kept.push(input);
+            }
         }
     }
     kept
@@ -243,7 +273,7 @@ fn files_of(directory: &Path, suffix: &str) -> io::Result<Vec<PathBuf>> {
 
 /// A file does not say what is to be asked of it: the ports to which it has the
 /// most packets, and one to which it has none, each with so many packets a frame
-/// as the last frame has that closes there.
+/// as the last frame has that closes there, and by each edition once.
 fn asked_of(bytes: &[u8]) -> Vec<Asked> {
     let ports = capture::ports(bytes);
     let silent = (1..=u16::MAX).find(|port| !ports.contains(port));
@@ -253,7 +283,9 @@ fn asked_of(bytes: &[u8]) -> Vec<Asked> {
         let frames = packets.split_inclusive(|packet| packet.marker == 1);
         let counts: Vec<usize> = frames.map(|frame| frame.len()).collect();
         let last = counts.iter().rev().nth(1).copied().unwrap_or(4);
-        for (offset, rate, schedule, class) in [(37, 6, 0, 1), (0, 3, 1, 3)] {
+        for (edition, (offset, rate, schedule, class)) in
+            EDITIONS.into_iter().zip([(37, 6, 0, 1), (0, 3, 1, 3)])
+        {
             let numbers = Numbers {
                 rate,
                 schedule,
@@ -267,6 +299,7 @@ fn asked_of(bytes: &[u8]) -> Vec<Asked> {
                 port,
                 offset,
                 numbers,
+                edition,
             });
         }
     }
@@ -634,7 +667,7 @@ impl Tally {
 
 /// Every last line that a record file can bring about, but a refusal by 14,
 /// which takes a billion packets; and last lines that would be others if class 0
-/// meant something else.
+/// meant something else, or edition 2 were meant.
 pub const OF_FILES: &[&str] = &[
     "network pass",
     "network burst",
@@ -644,6 +677,7 @@ pub const OF_FILES: &[&str] = &[
     "buffer over",
     "class 0 as wide",
     "class 0 as strict",
+    "by edition 1",
     "refused 01",
     "refused 02",
     "refused 03",
@@ -661,7 +695,8 @@ pub const OF_FILES: &[&str] = &[
 ];
 
 /// The same of a capture; a marker is one bit there, so that 11 is not among
-/// them, and class 0 has one meaning.
+/// them, and class 0 has one meaning. Of both editions there are last lines that
+/// would be others by the other one.
 pub const OF_CAPTURES: &[&str] = &[
     "network pass",
     "network burst",
@@ -669,7 +704,10 @@ pub const OF_CAPTURES: &[&str] = &[
     "buffer pass",
     "buffer under",
     "buffer over",
+    "buffer broken",
     "class 0 as strict",
+    "by edition 1",
+    "by edition 2",
     "refused 01",
     "refused 02",
     "refused 03",
@@ -677,6 +715,7 @@ pub const OF_CAPTURES: &[&str] = &[
     "refused 05",
     "refused 06",
     "refused 07",
+    "refused 08",
     "refused 12",
     "refused 13",
     "refused 30",
@@ -770,6 +809,7 @@ mod tests {
             port: 1,
             offset: 0,
             numbers: ONE,
+            edition: EDITION_1,
         };
         let captured = input(capture.bytes(), What::Capture(asked));
         assert_eq!(row_ends(&captured), [(94, 0), (234, row.len())]);

@@ -2,13 +2,14 @@
 //! on both sides. What a range depends on is taken from the list of packets
 //! alone; of the library's state nothing else is known here.
 
-use crate::measure::Measurement;
-use crate::numbers::{frame_length, Numbers, GRAINS_PER_MICROSECOND};
+use crate::measure::{Buffer, Measurement};
+use crate::numbers::{frame_length, Edition, Limits, Numbers, GRAINS_PER_MICROSECOND};
+use crate::numbers::{EDITION_1, EDITION_2};
 use crate::output::nine_numbers;
 use crate::packet::{Packet, Past, LONGEST_HISTORY, MOST_PACKETS};
 
-/// "a state is 33 words of 64 bits, one for each row of the tables".
-pub const STATE_WORDS: u64 = 33;
+/// "a state is 34 words of 64 bits, one for each row of the tables".
+pub const STATE_WORDS: u64 = 34;
 
 const RATE: u8 = 0;
 const SCHEDULE: u8 = 1;
@@ -17,32 +18,33 @@ const HEIGHT: u8 = 3;
 const N: u8 = 4;
 const MAXUDP: u8 = 5;
 const TRO: u8 = 6;
-pub const PACKETS: u8 = 7;
-const FIRST: u8 = 8;
-const LAST: u8 = 9;
-const LEVEL: u8 = 10;
-const START: u8 = 11;
-const PEAK: u8 = 12;
-const NETWORK: u8 = 13;
-const RUN_FIRST: u8 = 14;
-const RUN_LAST: u8 = 15;
-const REST: u8 = 16;
-const CLOSED: u8 = 17;
-const BEGUN: u8 = 18;
-const MARKED: u8 = 19;
-const HELD: u8 = 20;
-const OPEN_FIRST: u8 = 21;
-const STAMP: u8 = 22;
-const PHASE: u8 = 23;
-const READS: u8 = 24;
-const WAIT: u8 = 25;
-const DIFFERS: u8 = 26;
-const TOP: u8 = 27;
-const LATE: u8 = 28;
-const DEFICIT: u8 = 29;
-const BUFFER: u8 = 30;
-const BUFFER_FRAME: u8 = 31;
-const BUFFER_PLACE: u8 = 32;
+const EDITION: u8 = 7;
+pub const PACKETS: u8 = 8;
+const FIRST: u8 = 9;
+const LAST: u8 = 10;
+const LEVEL: u8 = 11;
+const START: u8 = 12;
+const PEAK: u8 = 13;
+const NETWORK: u8 = 14;
+const RUN_FIRST: u8 = 15;
+const RUN_LAST: u8 = 16;
+const REST: u8 = 17;
+const CLOSED: u8 = 18;
+const BEGUN: u8 = 19;
+const MARKED: u8 = 20;
+const HELD: u8 = 21;
+const OPEN_FIRST: u8 = 22;
+const STAMP: u8 = 23;
+const PHASE: u8 = 24;
+const READS: u8 = 25;
+const WAIT: u8 = 26;
+const DIFFERS: u8 = 27;
+const TOP: u8 = 28;
+const LATE: u8 = 29;
+const DEFICIT: u8 = 30;
+const BUFFER: u8 = 31;
+const BUFFER_FRAME: u8 = 32;
+const BUFFER_PLACE: u8 = 33;
 
 /// The words that the nine numbers of a state stand in, in their order.
 const NINE: [u8; 9] = [
@@ -76,9 +78,19 @@ pub fn changed_nine(so_far: &Measurement, change: &[(u8, u64)]) -> [i64; 9] {
     nine
 }
 
+/// A stream that was set up: its numbers, and what came of them.
+#[derive(Clone, Copy, Debug, PartialEq, Eq)]
+pub struct Stream {
+    pub numbers: Numbers,
+    pub limits: Limits,
+}
+
 /// What the ranges of a state depend on.
 struct Known {
     numbers: Numbers,
+    edition: Edition,
+    /// The buffer answer is the case that edition 2 alone has.
+    broken: bool,
     frame: u64,
     past: Past,
     /// The arrival of the last marker packet; none in the lead-in.
@@ -89,11 +101,14 @@ struct Known {
 }
 
 impl Known {
-    fn of(numbers: &Numbers, history: &[Packet]) -> Known {
+    fn of(stream: &Stream, history: &[Packet], so_far: &Measurement) -> Known {
+        let numbers = &stream.numbers;
         let marker = history.iter().rposition(|packet| packet.marker == 1);
         let open = marker.map_or(&history[..0], |place| &history[place + 1..]);
         Known {
             numbers: *numbers,
+            edition: stream.limits.edition,
+            broken: matches!(so_far.buffer, Buffer::Broken { .. }),
             frame: frame_length(numbers.rate).expect("set-up has accepted it") as u64,
             past: Past::of(history),
             marked: marker.map(|place| history[place].arrival),
@@ -140,11 +155,13 @@ impl Sides {
     }
 }
 
-/// Changes on both sides of every range of the state that a history has.
-pub fn changes(numbers: &Numbers, history: &[Packet]) -> Vec<Change> {
-    let known = Known::of(numbers, history);
+/// Changes on both sides of every range of the state that a history has, of which
+/// the measurement is given too.
+pub fn changes(stream: &Stream, history: &[Packet], so_far: &Measurement) -> Vec<Change> {
+    let known = Known::of(stream, history, so_far);
     let mut sides = Sides::default();
     stream_numbers(&known, &mut sides);
+    edition(&known, &mut sides);
     past(&known, &mut sides);
     bucket(&known, &mut sides);
     counts(&known, &mut sides);
@@ -197,6 +214,30 @@ fn stream_numbers(known: &Known, sides: &mut Sides) {
     sides.outside(&[(TRO, most + 1)]);
     sides.outside(&[(TRO, 0xffff_fffe)]);
     sides.outside(&[(TRO, 1 << 32)]);
+}
+
+/// "1 or 2", and a broken answer "only where the edition is 2". A word that is 1
+/// or 2 in its low 32 bits alone is neither. Whoever changes the edition changes
+/// how the next frames are judged, and here none follow.
+fn edition(known: &Known, sides: &mut Sides) {
+    for other in [
+        0,
+        3,
+        255,
+        0xffff_ffff,
+        (1 << 32) + 1,
+        (1 << 32) + 2,
+        u64::MAX,
+    ] {
+        sides.outside(&[(EDITION, other)]);
+    }
+    sides.within(&[(EDITION, u64::from(EDITION_2))]);
+    let first = [(EDITION, u64::from(EDITION_1))];
+    if known.broken {
+        sides.outside(&first);
+    } else {
+        sides.within(&first);
+    }
 }
 
 /// "packets ≤ 1,000,000,000; packets = 0 implies first = 0; packets = 0 implies
@@ -319,7 +360,8 @@ fn open_frame(known: &Known, sides: &mut Sides) {
 }
 
 /// "at most `held`", "at most n"; the buffer answer's numbers "at most
-/// `past.packets`", and 0 for none and pass.
+/// `past.packets`", and 0 for none and pass; of a broken frame its kind, 1 to 3,
+/// which hangs on no count of packets.
 fn kept(known: &Known, sides: &mut Sides) {
     for word in [DIFFERS, TOP, LATE] {
         sides.at_most(word, known.held);
@@ -344,6 +386,39 @@ fn kept(known: &Known, sides: &mut Sides) {
         sides.outside(&answer(failed, packets + 1, packets));
         sides.outside(&answer(failed, packets, packets + 1));
     }
-    sides.outside(&answer(4, 0, 0));
+    for (frame, kind, in_range) in [
+        (0, 1, true),
+        (0, 3, true),
+        (packets, 2, true),
+        (packets, 3, true),
+        (packets + 1, 1, false),
+        (u64::MAX, 1, false),
+        (0, 0, false),
+        (0, 4, false),
+        (packets, packets.max(4), false),
+        (0, u64::MAX, false),
+    ] {
+        let broken = answer(4, frame, kind);
+        let by = |edition| [&broken[..], &[(EDITION, u64::from(edition))]].concat();
+        if in_range && known.edition == Edition::Two {
+            sides.within(&broken);
+        } else {
+            sides.outside(&broken);
+        }
+        // The same by the one edition and by the other.
+        sides.outside(&by(EDITION_1));
+        if in_range {
+            sides.within(&by(EDITION_2));
+        } else {
+            sides.outside(&by(EDITION_2));
+        }
+    }
+    // A failing answer that both editions have, by each.
+    for edition in [EDITION_1, EDITION_2] {
+        let under = [&answer(2, 0, 0)[..], &[(EDITION, u64::from(edition))]].concat();
+        sides.within(&under);
+    }
+    sides.outside(&answer(5, 0, 0));
+    sides.outside(&answer(256 + 4, 0, 1));
     sides.outside(&answer(u64::MAX, 0, 0));
 }

@@ -1,7 +1,7 @@
 //! The record file: reading and writing, in both versions, and what class 0 means
 //! in each.
 
-use crate::numbers::{set_up, Limits, Numbers};
+use crate::numbers::{set_up, Limits, Numbers, EDITION_1};
 use crate::packet::{first_refused, zip, Packet, Past};
 use crate::Refusal;
 
@@ -23,11 +23,14 @@ const DEFAULT_TRO: u64 = 0xffff_ffff;
 /// program prints "the rows closed before a refusal".
 #[derive(Clone, Debug, PartialEq, Eq)]
 pub struct FileReading {
+    /// "Record files carry none: the C call takes it as a number beside the
+    /// file". As it was given.
+    edition: u32,
     /// 1 or 2; none where 20 is given.
     pub version: Option<u8>,
     /// As they are written.
     pub numbers: Option<Numbers>,
-    /// What set-up makes of them in a file of this version.
+    /// What set-up makes of them in a file of this version, by this edition.
     pub limits: Option<Limits>,
     pub packets: Vec<Packet>,
     pub refusal: Option<Refusal>,
@@ -41,8 +44,9 @@ enum Record {
 
 /// "Reading stops at the first record that is refused and gives its offset
 /// (0 for 20)".
-pub fn read(bytes: &[u8]) -> FileReading {
+pub fn read(edition: u32, bytes: &[u8]) -> FileReading {
     let mut reading = FileReading {
+        edition,
         version: bytes
             .first()
             .copied()
@@ -57,9 +61,10 @@ pub fn read(bytes: &[u8]) -> FileReading {
     reading
 }
 
-/// The version and the records of a file, or number and offset.
+/// The version and the records of a file, or number and offset. No edition has a
+/// part in it.
 pub fn parse(bytes: &[u8]) -> Result<(u8, Numbers, Vec<Packet>), Refusal> {
-    let reading = read(bytes);
+    let reading = read(EDITION_1, bytes);
     match (reading.refusal, reading.version, reading.numbers) {
         (Some(refusal), _, _) => Err(refusal),
         (None, Some(version), Some(numbers)) => Ok((version, numbers, reading.packets)),
@@ -83,9 +88,9 @@ pub fn meant(version: u8, numbers: &Numbers) -> Numbers {
 
 /// Set-up of a stream in a file. "Set-up without a file takes the new meaning",
 /// so that of version 2 it must come to the same with the numbers as written.
-pub fn set_up_in(version: u8, numbers: &Numbers) -> Result<Limits, u8> {
-    let limits = set_up(&meant(version, numbers));
-    assert!(version != 2 || limits == set_up(numbers));
+pub fn set_up_in(edition: u32, version: u8, numbers: &Numbers) -> Result<Limits, u8> {
+    let limits = set_up(edition, &meant(version, numbers));
+    assert!(version != 2 || limits == set_up(edition, numbers));
     limits
 }
 
@@ -120,12 +125,14 @@ impl FileReading {
         Ok(body.len())
     }
 
-    /// "23: [...] parameters again", before set-up has a word.
+    /// "23: [...] parameters again", before set-up has a word. Set-up gives 8
+    /// too, so that a wrong edition is refused where these parameters would be
+    /// accepted: at this record, and before any later one is looked at.
     fn take_parameters(&mut self, version: u8, numbers: Numbers) -> Result<(), u8> {
         if self.numbers.is_some() {
             return Err(23);
         }
-        self.limits = Some(set_up_in(version, &numbers)?);
+        self.limits = Some(set_up_in(self.edition, version, &numbers)?);
         self.numbers = Some(numbers);
         Ok(())
     }
@@ -262,7 +269,8 @@ pub fn writer(
     if !VERSIONS.contains(&version) {
         return Err(Refusal::new(20, 0));
     }
-    set_up_in(version, numbers).map_err(|number| Refusal::new(number, 0))?;
+    // "the writer mean[s] edition 1".
+    set_up_in(EDITION_1, version, numbers).map_err(|number| Refusal::new(number, 0))?;
     let packets = zip(arrivals, timestamps, markers)?;
     if let Some(refusal) = first_refused(Past::default(), &packets) {
         return Err(refusal);

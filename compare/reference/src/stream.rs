@@ -3,7 +3,7 @@
 
 use crate::bucket::{drain_instant, drains_by};
 use crate::fraction::Fraction;
-use crate::numbers::{frame_length, set_up, Limits, Numbers};
+use crate::numbers::{frame_length, set_up, Limits, Numbers, EDITION_1};
 use crate::numbers::{GRAINS_PER_MICROSECOND, GRAINS_PER_NANOSECOND, GRAINS_PER_TICK, WRAP};
 use crate::packet::{Packet, LONGEST_HISTORY};
 use crate::random::Random;
@@ -110,7 +110,8 @@ pub fn stream(random: &mut Random) -> (Numbers, Vec<Packet>) {
     // of a file or in the other.
     let version = random.pick(&VERSIONS);
     aim_numbers(random, aim, version, &mut numbers);
-    let limits = set_up_in(version, &numbers).expect("the numbers are chosen to be accepted");
+    let limits =
+        set_up_in(EDITION_1, version, &numbers).expect("the numbers are chosen to be accepted");
     let first_frame = first_frame(random, limits.frame);
     let stamps = stamps(random);
     let mut sender = Sender {
@@ -164,7 +165,7 @@ fn near_step<L: Fn(&Limits) -> i128>(
             packets_per_frame: n,
             ..*numbers
         };
-        set_up(&numbers).map_or(0, |limits| limit(&limits))
+        set_up(EDITION_1, &numbers).map_or(0, |limits| limit(&limits))
     };
     let step = (any..=20_000).find(|&n| at(n) > at(n - 1));
     match step {

@@ -6,8 +6,8 @@ use std::io;
 use std::path::Path;
 
 use crate::capture::{Asked, MICROSECONDS, NANOSECONDS};
-use crate::generate::{flip, random_bytes};
-use crate::numbers::{set_up, Numbers};
+use crate::generate::{flip, other_edition, random_bytes};
+use crate::numbers::{set_up, Numbers, EDITIONS, EDITION_1};
 use crate::packet::Packet;
 use crate::pcap::{Capture, Frame, IPV4, TAG};
 use crate::random::Random;
@@ -21,8 +21,21 @@ const END_OF_SECONDS: u64 = 1 << 32;
 pub fn capture(seed: u64, index: u64) -> (Asked, Vec<u8>) {
     // The files of `generate` depend on seed and number too, and so do the
     // cases; captures must not repeat their choices.
-    let mut random = Random::new(seed ^ 0x7063_6170, index);
-    let random = &mut random;
+    let (asked, bytes) = any_capture(&mut Random::new(seed ^ 0x7063_6170, index));
+    let edition = any_edition(&mut Random::new(seed ^ 0x6564_6974, index));
+    (asked.by(edition), bytes)
+}
+
+/// Now and then one that there is not.
+fn any_edition(random: &mut Random) -> u32 {
+    if random.chance(8) {
+        other_edition(random)
+    } else {
+        random.pick(&EDITIONS)
+    }
+}
+
+fn any_capture(random: &mut Random) -> (Asked, Vec<u8>) {
     match random.below(100) {
         0..=1 => front(random),
         2..=3 => any_bytes(random),
@@ -36,7 +49,7 @@ pub fn capture(seed: u64, index: u64) -> (Asked, Vec<u8>) {
     }
 }
 
-/// Writes `count` captures `NNNNNN.pcap`, and the nine words asked of each as
+/// Writes `count` captures `NNNNNN.pcap`, and the ten words asked of each as
 /// `NNNNNN.words`.
 pub fn generate(seed: u64, count: u64, directory: &Path) -> io::Result<()> {
     std::fs::create_dir_all(directory)?;
@@ -127,6 +140,7 @@ fn asked_for(random: &mut Random, numbers: Numbers) -> Asked {
         port: any_port(random),
         offset: random.pick(&[0, 0, 1, 36, 37, 37, 37, 98, 99, 99]),
         numbers,
+        edition: EDITION_1,
     }
 }
 
@@ -191,7 +205,7 @@ fn within_seconds(random: &mut Random, numbers: &Numbers, packets: &mut [Packet]
     if latest.unwrap_or(0) / SECOND < END_OF_SECONDS {
         return;
     }
-    let limits = set_up(numbers).expect("the numbers of a stream are accepted");
+    let limits = set_up(EDITION_1, numbers).expect("the numbers of a stream are accepted");
     let step = limits.frame as u64;
     let near_the_end = (END_OF_SECONDS - random.pick(&[1, 2, 700])) * SECOND;
     let target = random.pick(&[SECOND, MODERN as u64, MODERN as u64, near_the_end]);

@@ -5,7 +5,7 @@
 use crate::fraction::Fraction;
 use crate::frame::t_cf;
 use crate::next_read::Wait;
-use crate::numbers::{set_up, Limits, Numbers, GRAINS_PER_NANOSECOND};
+use crate::numbers::{set_up, Limits, Numbers, EDITION_1, GRAINS_PER_NANOSECOND};
 use crate::packet::{Packet, LONGEST_HISTORY};
 use crate::random::Random;
 use crate::reads::read_instant;
@@ -107,7 +107,7 @@ fn around_reads() -> Vec<Wait> {
 }
 
 fn around_reads_of(numbers: &Numbers) -> Vec<Wait> {
-    let limits = set_up(numbers).expect("set-up accepts these streams");
+    let limits = set_up(EDITION_1, numbers).expect("set-up accepts these streams");
     let number = frame_number(numbers, limits.frame);
     let t_cf = number * limits.frame;
     let (earliest, latest) = firsts(&limits, number);
@@ -153,7 +153,7 @@ fn longest() -> Vec<Wait> {
                 tro: Some(greatest_tro(rate)),
                 ..stream(rate, schedule, 20_000)
             };
-            let limits = set_up(&numbers).expect("set-up accepts the greatest TRO");
+            let limits = set_up(EDITION_1, &numbers).expect("set-up accepts the greatest TRO");
             for number in [1, 2] {
                 let half_before = earliest(&limits, number);
                 waits.extend([half_before - 1, half_before].map(|arrival| Wait {
@@ -237,7 +237,7 @@ pub fn wait(random: &mut Random) -> Wait {
         return refused_wait(random);
     }
     let numbers = accepted_numbers(random);
-    let limits = set_up(&numbers).expect("the numbers are chosen to be accepted");
+    let limits = set_up(EDITION_1, &numbers).expect("the numbers are chosen to be accepted");
     let first = first_arrival(random, &limits);
     let arrival = arrival_after(random, &limits, first);
     Wait {

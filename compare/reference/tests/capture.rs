@@ -246,6 +246,7 @@ fn asked(offset: u32) -> Asked {
         port: PORT,
         offset,
         numbers: NARROW,
+        edition: EDITION_1,
     }
 }
 
@@ -599,9 +600,9 @@ fn long_frames_in_a_capture() {
 
 /// The words of the program, and a default TRO among them.
 #[test]
-fn nine_words() {
+fn ten_words() {
     let words = asked(37).words().join(" ");
-    assert_eq!(words, "20000 37 6 0 1 1080 4 1460 4294967295");
+    assert_eq!(words, "20000 37 6 0 1 1080 4 1460 4294967295 1");
 }
 
 // --- generated captures ---
@@ -614,7 +615,7 @@ fn generated_captures_keep_the_promises() {
     for index in 0..1500 {
         let (asked, bytes) = traffic::capture(3, index);
         let told = records(&bytes, asked.port, asked.offset);
-        if told.refusal.is_some() || set_up(&asked.numbers).is_err() {
+        if told.refusal.is_some() || set_up(asked.edition, &asked.numbers).is_err() {
             continue;
         }
         whole += 1;
@@ -622,7 +623,7 @@ fn generated_captures_keep_the_promises() {
         let skipped = told.records.iter().filter(|record| record.read.is_err());
         assert_eq!(skipped.count() + packets.len(), told.records.len());
         let reading = read(&asked, &bytes);
-        match measure(&asked.numbers, &packets) {
+        match measure(asked.edition, &asked.numbers, &packets) {
             Ok(measured) => assert_eq!(reading.measurement, Some(measured)),
             Err(refusal) => assert_eq!(reading.refusal, Some(refusal)),
         }
@@ -635,5 +636,5 @@ fn generated_captures_keep_the_promises() {
         });
         assert_eq!(moved.collect::<Vec<Packet>>(), packets);
     }
-    assert!(whole > 900, "only {} whole captures", whole);
+    assert!(whole > 850, "only {} whole captures", whole);
 }

@@ -23,14 +23,14 @@ fn numbers(schedule: u64, class: u64, n: u64) -> Numbers {
 
 /// C_MAX and VRX_FULL, set up without a file.
 fn limits(schedule: u64, class: u64, n: u64) -> (i128, i128) {
-    let limits = set_up(&numbers(schedule, class, n)).unwrap();
+    let limits = set_up(EDITION_1, &numbers(schedule, class, n)).unwrap();
     (limits.c_max, limits.vrx_full)
 }
 
 /// C_MAX and VRX_FULL of a file of this version.
 fn limits_in(version: u8, schedule: u64, class: u64, n: u64) -> (i128, i128) {
     let file = write(version, &numbers(schedule, class, n), &[]);
-    let limits = read(&file).limits.unwrap();
+    let limits = read(EDITION_1, &file).limits.unwrap();
     (limits.c_max, limits.vrx_full)
 }
 
@@ -88,11 +88,14 @@ fn without_a_file_class_0_sets_up_as_1_or_as_2() {
         for maxudp in [1460, 8960] {
             for n in [1, 4, 1000, 4148, 4320, 9999, 20_000] {
                 let set_up = |schedule, class| {
-                    set_up(&Numbers {
-                        rate,
-                        maxudp,
-                        ..numbers(schedule, class, n)
-                    })
+                    set_up(
+                        EDITION_1,
+                        &Numbers {
+                            rate,
+                            maxudp,
+                            ..numbers(schedule, class, n)
+                        },
+                    )
                 };
                 assert_eq!(set_up(GAPPED, 0), set_up(GAPPED, 1));
                 assert_eq!(set_up(LINEAR, 0), set_up(LINEAR, 2));
@@ -106,7 +109,7 @@ fn without_a_file_class_0_sets_up_as_1_or_as_2() {
 /// An unknown schedule is refused by 2 whatever the class, before 3.
 #[test]
 fn class_0_is_refused_on_no_known_schedule() {
-    assert_eq!(set_up(&numbers(2, 0, 4)), Err(2));
+    assert_eq!(set_up(EDITION_1, &numbers(2, 0, 4)), Err(2));
     for version in [1, 2] {
         let file = write(version, &numbers(2, 0, 4), &[]);
         assert_eq!(parse(&file), Err(refused(2, 1)));
@@ -118,12 +121,17 @@ fn a_call_and_a_list_of_class_0_are_strict() {
     for schedule in [GAPPED, LINEAR] {
         let strict = numbers(schedule, 0, 4);
         let wide = numbers(schedule, 3, 4);
-        let network = |numbers| measure(numbers, &at_once(5)).unwrap().network;
+        let network = |numbers| measure(EDITION_1, numbers, &at_once(5)).unwrap().network;
         let burst = Network::Burst(bucket::Run { first: 0, last: 4 });
         assert_eq!(network(&strict), burst);
         assert_eq!(network(&wide), Network::Pass);
         let lists: (&[u64], &[u32], &[u8]) = (&[1_000], &[0], &[0]);
-        let fifth = |numbers| call(numbers, &at_once(4), lists, 0).unwrap().after.network;
+        let fifth = |numbers| {
+            call(EDITION_1, numbers, &at_once(4), lists, 0)
+                .unwrap()
+                .after
+                .network
+        };
         assert_eq!(fifth(&strict), burst);
         assert_eq!(fifth(&wide), Network::Pass);
     }
@@ -142,6 +150,7 @@ fn a_capture_of_class_0_is_strict() {
                 port: 20_000,
                 offset: 0,
                 numbers: numbers(schedule, class, 4),
+                edition: EDITION_1,
             };
             expected_capture_output(&asked, &capture.bytes())
         };
@@ -228,7 +237,7 @@ fn a_buffer_that_is_over_in_version_2_alone() {
 fn the_c_call_tells_the_versions_apart() {
     let answer = |version| {
         let file = write(version, &numbers(GAPPED, 0, 4), &at_once(5));
-        let filled = expected_c_call(&file, 72).2.unwrap();
+        let filled = expected_c_call(EDITION_1, &file, 72).2.unwrap();
         let last_bytes = filled.chunks(8).map(|eight| eight[7]);
         last_bytes.collect::<Vec<u8>>()
     };
@@ -258,7 +267,7 @@ impl Spoken {
 fn class_0_files(seed: u64) -> Vec<Spoken> {
     let files = (0..1500).map(|index| file(seed, index));
     let spoken = files.filter_map(|file| {
-        let numbers = read(&file).numbers?;
+        let numbers = read(EDITION_1, &file).numbers?;
         (file.len() < 20_000).then_some(Spoken {
             schedule: numbers.schedule,
             file,
@@ -330,7 +339,7 @@ fn versions_1_and_2_alone_are_read() {
     for version in 0..=255 {
         let mut file = file.clone();
         file[0] = version;
-        let number = expected_c_call(&file, 1000).0;
+        let number = expected_c_call(EDITION_1, &file, 1000).0;
         let lone = parse(&[version]).err();
         if version == 1 || version == 2 {
             assert_eq!((number, lone), (0, Some(refused(23, 1))));
@@ -381,7 +390,7 @@ fn the_reader_gives_20_before_all_else() {
         for bytes in under(&[0, 3, 255], &file) {
             assert_eq!(parse(&bytes), Err(refused(20, 0)));
             // Too little room comes after all else.
-            assert_eq!(expected_c_call(&bytes, 0), (20, 0, None));
+            assert_eq!(expected_c_call(EDITION_1, &bytes, 0), (20, 0, None));
             assert_eq!(expected_output(&bytes), "refused 20 0\n");
         }
     }

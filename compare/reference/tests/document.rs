@@ -57,7 +57,7 @@ fn example_file() -> Vec<u8> {
 /// FPT of a frame of one packet that arrives at `t`, after a lead-in.
 fn first_packet_time(t: u64) -> i64 {
     let list = packets(&[(0, 0, 1), (t, 0, 1)]);
-    measure(&narrow(1), &list).unwrap().rows[0][3]
+    measure(EDITION_1, &narrow(1), &list).unwrap().rows[0][3]
 }
 
 fn refused(number: u8, place: u64) -> Refusal {
@@ -68,26 +68,26 @@ fn refused(number: u8, place: u64) -> Refusal {
 
 #[test]
 fn case_1_tro_at_rate_6() {
-    assert!(set_up(&with_tro(6, 19_999)).is_ok());
-    assert_eq!(set_up(&with_tro(6, 20_000)), Err(7));
+    assert!(set_up(EDITION_1, &with_tro(6, 19_999)).is_ok());
+    assert_eq!(set_up(EDITION_1, &with_tro(6, 20_000)), Err(7));
 }
 
 #[test]
 fn case_2_tro_at_rate_7() {
-    assert!(set_up(&with_tro(7, 16_683)).is_ok());
-    assert_eq!(set_up(&with_tro(7, 16_684)), Err(7));
+    assert!(set_up(EDITION_1, &with_tro(7, 16_683)).is_ok());
+    assert_eq!(set_up(EDITION_1, &with_tro(7, 16_684)), Err(7));
 }
 
 #[test]
 fn case_3_c_max() {
-    assert_eq!(set_up(&narrow(4147)).unwrap().c_max, 4);
-    assert_eq!(set_up(&narrow(4148)).unwrap().c_max, 5);
+    assert_eq!(set_up(EDITION_1, &narrow(4147)).unwrap().c_max, 4);
+    assert_eq!(set_up(EDITION_1, &narrow(4148)).unwrap().c_max, 5);
 }
 
 #[test]
 fn case_4_vrx_full() {
-    assert_eq!(set_up(&narrow(4859)).unwrap().vrx_full, 8);
-    assert_eq!(set_up(&narrow(4860)).unwrap().vrx_full, 9);
+    assert_eq!(set_up(EDITION_1, &narrow(4859)).unwrap().vrx_full, 8);
+    assert_eq!(set_up(EDITION_1, &narrow(4860)).unwrap().vrx_full, 9);
 }
 
 #[test]
@@ -114,7 +114,7 @@ fn frame_of_four(after: u64) -> Vec<Packet> {
 }
 
 fn levels_and_least(list: &[Packet]) -> (Vec<i128>, i128) {
-    let limits = set_up(&with_tro(6, 700)).unwrap();
+    let limits = set_up(EDITION_1, &with_tro(6, 700)).unwrap();
     let frames = closed_frames(list);
     let t_cf = times(&limits, &frames[0]).t_cf;
     let reading = reading(&limits, t_cf, frames[0].packets);
@@ -126,7 +126,7 @@ fn case_7_in_time() {
     let list = frame_of_four(700_000);
     let (levels, least) = levels_and_least(&list);
     assert_eq!((levels[0], least), (1, 0));
-    let measurement = measure(&with_tro(6, 700), &list).unwrap();
+    let measurement = measure(EDITION_1, &with_tro(6, 700), &list).unwrap();
     assert_eq!(measurement.buffer, Buffer::Pass);
 }
 
@@ -135,7 +135,7 @@ fn case_8_late() {
     let list = frame_of_four(700_001);
     let (levels, least) = levels_and_least(&list);
     assert_eq!((levels[0], least), (0, -1));
-    let measurement = measure(&with_tro(6, 700), &list).unwrap();
+    let measurement = measure(EDITION_1, &with_tro(6, 700), &list).unwrap();
     let under = Buffer::Under {
         frame: 0,
         packet: 0,
@@ -146,13 +146,13 @@ fn case_8_late() {
 #[test]
 fn case_9_five_at_one_instant() {
     let list = packets(&[(1_000, 0, 0); 5]);
-    let measurement = measure(&narrow(4), &list).unwrap();
+    let measurement = measure(EDITION_1, &narrow(4), &list).unwrap();
     assert_eq!(measurement.peak, 5);
     assert_eq!(
         measurement.network,
         Network::Burst(Run { first: 0, last: 4 })
     );
-    let four = measure(&narrow(4), &list[..4]).unwrap();
+    let four = measure(EDITION_1, &narrow(4), &list[..4]).unwrap();
     assert_eq!((four.peak, four.network), (4, Network::Pass));
 }
 
@@ -161,7 +161,7 @@ fn case_9_five_at_one_instant() {
 fn case_10_the_timestamp_that_went_round() {
     let t = 47_721_858_844_445;
     let list = packets(&[(t - 1, 0, 1), (t, 4_294_967_295, 1)]);
-    let row = measure(&narrow(1), &list).unwrap().rows[0];
+    let row = measure(EDITION_1, &narrow(1), &list).unwrap().rows[0];
     assert_eq!(row[3..6], [-31_199_985, -31_500_000, 300_015]);
 }
 
@@ -174,7 +174,7 @@ fn case_11_the_example() {
 #[test]
 fn case_12_the_empty_file() {
     assert_eq!(expected_output(&[]), "refused 20 0\n");
-    assert_eq!(expected_c_call(&[], 1000), (20, 0, None));
+    assert_eq!(expected_c_call(EDITION_1, &[], 1000), (20, 0, None));
 }
 
 // --- the numbers ---
@@ -187,7 +187,7 @@ fn two_to_the_32_ticks_are_p() {
 
 #[test]
 fn default_tro_and_read_spacing_of_1080p50() {
-    let limits = set_up(&narrow(4320)).unwrap();
+    let limits = set_up(EDITION_1, &narrow(4320)).unwrap();
     // 764.444 µs and 4.4444 µs.
     assert_eq!(limits.tro, 20_640_000);
     let spacing = read_instant(&limits, -limits.tro, 1);
@@ -204,7 +204,7 @@ fn both_default_tros_are_whole_at_all_rates() {
                 height,
                 ..narrow(4)
             };
-            let limits = set_up(&numbers).unwrap();
+            let limits = set_up(EDITION_1, &numbers).unwrap();
             let (over, under) = if height < 1080 { (28, 750) } else { (43, 1125) };
             assert_eq!(limits.tro * under, over * limits.frame);
         }
@@ -218,20 +218,20 @@ fn wide_and_narrow_linear_limits() {
         maxudp: 8960,
         ..narrow(20_000)
     };
-    let limits = set_up(&wide).unwrap();
+    let limits = set_up(EDITION_1, &wide).unwrap();
     assert_eq!((limits.c_max, limits.vrx_full), (46, 3333));
     let small = Numbers {
         packets_per_frame: 1,
         ..wide
     };
-    let limits = set_up(&small).unwrap();
+    let limits = set_up(EDITION_1, &small).unwrap();
     assert_eq!((limits.c_max, limits.vrx_full), (16, 120));
     let linear = Numbers {
         schedule: 1,
         class: 2,
         ..narrow(4320)
     };
-    let limits = set_up(&linear).unwrap();
+    let limits = set_up(EDITION_1, &linear).unwrap();
     assert_eq!((limits.c_max, limits.vrx_full), (5, 8));
 }
 
@@ -243,11 +243,11 @@ fn refusals_1_to_7_in_order() {
     let all = mended_numbers();
     let seen: Vec<u8> = all
         .iter()
-        .map(|numbers| set_up(numbers).map_or_else(|number| number, |_| 0))
+        .map(|numbers| set_up(EDITION_1, numbers).map_or_else(|number| number, |_| 0))
         .collect();
     assert_eq!(seen, [1, 2, 3, 4, 5, 6, 7, 0]);
     assert_eq!(
-        measure(&Numbers { rate: 0, ..all[7] }, &[]),
+        measure(EDITION_1, &Numbers { rate: 0, ..all[7] }, &[]),
         Err(refused(1, 0))
     );
 }
@@ -255,11 +255,14 @@ fn refusals_1_to_7_in_order() {
 #[test]
 fn refusal_3_against_the_schedule() {
     let class_and_schedule = |class, schedule| {
-        set_up(&Numbers {
-            class,
-            schedule,
-            ..narrow(4)
-        })
+        set_up(
+            EDITION_1,
+            &Numbers {
+                class,
+                schedule,
+                ..narrow(4)
+            },
+        )
         .is_ok()
     };
     assert!(class_and_schedule(1, 0) && !class_and_schedule(1, 1));
@@ -271,26 +274,32 @@ fn refusal_3_against_the_schedule() {
 #[test]
 fn refusals_4_to_6_at_their_ends() {
     let height = |height| {
-        set_up(&Numbers {
-            height,
-            ..narrow(4)
-        })
+        set_up(
+            EDITION_1,
+            &Numbers {
+                height,
+                ..narrow(4)
+            },
+        )
         .err()
     };
     assert_eq!(
         [0, 1, 65_535, 65_536].map(height),
         [Some(4), None, None, Some(4)]
     );
-    let n = |n| set_up(&narrow(n)).err();
+    let n = |n| set_up(EDITION_1, &narrow(n)).err();
     assert_eq!(
         [0, 1, 20_000, 20_001].map(n),
         [Some(5), None, None, Some(5)]
     );
     let maxudp = |maxudp| {
-        set_up(&Numbers {
-            maxudp,
-            ..narrow(4)
-        })
+        set_up(
+            EDITION_1,
+            &Numbers {
+                maxudp,
+                ..narrow(4)
+            },
+        )
         .err()
     };
     assert_eq!([1460, 8960, 1461].map(maxudp), [None, None, Some(6)]);
@@ -299,7 +308,7 @@ fn refusals_4_to_6_at_their_ends() {
 #[test]
 fn refusals_11_to_13_with_their_places() {
     let numbers = narrow(4);
-    let refusal = |list: &[(u64, u32, u8)]| measure(&numbers, &packets(list)).err();
+    let refusal = |list: &[(u64, u32, u8)]| measure(EDITION_1, &numbers, &packets(list)).err();
     assert_eq!(refusal(&[(5, 0, 0), (5, 0, 2)]), Some(refused(11, 1)));
     assert_eq!(refusal(&[(5, 0, 0), (5, 0, 0)]), None);
     assert_eq!(refusal(&[(5, 0, 0), (4, 0, 0)]), Some(refused(12, 1)));
@@ -314,16 +323,31 @@ fn refusals_10_and_15_of_one_call() {
     let numbers = narrow(1);
     let history = packets(&[(1, 0, 1), (2, 0, 1)]);
     let lists: (&[u64], &[u32], &[u8]) = (&[3, 4], &[0, 0], &[1, 1]);
-    assert_eq!(call(&numbers, &history, lists, 21), Err(refused(15, 2)));
-    let answer = call(&numbers, &history, lists, 22).unwrap();
+    assert_eq!(
+        call(EDITION_1, &numbers, &history, lists, 21),
+        Err(refused(15, 2))
+    );
+    let answer = call(EDITION_1, &numbers, &history, lists, 22).unwrap();
     assert_eq!((answer.rows.len(), answer.after.frames), (2, 3));
     assert_eq!(answer.rows[0][0], 1);
     let uneven: (&[u64], &[u32], &[u8]) = (&[3, 4], &[0], &[1, 2]);
-    assert_eq!(call(&numbers, &history, uneven, 0), Err(refused(10, 0)));
+    assert_eq!(
+        call(EDITION_1, &numbers, &history, uneven, 0),
+        Err(refused(10, 0))
+    );
     let high: (&[u64], &[u32], &[u8]) = (&[3, 4], &[0, 0], &[1, 2]);
-    assert_eq!(call(&numbers, &history, high, 0), Err(refused(11, 3)));
+    assert_eq!(
+        call(EDITION_1, &numbers, &history, high, 0),
+        Err(refused(11, 3))
+    );
     let nothing: (&[u64], &[u32], &[u8]) = (&[], &[], &[]);
-    assert_eq!(call(&numbers, &history, nothing, 0).unwrap().rows.len(), 0);
+    assert_eq!(
+        call(EDITION_1, &numbers, &history, nothing, 0)
+            .unwrap()
+            .rows
+            .len(),
+        0
+    );
 }
 
 #[test]
@@ -480,7 +504,7 @@ fn parameters_alone_are_a_file() {
 #[test]
 fn the_c_call_on_the_example() {
     let file = example_file();
-    let (number, offset, bytes) = expected_c_call(&file, 8 * 20);
+    let (number, offset, bytes) = expected_c_call(EDITION_1, &file, 8 * 20);
     assert_eq!((number, offset), (0, 0));
     let bytes = bytes.unwrap();
     let values: Vec<i64> = bytes
@@ -496,9 +520,12 @@ fn the_c_call_on_the_example() {
     ];
     assert_eq!(values[..9], [5, 1, 2, 0, 0, 0, 1, 0, 0]);
     assert_eq!(values[9..], row);
-    assert_eq!(expected_c_call(&file, 8 * 20 - 1), (15, 99, None));
+    assert_eq!(
+        expected_c_call(EDITION_1, &file, 8 * 20 - 1),
+        (15, 99, None)
+    );
     // After all else.
-    assert_eq!(expected_c_call(&file[..98], 0), (21, 83, None));
+    assert_eq!(expected_c_call(EDITION_1, &file[..98], 0), (21, 83, None));
 }
 
 // --- frames, buffer and bucket ---
@@ -526,7 +553,7 @@ fn three() -> Numbers {
 #[test]
 fn kinds_in_their_order_and_frame_numbers() {
     let list = frames_of(&[&[1, 2], &[1, 1, 1, 2], &[1, 1, 2], &[1, 2, 1], &[1, 1, 1]]);
-    let rows = measure(&three(), &list).unwrap().rows;
+    let rows = measure(EDITION_1, &three(), &list).unwrap().rows;
     let heads: Vec<&[i64]> = rows.iter().map(|row| &row[..3]).collect();
     assert_eq!(
         heads,
@@ -540,7 +567,10 @@ fn kinds_in_their_order_and_frame_numbers() {
 #[test]
 fn a_broken_frame_is_not_judged() {
     let list = frames_of(&[&[1, 2], &[1, 1, 1, 2], &[1, 1, 2]]);
-    assert_eq!(measure(&three(), &list).unwrap().buffer, Buffer::None);
+    assert_eq!(
+        measure(EDITION_1, &three(), &list).unwrap().buffer,
+        Buffer::None
+    );
 }
 
 #[test]
@@ -552,14 +582,14 @@ fn over_and_the_first_failing_frame() {
     let mut list = frames_of(&[&[1, 2], &[1, 1, 1], &[1, 1, 1]]);
     // VRX_FULL is 1 here, so frame 1 overfills the buffer.
     let over = Buffer::Over { frame: 1, peak: 3 };
-    assert_eq!(measure(&numbers, &list).unwrap().buffer, over);
+    assert_eq!(measure(EDITION_1, &numbers, &list).unwrap().buffer, over);
     // Under comes before over in one frame.
     list[5].arrival += 19_000_000;
     let under = Buffer::Under {
         frame: 1,
         packet: 2,
     };
-    let measurement = measure(&numbers, &list).unwrap();
+    let measurement = measure(EDITION_1, &numbers, &list).unwrap();
     assert_eq!(measurement.rows[1][8..10], [2, -1]);
     assert_eq!(measurement.buffer, under);
 }
@@ -569,21 +599,21 @@ fn the_drain_comes_before_an_arrival_at_its_instant() {
     // Rate 6, n 4: eleven drains take exactly 50 ms.
     let exact = 50_000_000;
     let list = |second| packets(&[(0, 0, 0), (second, 0, 0), (second, 0, 0)]);
-    let limits = set_up(&narrow(4)).unwrap();
+    let limits = set_up(EDITION_1, &narrow(4)).unwrap();
     assert_eq!(drain_instant(&limits, 11), Fraction::whole(27 * exact));
     // One packet before the eleventh drain, one at it.
     let mut close = list(exact as u64);
     close[1].arrival -= 1;
-    assert_eq!(measure(&narrow(4), &close).unwrap().peak, 1);
+    assert_eq!(measure(EDITION_1, &narrow(4), &close).unwrap().peak, 1);
     close[2].arrival -= 1;
-    assert_eq!(measure(&narrow(4), &close).unwrap().peak, 2);
+    assert_eq!(measure(EDITION_1, &narrow(4), &close).unwrap().peak, 2);
 }
 
 #[test]
 fn unused_drains_are_not_saved_up_and_the_run_starts_where_it_was_empty() {
     let mut list = packets(&[(0, 0, 0)]);
     list.extend(packets(&[(1_000_000_000, 0, 0); 6]));
-    let measurement = measure(&narrow(4), &list).unwrap();
+    let measurement = measure(EDITION_1, &narrow(4), &list).unwrap();
     assert_eq!(measurement.peak, 6);
     assert_eq!(
         measurement.network,
@@ -594,7 +624,7 @@ fn unused_drains_are_not_saved_up_and_the_run_starts_where_it_was_empty() {
 #[test]
 fn arrivals_at_the_end_of_64_bits() {
     let list = packets(&[(u64::MAX - 1, 0, 1), (u64::MAX, 0, 1)]);
-    let row = measure(&narrow(1), &list).unwrap().rows[0];
+    let row = measure(EDITION_1, &narrow(1), &list).unwrap().rows[0];
     let grains = 27 * i128::from(u64::MAX);
     let t_cf = (grains + 270_000_000) / 540_000_000 * 540_000_000;
     assert_eq!(i128::from(row[3]), grains - t_cf);
@@ -620,12 +650,20 @@ fn call_with(history: &[Packet], list: &[Packet], room: usize) -> Result<CallAns
         timestamps,
         markers,
     } = Lists::of(list);
-    call(&three(), history, (&arrivals, &timestamps, &markers), room)
+    call(
+        EDITION_1,
+        &three(),
+        history,
+        (&arrivals, &timestamps, &markers),
+        room,
+    )
 }
 
 #[test]
 fn the_example_ends_its_frame_line_with_1() {
-    let rows = measure(&narrow(4), &example_packets()).unwrap().rows;
+    let rows = measure(EDITION_1, &narrow(4), &example_packets())
+        .unwrap()
+        .rows;
     assert_eq!(places(&rows), [1]);
     let text = expected_output(&example_file());
     assert!(text.lines().next().unwrap().ends_with(" 1"));
@@ -636,14 +674,14 @@ fn places_are_counted_from_0_with_the_lead_in() {
     // A lead-in of 5 packets, of which the last is its marker.
     let mut list = packets(&[(0, 0, 0); 4]);
     list.extend(frames_of(&[&[1, 1, 1], &[1, 1, 1]]));
-    let rows = measure(&three(), &list).unwrap().rows;
+    let rows = measure(EDITION_1, &three(), &list).unwrap().rows;
     assert_eq!(places(&rows), [5, 8]);
 }
 
 #[test]
 fn a_place_is_filled_for_broken_frames_too() {
     let list = frames_of(&[&[1, 2], &[1, 1, 1, 2], &[1, 1, 2], &[1, 1, 1], &[1]]);
-    let rows = measure(&three(), &list).unwrap().rows;
+    let rows = measure(EDITION_1, &three(), &list).unwrap().rows;
     let kinds: Vec<i64> = rows.iter().map(|row| row[1]).collect();
     assert_eq!(kinds, [1, 2, 3, 0, 1]);
     assert_eq!(places(&rows), [1, 3, 7, 10, 13]);
@@ -683,9 +721,12 @@ fn a_row_of_the_c_call_is_88_bytes() {
     for frames in 0..=3 {
         let file = write(1, &three(), &frames_of(&stamps[..frames]));
         let needed = 72 + 88 * frames;
-        assert_eq!(expected_c_call(&file, needed).2.unwrap().len(), needed);
+        assert_eq!(
+            expected_c_call(EDITION_1, &file, needed).2.unwrap().len(),
+            needed
+        );
         let too_few = (15, file.len() as u64, None);
-        assert_eq!(expected_c_call(&file, needed - 1), too_few);
+        assert_eq!(expected_c_call(EDITION_1, &file, needed - 1), too_few);
     }
 }
 
@@ -697,7 +738,7 @@ const HALF_OF_P: i64 = 644_245_094_400_000;
 /// `t` with its marker before it.
 fn offsets(t: u64, timestamp: u32) -> [i64; 3] {
     let list = packets(&[(t, 0, 1), (t, timestamp, 1)]);
-    let row = measure(&narrow(1), &list).unwrap().rows[0];
+    let row = measure(EDITION_1, &narrow(1), &list).unwrap().rows[0];
     assert_eq!(row[4], row[3] - row[5], "RTP_OFFSET follows as FPT less VL");
     [row[3], row[4], row[5]]
 }

@@ -10,7 +10,7 @@ use vtiming_reference::capture::{Carried, Why};
 use vtiming_reference::cases::{captures, cases, fixed, waits, Call, Case, ROUND};
 use vtiming_reference::fraction::Fraction;
 use vtiming_reference::frame::{closed_frames, t_cf, Kind};
-use vtiming_reference::generate::{file, under, OTHER_VERSIONS};
+use vtiming_reference::generate::{file, under, OTHER_EDITIONS, OTHER_VERSIONS};
 use vtiming_reference::measure::{measure_accepted, Row};
 use vtiming_reference::numbers::{GRAINS_PER_NANOSECOND, GRAINS_PER_SECOND, GRAINS_PER_TICK, WRAP};
 use vtiming_reference::packet::LONGEST_HISTORY;
@@ -52,6 +52,7 @@ fn look_at_verdict(seen: &mut Seen, line: &str) {
         "buffer pass",
         "buffer under",
         "buffer over",
+        "buffer broken",
     ] {
         if line.contains(verdict) {
             seen.add(verdict);
@@ -60,7 +61,7 @@ fn look_at_verdict(seen: &mut Seen, line: &str) {
 }
 
 fn look_at_ties(seen: &mut Seen, bytes: &[u8]) {
-    let reading = read(bytes);
+    let reading = read(EDITION_1, bytes);
     let limits = match reading.limits {
         Some(limits) => limits,
         None => return,
@@ -130,7 +131,7 @@ fn generated_files_reach_everything() {
 fn generated_files_reach_every_stream_and_both_ends() {
     let mut seen = Seen::default();
     for index in 0..6000 {
-        let reading = read(&file(2110, index));
+        let reading = read(EDITION_1, &file(2110, index));
         let (numbers, limits) = match (reading.numbers, reading.limits) {
             (Some(numbers), Some(limits)) => (numbers, limits),
             _ => continue,
@@ -213,7 +214,7 @@ fn begins_and_ends_there(packets: &[Packet], place: usize, count: usize) -> bool
 fn the_eleventh_number_is_the_place_where_the_frame_begins() {
     let mut seen = Seen::default();
     for index in 0..FILES {
-        let reading = read(&file(1, index));
+        let reading = read(EDITION_1, &file(1, index));
         let limits = match reading.limits {
             Some(limits) => limits,
             None => continue,
@@ -236,7 +237,7 @@ fn the_eleventh_number_is_the_place_where_the_frame_begins() {
 /// The rows of a file's whole frames, which alone have VL, each with the first
 /// packet of its frame.
 fn whole_rows(seed: u64, index: u64) -> Vec<(Row, Packet)> {
-    let reading = read(&file(seed, index));
+    let reading = read(EDITION_1, &file(seed, index));
     let limits = match reading.limits {
         Some(limits) => limits,
         None => return vec![],
@@ -383,12 +384,12 @@ fn what_is_read_is_written_back_byte_for_byte() {
 #[test]
 fn cutting_the_list_changes_nothing() {
     for index in 0..400 {
-        let reading = read(&file(4, index));
+        let reading = read(EDITION_1, &file(4, index));
         let numbers = match reading.numbers {
             Some(numbers) if reading.packets.len() <= 300 => numbers,
             _ => continue,
         };
-        let whole = measure(&numbers, &reading.packets).unwrap();
+        let whole = measure(EDITION_1, &numbers, &reading.packets).unwrap();
         let cut = reading.packets.len() * (index as usize % 5) / 4;
         let cut = cut.min(reading.packets.len());
         let (front, back) = reading.packets.split_at(cut);
@@ -396,8 +397,8 @@ fn cutting_the_list_changes_nothing() {
         let timestamps: Vec<u32> = back.iter().map(|p| p.timestamp).collect();
         let markers: Vec<u8> = back.iter().map(|p| p.marker).collect();
         let lists = (&arrivals[..], &timestamps[..], &markers[..]);
-        let answer = call(&numbers, front, lists, usize::MAX).unwrap();
-        let before = measure(&numbers, front).unwrap();
+        let answer = call(EDITION_1, &numbers, front, lists, usize::MAX).unwrap();
+        let before = measure(EDITION_1, &numbers, front).unwrap();
         assert_eq!([before.rows, answer.rows].concat(), whole.rows);
         assert_eq!(answer.after, whole);
     }
@@ -412,12 +413,12 @@ fn cutting_the_list_changes_nothing() {
 fn next_reads_agree_with_levels_and_margins() {
     let mut seen = Seen::default();
     for index in 0..FILES {
-        let reading = read(&file(1, index));
+        let reading = read(EDITION_1, &file(1, index));
         let numbers = match reading.numbers {
             Some(numbers) if numbers.packets_per_frame <= 64 => numbers,
             _ => continue,
         };
-        let limits = set_up(&numbers).unwrap();
+        let limits = set_up(EDITION_1, &numbers).unwrap();
         for frame in closed_frames(&reading.packets) {
             if frame.kind(limits.n) == Kind::Whole {
                 look_at_levels(&mut seen, &numbers, &limits, frame.packets);
@@ -457,7 +458,7 @@ fn look_at_wait(seen: &mut Seen, wait: &Wait) {
     match next_read(wait) {
         Err(number) => seen.add(&format!("refused {}", number)),
         Ok(next) => {
-            let limits = set_up(&wait.numbers).unwrap();
+            let limits = set_up(EDITION_1, &wait.numbers).unwrap();
             look_at_next(seen, next, limits.n - 1);
             look_at_over(seen, wait, &limits, next);
             look_at_arrivals(seen, wait);
@@ -677,6 +678,7 @@ fn everything_of_captures() -> Vec<String> {
         "buffer pass",
         "buffer under",
         "buffer over",
+        "buffer broken",
     ]
     .map(str::to_string)
     .to_vec();
@@ -689,7 +691,7 @@ fn everything_of_captures() -> Vec<String> {
         all.push(format!("magic [{}]", magic));
     }
     all.extend((0..4).map(|kind| format!("kind {}", kind)));
-    let refusals = [1, 2, 3, 4, 5, 6, 7, 12, 13, 30, 31, 32, 33];
+    let refusals = [1, 2, 3, 4, 5, 6, 7, 8, 12, 13, 30, 31, 32, 33];
     all.extend(refusals.iter().map(|number| format!("refused {}", number)));
     all.extend(REASONS.iter().map(|why| format!("skipped: {:?}", why)));
     all.sort();
@@ -721,7 +723,9 @@ const REASONS: [Why; 16] = [
 fn captures_reach_everything() {
     let mut seen = Seen::default();
     for (asked, bytes) in captures() {
-        look_at_capture(&mut seen, &asked, &bytes);
+        for edition in [1, 2, 3] {
+            look_at_capture(&mut seen, &asked.by(edition), &bytes);
+        }
     }
     let fixed: Vec<String> = seen.0.into_keys().collect();
     assert_eq!(fixed, everything_of_captures());
@@ -756,11 +760,11 @@ fn fixed_cases() -> Vec<Case> {
 
 fn name_of(call: &Call) -> &'static str {
     match call {
-        Call::Measure(_) => "measure",
+        Call::Measure { .. } => "measure",
         Call::Write { .. } => "write",
         Call::Limits(_) => "limits",
         Call::Graph { .. } => "graph",
-        Call::SetUp(_) => "set-up",
+        Call::SetUp { .. } => "set-up",
         Call::Feed { .. } => "feed",
         Call::Capture { .. } => "capture",
         Call::NextRead(_) => "next-read",
@@ -787,16 +791,16 @@ fn reach_every_answer(cases: &[Case]) {
     let wanted: [(&str, &[u8]); 8] = [
         (
             "measure",
-            &[0, 1, 2, 3, 4, 5, 6, 7, 11, 12, 13, 15, 20, 21, 22, 23],
+            &[0, 1, 2, 3, 4, 5, 6, 7, 8, 11, 12, 13, 15, 20, 21, 22, 23],
         ),
         ("write", &[0, 1, 2, 3, 4, 5, 6, 7, 10, 11, 12, 13, 20, 24]),
         ("limits", &[0, 1, 2, 3, 4, 5, 6, 7, 15]),
         ("graph", &[0, 15, 16]),
-        ("set-up", &[0, 1, 2, 3, 4, 5, 6, 7, 15]),
+        ("set-up", &[0, 1, 2, 3, 4, 5, 6, 7, 8, 15]),
         ("feed", &[0, 9, 10, 11, 12, 13, 14, 15]),
         (
             "capture",
-            &[0, 1, 2, 3, 4, 5, 6, 7, 12, 13, 15, 30, 31, 32, 33],
+            &[0, 1, 2, 3, 4, 5, 6, 7, 8, 12, 13, 15, 30, 31, 32, 33],
         ),
         ("next-read", &[0, 1, 2, 3, 4, 5, 6, 7, 12, 13, 15]),
     ];
@@ -828,8 +832,8 @@ fn the_cases_reach_every_answer_of_every_call() {
 fn the_fixed_files_reach_every_kind_and_verdict() {
     let mut seen = Seen::default();
     for case in fixed_cases() {
-        if let Call::Measure(bytes) = &case.call {
-            look_at_lines(&mut seen, &expected_output(bytes));
+        if let Call::Measure { file, .. } = &case.call {
+            look_at_lines(&mut seen, &expected_output(file));
         }
     }
     for what in [
@@ -853,8 +857,18 @@ fn the_fixed_files_reach_every_kind_and_verdict() {
 /// The version byte of a file, or the version that lists are to be written as.
 fn version_of(call: &Call) -> Option<u8> {
     match call {
-        Call::Measure(file) => file.first().copied(),
+        Call::Measure { file, .. } => file.first().copied(),
         Call::Write { version, .. } => Some(*version),
+        _ => None,
+    }
+}
+
+/// The edition of a call that takes one.
+fn edition_of(call: &Call) -> Option<u32> {
+    match call {
+        Call::Measure { edition, .. } | Call::SetUp { edition, .. } => Some(*edition),
+        Call::Feed { edition, .. } => Some(*edition),
+        Call::Capture { asked, .. } => Some(asked.edition),
         _ => None,
     }
 }
@@ -863,52 +877,120 @@ fn version_of(call: &Call) -> Option<u8> {
 fn in_version(call: &Call, version: u8) -> Call {
     let mut other = call.clone();
     match &mut other {
-        Call::Measure(file) => file[0] = version,
+        Call::Measure { file, .. } => file[0] = version,
         Call::Write { version: asked, .. } => *asked = version,
         _ => unreachable!("no other call has a version"),
     }
     other
 }
 
-/// An input that has a version comes under version 1, under 2 and then under
-/// others, and is else the same; any other input comes once. Gives the versions.
-fn versions_of(input: &[Case]) -> Vec<u8> {
+/// The same call, by another edition.
+fn by_edition(call: &Call, by: u32) -> Call {
+    let mut other = call.clone();
+    match &mut other {
+        Call::Measure { edition, .. } | Call::SetUp { edition, .. } => *edition = by,
+        Call::Capture { asked, .. } => asked.edition = by,
+        _ => unreachable!("no other call is the same by another edition"),
+    }
+    other
+}
+
+/// The versions and editions of an input that has a version; it comes under
+/// versions 1 and 2 and then under others, and is else the same.
+fn versions_of(input: &[Case]) -> Vec<(u8, Option<u32>)> {
     let first = version_of(&input[0].call);
     if !matches!(first, Some(1 | 2)) {
-        assert_eq!(input.len(), 1);
         return vec![];
     }
-    let versions: Vec<u8> = input.iter().flat_map(|c| version_of(&c.call)).collect();
-    for (case, version) in input.iter().zip(&versions) {
-        assert_eq!(case.call, in_version(&input[0].call, *version));
+    let tried = |case: &Case| (version_of(&case.call).unwrap(), edition_of(&case.call));
+    let all: Vec<(u8, Option<u32>)> = input.iter().map(tried).collect();
+    for (case, (version, edition)) in input.iter().zip(&all) {
+        let mut call = in_version(&input[0].call, *version);
+        if let Some(edition) = edition {
+            call = by_edition(&call, *edition);
+        }
+        assert_eq!(case.call, call);
     }
-    versions
+    all
+}
+
+/// The case of an input in that version, by edition 1 if it takes any.
+fn case_in(input: &[Case], version: u8) -> &Case {
+    let by_1 = |case: &&Case| matches!(edition_of(&case.call), None | Some(EDITION_1));
+    let mut cases = input.iter().filter(by_1);
+    let found = cases.find(|case| version_of(&case.call) == Some(version));
+    found.expect("every input of a version has both")
+}
+
+fn is_other_version(version: u8) -> bool {
+    version != 1 && version != 2
+}
+
+fn is_other_edition(edition: u32) -> bool {
+    !EDITIONS.contains(&edition)
 }
 
 /// Every file that has a version, and all lists: the fixed ones under 1, 2, 0, 3
-/// and 255, the generated ones under 1, 2 and one that there is not.
+/// and 255, the generated ones under 1, 2 and one that there is not. A file is
+/// measured in versions 1 and 2 by both editions.
 #[test]
 fn every_file_and_every_list_is_tried_in_both_versions() {
     let mut seen = Seen::default();
-    for input in fixed() {
-        let versions = versions_of(&input);
-        if !versions.is_empty() {
-            assert_eq!(versions, [1, 2, 0, 3, 255]);
-            seen.add(&format!("fixed {}", name_of(&input[0].call)));
+    let generated = (0..100 * ROUND).map(|index| (3, 6, cases(2, index)));
+    for (of_lists, of_files, input) in fixed().into_iter().map(|i| (5, 11, i)).chain(generated) {
+        let tried = versions_of(&input);
+        let name = name_of(&input[0].call);
+        let sort = if of_lists == 5 { "fixed" } else { "generated" };
+        if tried.is_empty() {
+            continue;
         }
-    }
-    for input in (0..100 * ROUND).map(|index| cases(2, index)) {
-        if let [1, 2, other] = versions_of(&input)[..] {
-            assert!(other != 1 && other != 2);
-            let name = name_of(&input[0].call);
-            seen.add(&format!("generated {} and {}", name, other.clamp(3, 5)));
-            seen.add(&format!("generated {}", name));
+        seen.add(&format!("{} {}", sort, name));
+        if name == "write" {
+            let versions: Vec<u8> = tried.iter().map(|(version, _)| *version).collect();
+            assert_eq!(versions.len(), of_lists);
+            assert_eq!(versions[..2], [1, 2]);
+            assert!(versions[2..]
+                .iter()
+                .all(|version| is_other_version(*version)));
+            assert!(sort == "generated" || versions[2..] == OTHER_VERSIONS);
+        } else {
+            let tried: Vec<(u8, u32)> = tried.iter().map(|(v, e)| (*v, e.unwrap())).collect();
+            assert_eq!(tried.len(), of_files);
+            assert_eq!(tried[..4], [(1, 1), (1, 2), (2, 1), (2, 2)]);
+            let (versions, editions) = tried[4..].split_at(of_lists - 2);
+            assert!(versions
+                .iter()
+                .all(|(version, _)| is_other_version(*version)));
+            assert!(editions.iter().all(|(version, edition)| {
+                !is_other_version(*version) && is_other_edition(*edition)
+            }));
+            let versions: Vec<u8> = versions.iter().map(|(version, _)| *version).collect();
+            assert!(sort == "generated" || versions == OTHER_VERSIONS);
+            for (version, edition) in &tried[4..] {
+                let of = version.clamp(&0, &3);
+                seen.add(&format!(
+                    "{} version {} by {}",
+                    sort,
+                    of,
+                    edition.clamp(&0, &3)
+                ));
+            }
         }
     }
     // Of 1,200 files some are empty or of no version; of lists there are 400.
     assert!(seen.0["generated measure"] > 1000);
     assert_eq!(seen.0["generated write"], 400);
     assert!(seen.0["fixed measure"] > 500 && seen.0["fixed write"] > 200);
+    // A version that there is not is tried by all sorts of editions, and an edition
+    // that there is not in both versions.
+    for what in [
+        "0 by 0", "3 by 1", "3 by 2", "3 by 3", "1 by 3", "2 by 3", "1 by 0", "2 by 0",
+    ] {
+        for sort in ["fixed", "generated"] {
+            let what = format!("{} version {}", sort, what);
+            assert!(seen.0.contains_key(&what), "never seen: {}", what);
+        }
+    }
 }
 
 /// What else is wrong with inputs that come under a version that there is not,
@@ -918,15 +1000,19 @@ fn look_at_faults(seen: &mut Seen, input: &[Case]) {
         return;
     }
     let name = name_of(&input[0].call);
-    for case in &input[2..] {
+    let other = |case: &&Case| is_other_version(version_of(&case.call).unwrap());
+    for case in input.iter().filter(other) {
         assert!(case.filled.is_empty() && case.measured.is_empty());
         assert!(case.rooms.iter().any(|room| room.lent == 0));
         assert!(case.rooms.iter().any(|room| room.lent >= 1000));
         for room in &case.rooms {
             assert_eq!((room.number, room.place), (20, 0));
         }
-        for room in &input[1].rooms {
+        for room in &case_in(input, 2).rooms {
             seen.add(&format!("{} {}", name, room.number));
+        }
+        if edition_of(&case.call).map_or(false, is_other_edition) {
+            seen.add(&format!("{} 8", name));
         }
     }
 }
@@ -935,7 +1021,7 @@ fn look_at_faults(seen: &mut Seen, input: &[Case]) {
 /// alone and by generated ones.
 #[test]
 fn other_versions_are_tried_with_every_other_fault() {
-    let of_files = [0, 1, 2, 3, 4, 5, 6, 7, 11, 12, 13, 15, 21, 22, 23];
+    let of_files = [0, 1, 2, 3, 4, 5, 6, 7, 8, 11, 12, 13, 15, 21, 22, 23];
     let of_lists = [0, 1, 2, 3, 4, 5, 6, 7, 10, 11, 12, 13, 24];
     let named = |name, number: &i32| format!("{} {}", name, number);
     let mut wanted: Vec<String> = of_files.iter().map(|n| named("measure", n)).collect();
@@ -979,7 +1065,7 @@ fn answers_filled(case: &Case) -> Option<(u8, u8)> {
 /// Schedule and class of a file that is accepted, or of lists.
 fn stream_of(call: &Call) -> Option<(u64, u64)> {
     let numbers = match call {
-        Call::Measure(file) => parse(file).ok()?.1,
+        Call::Measure { file, .. } => parse(file).ok()?.1,
         Call::Write { numbers, .. } => *numbers,
         _ => return None,
     };
@@ -992,8 +1078,9 @@ fn look_at_meaning(seen: &mut Seen, input: &[Case]) {
     if versions_of(input).is_empty() {
         return;
     }
-    let (in_1, in_2) = match (answers_filled(&input[0]), answers_filled(&input[1])) {
-        (Some(in_1), Some(in_2)) => (in_1, in_2),
+    let answers = [1, 2].map(|version| answers_filled(case_in(input, version)));
+    let (in_1, in_2) = match answers {
+        [Some(in_1), Some(in_2)] => (in_1, in_2),
         _ => return,
     };
     let (schedule, class) = stream_of(&input[0].call).expect("it is accepted");
@@ -1031,6 +1118,340 @@ fn what_class_0_means_shows_in_the_cases() {
     }
 }
 
+// --- request (vi) ---
+
+/// Captures and set-ups come by each edition and by others, the fixed ones by all
+/// of these; and so do files of no version. A list is fed by each edition, and its
+/// numbers are set up by the others.
+#[test]
+fn every_input_is_tried_by_both_editions_and_by_others() {
+    let mut seen = Seen::default();
+    let generated = (0..100 * ROUND).map(|index| (false, cases(2, index)));
+    for (all, input) in fixed()
+        .into_iter()
+        .map(|input| (true, input))
+        .chain(generated)
+    {
+        let first = &input[0].call;
+        if edition_of(first).is_none() || !versions_of(&input).is_empty() {
+            assert!(edition_of(first).is_some() || input.iter().all(|c| c.rooms.len() < 6));
+            continue;
+        }
+        let editions: Vec<u32> = input.iter().flat_map(|c| edition_of(&c.call)).collect();
+        assert_eq!(editions.len(), input.len());
+        let (good, others) = editions.split_at(2);
+        assert_eq!(good, EDITIONS);
+        assert!(others.iter().all(|edition| is_other_edition(*edition)));
+        assert!(others == OTHER_EDITIONS || (!all && others.len() == 1));
+        let name = name_of(first);
+        seen.add(&format!(
+            "{} {}",
+            if all { "fixed" } else { "generated" },
+            name
+        ));
+        match first {
+            Call::Feed { numbers, .. } => {
+                assert!(
+                    matches!(&input[1].call, Call::Feed { numbers: by_2, .. } if by_2 == numbers)
+                );
+                for case in &input[2..] {
+                    assert!(
+                        matches!(&case.call, Call::SetUp { numbers: other, .. } if other == numbers)
+                    );
+                    assert!(case.rooms.iter().all(|room| room.number == 8));
+                }
+            }
+            _ => {
+                for (case, edition) in input.iter().zip(&editions) {
+                    assert_eq!(case.call, by_edition(first, *edition));
+                }
+            }
+        }
+    }
+    assert_eq!(seen.0["generated feed"], 200);
+    assert_eq!(seen.0["generated set-up"], 50);
+    assert_eq!(seen.0["generated capture"], 1000);
+    assert!(seen.0["generated measure"] > 10 && seen.0["fixed measure"] > 10);
+    assert!(seen.0["fixed capture"] > 3000 && seen.0["fixed feed"] > 100);
+}
+
+/// What a whole list is answered: the nine numbers and the rows.
+struct Answer {
+    nine: Vec<i64>,
+    rows: Vec<Vec<i64>>,
+}
+
+/// What a case fills in; of a list that is fed, what its first call does, which has
+/// all of it.
+fn answer_of(case: &Case) -> Option<Answer> {
+    let of_bytes = |head: usize| {
+        let eights = case.filled.chunks(8);
+        let numbers: Vec<i64> = eights
+            .map(|eight| i64::from_be_bytes(eight.try_into().unwrap()))
+            .collect();
+        (!numbers.is_empty()).then(|| Answer {
+            nine: numbers[..9].to_vec(),
+            rows: numbers[head..].chunks(11).map(<[i64]>::to_vec).collect(),
+        })
+    };
+    match &case.call {
+        Call::Measure { .. } => of_bytes(9),
+        Call::Capture { .. } => of_bytes(11),
+        Call::Feed { calls, .. } => Some(Answer {
+            nine: calls[0].nine.to_vec(),
+            rows: calls[0].written.iter().map(|row| row.to_vec()).collect(),
+        }),
+        _ => None,
+    }
+}
+
+const BUFFERS: [&str; 5] = ["none", "pass", "under", "over", "broken"];
+
+/// What two answers to one input say, by edition 1 and by edition 2; and what must
+/// hold of them: all but the buffer answer is the same.
+fn look_at_editions(seen: &mut Seen, name: &str, by_1: &Answer, by_2: &Answer) {
+    assert_eq!(by_1.nine[..6], by_2.nine[..6]);
+    assert_eq!(by_1.rows, by_2.rows);
+    let buffer = |answer: &Answer| BUFFERS[answer.nine[6] as usize];
+    seen.add(&format!("{}: {} and {}", name, buffer(by_1), buffer(by_2)));
+    let broken_after = |frame: i64| by_2.rows.iter().any(|r| r[0] > frame && r[1] > 0);
+    match buffer(by_2) {
+        "broken" => {
+            let (frame, kind) = (by_2.nine[7] as usize, by_2.nine[8]);
+            assert_eq!(by_2.rows[frame][1], kind);
+            assert!(by_2.rows[..frame]
+                .iter()
+                .all(|row| row[1] == 0 && row[9] >= 0));
+            // What fails by edition 1 comes later.
+            assert!(by_1.nine[6] < 2 || by_1.nine[7] > by_2.nine[7]);
+            seen.add(&format!("{}: broken, kind {}", name, kind));
+            if frame > 0 {
+                seen.add(&format!("{}: broken after a whole frame", name));
+            }
+        }
+        "none" => assert!(by_2.rows.is_empty()),
+        "pass" => {
+            assert!(!by_2.rows.is_empty() && by_2.rows.iter().all(|row| row[1] == 0));
+            assert_eq!(by_1.nine, by_2.nine);
+            if by_2.rows.len() > 1 {
+                seen.add(&format!("{}: pass, of several frames", name));
+            }
+        }
+        fails => {
+            assert_eq!(by_1.nine, by_2.nine);
+            if broken_after(by_2.nine[7]) {
+                seen.add(&format!("{}: {} before a broken frame", name, fails));
+            }
+        }
+    }
+}
+
+/// By edition 1 and by edition 2, in one version.
+fn look_at_input(seen: &mut Seen, input: &[Case]) {
+    for by_1 in input
+        .iter()
+        .filter(|c| edition_of(&c.call) == Some(EDITION_1))
+    {
+        let same = |case: &&Case| {
+            edition_of(&case.call) == Some(EDITION_2)
+                && version_of(&case.call) == version_of(&by_1.call)
+        };
+        let by_2 = match input.iter().find(same) {
+            Some(by_2) => by_2,
+            // In a version that there is not it comes by one edition alone.
+            None => {
+                assert!(version_of(&by_1.call).map_or(false, is_other_version));
+                continue;
+            }
+        };
+        match (answer_of(by_1), answer_of(by_2)) {
+            (Some(one), Some(two)) => look_at_editions(seen, name_of(&by_1.call), &one, &two),
+            (one, two) => assert!(one.is_none() && two.is_none()),
+        }
+    }
+}
+
+/// All that two editions can answer to one input, files, captures and feeds alike.
+fn everything_of_editions() -> Vec<String> {
+    let mut all = vec![];
+    for name in ["capture", "feed", "measure"] {
+        for what in [
+            "none and none",
+            "none and broken",
+            "pass and pass",
+            "pass and broken",
+            "under and under",
+            "under and broken",
+            "over and over",
+            "over and broken",
+            "broken, kind 1",
+            "broken, kind 2",
+            "broken, kind 3",
+            "broken after a whole frame",
+            "pass, of several frames",
+            "under before a broken frame",
+            "over before a broken frame",
+        ] {
+            all.push(format!("{}: {}", name, what));
+        }
+    }
+    all.sort();
+    all
+}
+
+/// By the fixed inputs alone, and by generated ones.
+#[test]
+fn the_editions_answer_in_every_way() {
+    let generated = (0..300 * ROUND).map(|index| cases(6, index)).collect();
+    for inputs in [fixed(), generated] {
+        let mut seen = Seen::default();
+        inputs
+            .iter()
+            .for_each(|input| look_at_input(&mut seen, input));
+        println!("{:#?}", seen.0);
+        let seen: Vec<String> = seen.0.into_keys().collect();
+        assert_eq!(seen, everything_of_editions());
+    }
+}
+
+/// An edition that there is not, with whatever else is wrong: what comes before 8
+/// is given as by edition 1, and what comes after it is not.
+fn look_at_other_editions(seen: &mut Seen, input: &[Case]) {
+    let other = |case: &&Case| edition_of(&case.call).map_or(false, is_other_edition);
+    for case in input.iter().filter(other) {
+        let name = name_of(&case.call);
+        let by_1 = input.iter().find(|by_1| {
+            edition_of(&by_1.call) == Some(EDITION_1)
+                && version_of(&by_1.call) == version_of(&case.call)
+                && name_of(&by_1.call) == name
+        });
+        for room in &case.rooms {
+            if room.number != 8 {
+                seen.add(&format!("{} wins {}", name, room.number));
+                assert!(by_1.map_or(room.number == 20, |by_1| by_1.rooms[0].number
+                    == room.number));
+                continue;
+            }
+            let place = if name == "measure" { 1 } else { 0 };
+            assert_eq!(room.place, place);
+            assert!(case.filled.is_empty());
+            for lost in by_1.iter().flat_map(|by_1| &by_1.rooms) {
+                seen.add(&format!("{} loses {}", name, lost.number));
+            }
+        }
+    }
+}
+
+/// "8 for an edition other than 1 or 2, after 7": tried with every other refusal,
+/// by the fixed inputs alone and by generated ones. At the parameter record 21 to
+/// 23 come before it, at a later one they are not come to.
+#[test]
+fn other_editions_are_tried_with_every_other_fault() {
+    let mut wanted = vec![];
+    for (what, numbers) in [
+        ("measure wins", &[1, 2, 3, 4, 5, 6, 7, 20, 21, 22, 23][..]),
+        ("measure loses", &[0, 11, 12, 13, 15, 21, 22, 23]),
+        ("capture wins", &[1, 2, 3, 4, 5, 6, 7]),
+        ("capture loses", &[0, 12, 13, 15, 30, 31, 32, 33]),
+        ("set-up wins", &[1, 2, 3, 4, 5, 6, 7]),
+        ("set-up loses", &[0, 15]),
+    ] {
+        wanted.extend(numbers.iter().map(|number| format!("{} {}", what, number)));
+    }
+    wanted.sort();
+    let generated = (0..400 * ROUND).map(|index| cases(7, index)).collect();
+    for inputs in [fixed(), generated] {
+        let mut seen = Seen::default();
+        inputs
+            .iter()
+            .for_each(|input| look_at_other_editions(&mut seen, input));
+        let seen: Vec<String> = seen.0.into_keys().collect();
+        assert_eq!(seen, wanted);
+    }
+}
+
+/// Generated captures have every sort of edition, so that the program meets them.
+#[test]
+fn generated_captures_have_editions_of_every_sort() {
+    let editions: Vec<u32> = (0..2000)
+        .map(|index| traffic::capture(2110, index).0.edition)
+        .collect();
+    let count = |edition| editions.iter().filter(|e| **e == edition).count();
+    assert!(count(1) > 500 && count(2) > 500);
+    for edition in OTHER_EDITIONS {
+        assert!(count(edition) > 0, "never seen: {}", edition);
+    }
+    // 1 or 2 in the last byte, and neither.
+    assert!(editions
+        .iter()
+        .any(|e| *e > 255 && [1, 2].contains(&(e & 255))));
+}
+
+/// A state holds the edition: both sides of its range, and of a broken answer's,
+/// are fed by each edition, and a state that has one is among them.
+#[test]
+fn states_of_both_editions_are_changed_on_both_sides() {
+    let mut seen = Seen::default();
+    for case in fixed_cases() {
+        let (edition, calls) = match case.call {
+            Call::Feed { edition, calls, .. } => (edition, calls),
+            _ => continue,
+        };
+        let mut buffer = 0;
+        for feed in calls {
+            assert!(
+                feed.number != 0 || feed.nine[6] != 4 || edition == 2 || !feed.changes.is_empty()
+            );
+            if feed.changes.is_empty() && feed.number == 0 {
+                buffer = feed.nine[6];
+            }
+            let word = |word| feed.changes.iter().find(|(w, _)| *w == word);
+            if let (Some((_, to)), 1) = (word(7), feed.changes.len()) {
+                let told = BUFFERS[buffer as usize];
+                seen.add(&format!(
+                    "by {}, {}, edition {}: {}",
+                    edition, told, to, feed.number
+                ));
+            }
+            if let Some((_, 4)) = word(31) {
+                let to = word(7).map_or(edition, |(_, to)| *to as u32);
+                let kind = word(33).unwrap().1.min(4);
+                seen.add(&format!(
+                    "by {}, broken of kind {}: {}",
+                    to, kind, feed.number
+                ));
+            }
+        }
+    }
+    for what in [
+        "by 1, none, edition 2: 0",
+        "by 1, pass, edition 2: 0",
+        "by 1, under, edition 2: 0",
+        "by 1, none, edition 1: 0",
+        "by 2, none, edition 1: 0",
+        "by 2, pass, edition 1: 0",
+        "by 2, broken, edition 1: 9",
+        "by 2, broken, edition 2: 0",
+        "by 1, none, edition 0: 9",
+        "by 1, none, edition 3: 9",
+        "by 1, none, edition 255: 9",
+        "by 1, none, edition 4294967295: 9",
+        "by 1, none, edition 4294967297: 9",
+        "by 2, broken, edition 4294967298: 9",
+        "by 1, broken of kind 1: 9",
+        "by 1, broken of kind 3: 9",
+        "by 2, broken of kind 0: 9",
+        "by 2, broken of kind 1: 0",
+        "by 2, broken of kind 2: 0",
+        "by 2, broken of kind 3: 0",
+        "by 2, broken of kind 4: 9",
+    ] {
+        assert!(seen.0.contains_key(what), "never seen: {}", what);
+    }
+    assert!(!seen.0.contains_key("by 1, broken of kind 1: 0"));
+    assert!(!seen.0.contains_key("by 2, broken, edition 1: 0"));
+}
+
 /// A file is tried under other versions with nothing else changed; one that has
 /// none stays as it is.
 #[test]
@@ -1051,12 +1472,12 @@ fn only_the_version_byte_is_changed() {
 fn a_case_is_accepted_where_there_is_room() {
     for case in (0..2000).flat_map(|index| cases(5, index)) {
         let size = match case.call {
-            Call::Measure(_) | Call::Write { .. } | Call::Capture { .. } => 1,
+            Call::Measure { .. } | Call::Write { .. } | Call::Capture { .. } => 1,
             _ => 8,
         };
         // What set-up writes is not known here, but how much it is.
         let needed = match case.call {
-            Call::SetUp(numbers) if set_up(&numbers).is_ok() => STATE_WORDS,
+            Call::SetUp { numbers, edition } if set_up(edition, &numbers).is_ok() => STATE_WORDS,
             _ => case.filled.len() as u64 / size,
         };
         for room in &case.rooms {
@@ -1078,7 +1499,7 @@ fn a_case_is_accepted_where_there_is_room() {
 /// Number and place of a call on bytes, or of the writer, with so much lent.
 fn answer_with(call: &Call, lent: usize) -> Option<(u8, u64)> {
     let (number, place, _) = match call {
-        Call::Measure(file) => expected_c_call(file, lent),
+        Call::Measure { file, edition } => expected_c_call(*edition, file, lent),
         Call::Capture { asked, bytes } => expected_capture_call(asked, bytes, lent),
         Call::Write {
             version,
