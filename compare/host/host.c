@@ -69,6 +69,7 @@ static struct {
     size_t raw_size, room_size;
     uint64_t index;
     int call;
+    uint32_t edition; /* of the calls that take one */
     struct bytes file; /* a record file, or a capture */
     uint16_t port;
     uint32_t offset;
@@ -109,12 +110,13 @@ static void show_numbers(void) {
            n->stream_class, n->height, n->packets_per_frame, n->maxudp, n->tro);
 }
 
-/* The capture, and the nine words that the reference program is asked with. */
+/* The capture, and the ten words that the reference program is asked with. */
 static void keep_capture(void) {
     const struct numbers *n = &now.numbers;
     char words[128];
-    int count = snprintf(words, sizeof words, "%u %" PRIu32 " %u %u %u %u %" PRIu32 " %u %" PRIu32 "\n", now.port, now.offset,
-                         n->rate, n->schedule, n->stream_class, n->height, n->packets_per_frame, n->maxudp, n->tro);
+    int count = snprintf(words, sizeof words, "%u %" PRIu32 " %u %u %u %u %" PRIu32 " %u %" PRIu32 " %" PRIu32 "\n", now.port,
+                         now.offset, n->rate, n->schedule, n->stream_class, n->height, n->packets_per_frame, n->maxudp, n->tro,
+                         now.edition);
     keep("first.pcap", now.file.at, now.file.count);
     keep("first.words", (const uint8_t *)words, (size_t)count);
 }
@@ -132,6 +134,9 @@ static void show_feed(void) {
         printf("  word %u changed to %" PRIu64 "\n", f->changes.at[9 * i], big_endian(f->changes.at + 9 * i + 1, 8));
 }
 
+/* Of the calls that take an edition: feed by its set-up. */
+static int takes_edition(int call) { return call == MEASURE || call == SET_UP || call == FEED || call == CAPTURE; }
+
 static _Noreturn void differs(const char *format, ...) {
     va_list rest;
     va_start(rest, format);
@@ -147,6 +152,7 @@ static _Noreturn void differs(const char *format, ...) {
     printf("\n");
     va_end(rest);
     if (now.call == WRITE) printf("  version %u\n", now.version);
+    if (takes_edition(now.call)) printf("  edition %" PRIu32 "\n", now.edition);
     if (now.call == WRITE || now.call == LIMITS || now.call >= SET_UP) show_numbers();
     if (now.call == CAPTURE) printf("  port %u, offset %" PRIu32 "\n", now.port, now.offset);
     if (now.call == WRITE || now.call == FEED)
@@ -232,26 +238,56 @@ static uint64_t cases[CALLS], calls_made, seen[CALLS][NUMBERS], accepted_room[2]
 static uint64_t round_trips, cuttings, large_rooms, with_skipped, with_part[4];
 static uint64_t read_left, read_now, read_over; /* a read is to come, comes at the packet's own arrival, or none is left */
 
-/* What the answers said, of files and of captures. */
-static struct said {
-    uint64_t kinds[4], networks[2], buffers[4], placed_broken;
-} of_files, of_captures;
+/* A number of an answer, or of a row. */
+static uint64_t number_of(const uint8_t *numbers, int k) { return big_endian(numbers + 8 * k, 8); }
 
-/* The summary's size is where the rows begin. */
-static void count_answer(struct said *said, struct bytes answer, size_t summary) {
-    uint64_t frames = big_endian(answer.at + 8, 8);
-    said->networks[big_endian(answer.at + 24, 8) & 1]++;
-    said->buffers[big_endian(answer.at + 48, 8) & 3]++;
+/* What the answers said, of files, of captures and of lists that are fed. */
+enum { EDITIONS = 2, BUFFERS = 5, KINDS = 4 };
+static struct said {
+    uint64_t kinds[KINDS], networks[2], buffers[EDITIONS][BUFFERS], placed_broken;
+    uint64_t broken_of[KINDS], broken_later; /* by the broken frame's kind; after a whole one */
+    uint64_t pass_of_several;                /* by edition 2 */
+    uint64_t before_broken[BUFFERS];         /* under or over by edition 2, and a broken frame after it */
+    uint64_t and_broken[BUFFERS];            /* by edition 1 so, and by edition 2 broken */
+    uint64_t same[BUFFERS];                  /* by both editions so */
+    struct {
+        uint64_t index, numbers[9];
+        int known;
+    } by_1[3]; /* the last answer by edition 1, by the file's version; without a file it is at 0 */
+} of_files, of_captures, of_feeds;
+
+/* The first nine numbers, and the rows. An input's cases come one after the other and have its index, those by edition 1 before
+   those by edition 2; by both all but the buffer answer is the same. */
+static void count_answer(struct said *said, const uint8_t *nine, const uint8_t *rows, unsigned version) {
+    uint64_t frames = number_of(nine, 1), buffer = number_of(nine, 6), frame = number_of(nine, 7), broken_after = 0;
+    unsigned second = now.edition == VTIMING_EDITION_2;
+    said->networks[number_of(nine, 3) & 1]++;
+    said->buffers[second][buffer < BUFFERS ? buffer : 0]++;
     for (uint64_t i = 0; i < frames; i++) {
-        const uint8_t *row = answer.at + summary + ROW_BYTES * i;
-        uint64_t kind = big_endian(row + 8, 8) & 3, place = big_endian(row + 80, 8);
+        const uint8_t *row = rows + ROW_BYTES * i;
+        uint64_t kind = number_of(row, 1) % KINDS, place = number_of(row, 10);
         said->kinds[kind]++;
         said->placed_broken += kind > 0 && place > 0;
+        broken_after += kind > 0 && i > frame;
     }
+    if (!second) {
+        said->by_1[version].index = now.index, said->by_1[version].known = 1;
+        for (int k = 0; k < 9; k++) said->by_1[version].numbers[k] = number_of(nine, k);
+        return;
+    }
+    if (buffer == VTIMING_BUFFER_BROKEN) said->broken_of[number_of(nine, 8) % KINDS]++, said->broken_later += frame > 0;
+    if (buffer == VTIMING_BUFFER_PASS) said->pass_of_several += frames > 1;
+    if (broken_after && (buffer == VTIMING_BUFFER_UNDER || buffer == VTIMING_BUFFER_OVER)) said->before_broken[buffer]++;
+    if (!said->by_1[version].known || said->by_1[version].index != now.index) return;
+    const uint64_t *by_1 = said->by_1[version].numbers;
+    for (int k = 0; k < 6; k++)
+        if (by_1[k] != number_of(nine, k)) differs("number %d is wanted otherwise by the other edition", k);
+    if (buffer == VTIMING_BUFFER_BROKEN) said->and_broken[by_1[6] < BUFFERS ? by_1[6] : 0]++;
+    else if (by_1[6] == buffer) said->same[buffer < BUFFERS ? buffer : 0]++;
 }
 
 static void count_capture(struct bytes answer) {
-    count_answer(&of_captures, answer, CAPTURE_SUMMARY_BYTES);
+    count_answer(&of_captures, answer.at, answer.at + CAPTURE_SUMMARY_BYTES, 0);
     with_skipped += big_endian(answer.at + 80, 8) > 0;
     for (int i = 0; i < 4; i++) with_part[i] += now.parts >> i & 1;
 }
@@ -290,7 +326,7 @@ static void count_class_0(void) {
     unsigned stream_class = now.call == MEASURE ? file[6] : now.numbers.stream_class;
     if (stream_class != 0 || version > 2 || schedule > 1) return;
     class_0[now.call][version][schedule]++;
-    if (now.call == MEASURE) count_meaning(&as_read, now.filled, version, schedule);
+    if (now.call == MEASURE && now.edition == VTIMING_EDITION_1) count_meaning(&as_read, now.filled, version, schedule);
     if (now.call == WRITE) count_meaning(&as_written, now.measured, version, schedule);
 }
 
@@ -307,6 +343,42 @@ static void count_version(void) {
     }
     uint8_t version = now.call == MEASURE ? now.file.at[0] : now.version;
     for (size_t i = 0; i < OTHER_VERSIONS; i++) with_version[now.call][i] += version == other_versions[i];
+}
+
+/* Editions that there are not, as cases have them for every fixed input; and with what else is wrong they come: what is given
+   before 8, and what is not given since 8 is. That is what edition 1 gave the same input just before. */
+static const uint32_t other_editions[] = {0, 3, 255, UINT32_MAX};
+#define OTHER_EDITIONS (sizeof other_editions / sizeof *other_editions)
+static uint64_t with_edition[CALLS][OTHER_EDITIONS], before_8[CALLS][NUMBERS], after_8[CALLS][NUMBERS];
+
+/* What edition 1 gave, by the file's version; without a file it is at 0. */
+static struct by_edition_1 {
+    uint64_t index;
+    unsigned count;
+    uint32_t numbers[255];
+    size_t filled;
+} by_edition_1[CALLS][3];
+
+/* A list that is fed is set up by other editions as a case of its own. */
+static struct by_edition_1 *same_by_edition_1(void) {
+    unsigned version = now.call == MEASURE && now.file.count && now.file.at[0] <= 2 ? now.file.at[0] : 0;
+    return &by_edition_1[now.call == FEED ? SET_UP : now.call][version];
+}
+
+static int refused_by_edition(void) { return now.room_count && now.rooms[0].number == VTIMING_REFUSED_EDITION; }
+
+/* Of every case of a call that takes an edition. */
+static void count_edition(void) {
+    struct by_edition_1 *same = same_by_edition_1();
+    if (now.edition == VTIMING_EDITION_1) {
+        same->index = now.index, same->count = now.room_count, same->filled = now.filled.count;
+        for (unsigned i = 0; i < now.room_count; i++) same->numbers[i] = now.rooms[i].number;
+    } else if (refused_by_edition()) {
+        for (size_t i = 0; i < OTHER_EDITIONS; i++) with_edition[now.call][i] += now.edition == other_editions[i];
+        for (unsigned i = 0; same->index == now.index && i < same->count; i++) after_8[now.call][same->numbers[i] % NUMBERS]++;
+    } else if (now.edition != VTIMING_EDITION_2) {
+        before_8[now.call][now.rooms[0].number % NUMBERS]++;
+    }
 }
 
 static void count_room(const struct room *room, uint64_t needed) {
@@ -332,13 +404,13 @@ static struct bytes turned_round(struct bytes from, uint8_t *to) {
     return (struct bytes){to, from.count};
 }
 
-static void measure(struct bytes file, const struct room *room, struct bytes answer, int fill) {
+static void measure(struct bytes file, uint32_t edition, const struct room *room, struct bytes answer, int fill) {
     struct lent in = lend(FILE_BYTES, file.count, file.at, fill), out = lend(OUT, room->lent, NULL, fill);
     at_step = "vtiming_measure";
-    answers(vtiming_measure(pointer(&in), in.size, pointer(&out), out.size), room->number, "number");
+    answers(vtiming_measure(pointer(&in), in.size, edition, pointer(&out), out.size), room->number, "number");
     room_holds(&out, room->number ? (struct bytes){NULL, 0} : answer);
     at_step = "vtiming_measure_offset";
-    answers(vtiming_measure_offset(pointer(&in), in.size, out.size), room->place, "offset");
+    answers(vtiming_measure_offset(pointer(&in), in.size, edition, out.size), room->place, "offset");
     unchanged(&in, file.at, "the file");
 }
 
@@ -361,10 +433,10 @@ static void write_file(const struct room *room, int fill) {
     unchanged(&stamps, now.stamps, "the timestamps");
     unchanged(&markers, now.markers.at, "the markers");
     if (room->number == 0) {
-        /* The file as the call has just written it, and what the reference measures of it. */
+        /* The file as the call has just written it, and what the reference measures of it by edition 1. */
         struct room all = {.lent = now.measured.count};
         struct bytes written = {now.filled.at, now.filled.count};
-        measure(written, &all, now.measured, fill);
+        measure(written, VTIMING_EDITION_1, &all, now.measured, fill);
         round_trips++;
     }
 }
@@ -373,11 +445,12 @@ static void capture(const struct room *room, int fill) {
     const struct numbers *n = &now.numbers;
     struct lent in = lend(FILE_BYTES, now.file.count, now.file.at, fill), out = lend(OUT, room->lent, NULL, fill);
     at_step = "vtiming_capture";
-    answers(vtiming_capture(pointer(&in), in.size, now.port, now.offset, SEVEN(n), pointer(&out), out.size), room->number,
-            "number");
+    answers(vtiming_capture(pointer(&in), in.size, now.port, now.offset, SEVEN(n), now.edition, pointer(&out), out.size),
+            room->number, "number");
     room_holds(&out, room->number ? (struct bytes){NULL, 0} : now.filled);
     at_step = "vtiming_capture_place";
-    answers(vtiming_capture_place(pointer(&in), in.size, now.port, now.offset, SEVEN(n), out.size), room->place, "place");
+    answers(vtiming_capture_place(pointer(&in), in.size, now.port, now.offset, SEVEN(n), now.edition, out.size), room->place,
+            "place");
     unchanged(&in, now.file.at, "the capture");
 }
 
@@ -422,26 +495,26 @@ static void remember(const void *words) {
 }
 
 /* docs/STATE.md: where the packets so far stand, and the nine numbers of the summary. */
-enum { PACKETS = 7 };
-static const int summary_words[9] = {PACKETS, 17, 12, 13, 14, 15, 30, 31, 32};
+enum { PACKETS = 8 };
+static const int summary_words[9] = {PACKETS, 18, 13, 14, 15, 16, 31, 32, 33};
 
 static uint32_t call_set_up(const struct lent *state) {
     const struct numbers *n = &now.numbers;
     at_step = "vtiming_set_up";
-    return vtiming_set_up(SEVEN(n), pointer(state), state->size / 8);
+    return vtiming_set_up(SEVEN(n), now.edition, pointer(state), state->size / 8);
 }
 
-/* What stands in the words is the library's own, but for the seven numbers; it may not depend on what stood there. */
+/* What stands in the words is the library's own, but for the seven numbers and the edition; it may not depend on what stood there. */
 static void set_up(const struct room *room, int fill) {
     const struct numbers *n = &now.numbers;
-    const uint64_t seven[7] = {n->rate, n->schedule, n->stream_class, n->height, n->packets_per_frame, n->maxudp, n->tro};
+    const uint64_t eight[8] = {n->rate, n->schedule, n->stream_class, n->height, n->packets_per_frame, n->maxudp, n->tro, now.edition};
     struct lent state = lend(STATE, 8 * room->lent, NULL, fill);
     answers(call_set_up(&state), room->number, "number");
     if (room->number) {
         room_holds(&state, (struct bytes){NULL, 0});
         return;
     }
-    if (memcmp(state.at, seven, sizeof seven)) differs("the first words are not the seven numbers");
+    if (memcmp(state.at, eight, sizeof eight)) differs("the first words are not the seven numbers and the edition");
     if (!reached_count) remember(state.at);
     if (memcmp(state.at, reached[0], sizeof held)) differs("it set up two states");
     room_holds(&state, (struct bytes){state.at, sizeof held});
@@ -522,6 +595,14 @@ static void go_on(const uint64_t *after) {
 
 /* --- rooms near the greatest size: the twins take only the number, and answer as for any ample room --- */
 
+/* The functions that say the room take no edition, and say it of an edition that there is not as of 1 and 2. Where the case that
+   has it was not tried, as of a case that is tried again, any room will do. */
+static void says_room(uint64_t got) {
+    const struct by_edition_1 *same = same_by_edition_1();
+    int elsewhere = refused_by_edition();
+    if (!elsewhere || same->index == now.index) answers(got, elsewhere ? same->filled : now.filled.count, "room for the answer");
+}
+
 static void ample_rooms(int fill) {
     uint64_t wanted = now.filled.count ? 0 : now.rooms[0].place;
     const struct numbers *n = &now.numbers;
@@ -529,11 +610,11 @@ static void ample_rooms(int fill) {
         struct lent in = lend(FILE_BYTES, now.file.count, now.file.at, fill);
         at_step = "vtiming_measure_offset";
         for (size_t i = 0; i < LARGE_ROOMS; i++, large_rooms++)
-            answers(vtiming_measure_offset(pointer(&in), in.size, large[i]), wanted, "offset with ample room");
-        answers(vtiming_measure_offset(pointer(&in), in.size, VTIMING_ENOUGH_BYTES(in.size)), wanted,
+            answers(vtiming_measure_offset(pointer(&in), in.size, now.edition, large[i]), wanted, "offset with ample room");
+        answers(vtiming_measure_offset(pointer(&in), in.size, now.edition, VTIMING_ENOUGH_BYTES(in.size)), wanted,
                 "offset with the room that the header calls enough");
         at_step = "vtiming_measure_room";
-        answers(vtiming_measure_room(pointer(&in), in.size), now.filled.count, "room for the answer");
+        says_room(vtiming_measure_room(pointer(&in), in.size));
         unchanged(&in, now.file.at, "the file");
     } else if (now.call == WRITE) {
         struct lent arrivals = lend(ARRIVALS, 8 * now.arrival_count, now.arrivals, fill);
@@ -548,18 +629,17 @@ static void ample_rooms(int fill) {
         struct lent in = lend(FILE_BYTES, now.file.count, now.file.at, fill);
         at_step = "vtiming_capture_place";
         for (size_t i = 0; i < LARGE_ROOMS; i++, large_rooms++)
-            answers(vtiming_capture_place(pointer(&in), in.size, now.port, now.offset, SEVEN(n), large[i]), wanted,
+            answers(vtiming_capture_place(pointer(&in), in.size, now.port, now.offset, SEVEN(n), now.edition, large[i]), wanted,
                     "place with ample room");
         at_step = "vtiming_capture_room";
-        answers(vtiming_capture_room(pointer(&in), in.size, now.port, now.offset, SEVEN(n)), now.filled.count,
-                "room for the answer");
+        says_room(vtiming_capture_room(pointer(&in), in.size, now.port, now.offset, SEVEN(n)));
         unchanged(&in, now.file.at, "the capture");
     }
 }
 
 static void try_room(const struct room *room, int fill) {
     switch (now.call) {
-    case MEASURE: measure(now.file, room, now.filled, fill); break;
+    case MEASURE: measure(now.file, now.edition, room, now.filled, fill); break;
     case WRITE: write_file(room, fill); break;
     case LIMITS: limits(room, fill); break;
     case GRAPH: graph(room, fill); break;
@@ -596,6 +676,8 @@ static void try_feeds(const int *fills, int times) {
         turn += turn >> 2 & 1;
         seen[FEED][f->answer.number < NUMBERS ? f->answer.number : 0]++;
         if (!f->answer.number && !f->change_count) go_on(after);
+        /* The first call of most rows has the whole list. */
+        if (at_feed == 0 && !f->answer.number) count_answer(&of_feeds, f->nine.at, f->rows.at, 0);
     }
 }
 
@@ -623,10 +705,12 @@ static void try_case(void) {
     }
     ample_rooms(fills[turn & 1]);
     if (now.call == FEED) try_feeds(fills, times);
-    if (now.call == MEASURE && now.filled.count) count_answer(&of_files, now.filled, SUMMARY_BYTES);
+    if (now.call == MEASURE && now.filled.count)
+        count_answer(&of_files, now.filled.at, now.filled.at + SUMMARY_BYTES, now.file.at[0] <= 2 ? now.file.at[0] : 0);
     if (now.call == CAPTURE && now.filled.count) count_capture(now.filled);
     if (now.call == NEXT_READ && now.filled.count) count_next_read(now.filled);
     if (accepted()) count_class_0();
+    if (takes_edition(now.call)) count_edition();
     if (now.room_count && now.rooms[0].number == VTIMING_REFUSED_VERSION) count_version();
     at_step = "reading";
 }
@@ -661,6 +745,7 @@ static void take_numbers(void) {
 
 static void take_capture(void) {
     take_numbers();
+    now.edition = take_number(4);
     now.port = take_number(2);
     now.offset = take_number(4);
     now.file = take_bytes(take_number(4));
@@ -730,16 +815,18 @@ static int next_case(void) {
     now.call = take_number(1);
     at_room = now.room_count = 0;
     switch (now.call) {
-    case MEASURE: now.file = take_bytes(take_number(4)); break;
+    case MEASURE: now.edition = take_number(4), now.file = take_bytes(take_number(4)); break;
     case WRITE: now.version = take_number(1), take_numbers(), take_lists(); break;
-    case LIMITS:
-    case SET_UP: take_numbers(); break;
+    case LIMITS: take_numbers(); break;
+    case SET_UP: take_numbers(), now.edition = take_number(4); break;
     case GRAPH:
         for (int i = 0; i < 3; i++) now.figures[i] = (int64_t)take_number(8);
         break;
     case CAPTURE: take_capture(); break;
     case NEXT_READ: take_wait(); break;
-    case FEED: take_numbers(), now.feed_count = take_number(4); return 1; /* each call is taken in its turn */
+    case FEED: /* each call is taken in its turn */
+        take_numbers(), now.edition = take_number(4), now.feed_count = take_number(4);
+        return 1;
     default: fprintf(stderr, "host: a case of no known call\n"), exit(2);
     }
     take_rooms();
@@ -755,15 +842,26 @@ static void told(const char *what, uint64_t count) {
     if (count == 0) unseen = 1, printf(" (NEVER SEEN)");
 }
 
-static void tell_numbers(int call, const char *needed) {
+/* Each of these numbers with its count. */
+static void tell_each(const uint64_t counts[NUMBERS], const char *needed) {
     char word[16], list[64];
-    printf("  %-17s %" PRIu64 " cases; answers:", call_names[call], cases[call]);
     snprintf(list, sizeof list, "%s", needed);
     for (char *number = strtok(list, " "); number; number = strtok(NULL, " ")) {
         snprintf(word, sizeof word, "%s:", number);
-        told(word, seen[call][atoi(number)]);
+        told(word, counts[atoi(number)]);
     }
+}
+
+static void tell_numbers(int call, const char *needed) {
+    printf("  %-17s %" PRIu64 " cases; answers:", call_names[call], cases[call]);
+    tell_each(seen[call], needed);
     printf("\n");
+}
+
+/* Each answer up to the last. */
+static void tell_buffers(const uint64_t counts[BUFFERS], int last) {
+    static const char *const names[BUFFERS] = {"none", "pass", "under", "over", "broken"};
+    for (int i = 0; i <= last; i++) told(names[i], counts[i]);
 }
 
 static void tell_answers(const char *what, const struct said *said) {
@@ -771,8 +869,15 @@ static void tell_answers(const char *what, const struct said *said) {
     told("whole", said->kinds[0]), told("short", said->kinds[1]), told("long", said->kinds[2]), told("stamp", said->kinds[3]);
     told("broken with its first packet's place", said->placed_broken);
     printf("\n    network:"), told("pass", said->networks[0]), told("burst", said->networks[1]);
-    printf("; buffer:"), told("none", said->buffers[0]), told("pass", said->buffers[1]);
-    told("under", said->buffers[2]), told("over", said->buffers[3]);
+    printf("; buffer by edition 1:"), tell_buffers(said->buffers[0], VTIMING_BUFFER_OVER);
+    printf("; by edition 2:"), tell_buffers(said->buffers[1], VTIMING_BUFFER_BROKEN);
+    printf("\n    by edition 2 broken, kind"), told("1:", said->broken_of[1]), told("2:", said->broken_of[2]);
+    told("3:", said->broken_of[3]), told("after a whole frame:", said->broken_later);
+    printf("; before a broken frame"), told("under:", said->before_broken[VTIMING_BUFFER_UNDER]);
+    told("over:", said->before_broken[VTIMING_BUFFER_OVER]);
+    printf("; pass"), told("of several frames:", said->pass_of_several);
+    printf("\n    by edition 2 broken, and by edition 1:"), tell_buffers(said->and_broken, VTIMING_BUFFER_OVER);
+    printf("; by both the same:"), tell_buffers(said->same, VTIMING_BUFFER_OVER);
     printf("\n");
 }
 
@@ -804,21 +909,40 @@ static void tell_versions(void) {
     printf("\n");
 }
 
+static void tell_edition(int call, const char *before, const char *after) {
+    static const char *const names[OTHER_EDITIONS] = {"edition 0", "edition 3", "edition 255", "edition 4294967295"};
+    printf("    %s", call_names[call]);
+    for (size_t i = 0; i < OTHER_EDITIONS; i++) told(names[i], with_edition[call][i]);
+    printf("; not where"), tell_each(before_8[call], before);
+    printf(" is given; where edition 1 gives"), tell_each(after_8[call], after);
+    printf("\n");
+}
+
+/* Request (vi): editions that there are not. */
+static void tell_editions(void) {
+    printf("  refused by 8:\n");
+    tell_edition(MEASURE, "1 2 3 4 5 6 7 20 21 22 23", "0 11 12 13 15 21 22 23");
+    tell_edition(CAPTURE, "1 2 3 4 5 6 7", "0 12 13 15 30 31 32 33");
+    tell_edition(SET_UP, "1 2 3 4 5 6 7", "0 15");
+}
+
 static int tell(void) {
     uint64_t all = 0;
     for (int i = MEASURE; i < CALLS; i++) all += cases[i];
     printf("outcomes seen (number: times):\n");
-    tell_numbers(MEASURE, "0 1 2 3 4 5 6 7 11 12 13 15 20 21 22 23");
+    tell_numbers(MEASURE, "0 1 2 3 4 5 6 7 8 11 12 13 15 20 21 22 23");
     tell_numbers(WRITE, "0 1 2 3 4 5 6 7 10 11 12 13 20 24");
     tell_numbers(LIMITS, "0 1 2 3 4 5 6 7 15");
     tell_numbers(GRAPH, "0 15 16");
-    tell_numbers(SET_UP, "0 1 2 3 4 5 6 7 15");
+    tell_numbers(SET_UP, "0 1 2 3 4 5 6 7 8 15");
     tell_numbers(FEED, "0 9 10 11 12 13 14 15");
-    tell_numbers(CAPTURE, "0 1 2 3 4 5 6 7 12 13 15 30 31 32 33");
+    tell_numbers(CAPTURE, "0 1 2 3 4 5 6 7 8 12 13 15 30 31 32 33");
     tell_numbers(NEXT_READ, "0 1 2 3 4 5 6 7 12 13 15");
     tell_answers("files", &of_files);
     tell_answers("captures", &of_captures);
+    tell_answers("lists that are fed", &of_feeds);
     tell_versions();
+    tell_editions();
     printf("  captures that"), told("skip a frame", with_skipped);
     printf("; that hand on a frame with"), told("a tag", with_part[0]), told("options", with_part[1]);
     told("contributors", with_part[2]), told("an extension", with_part[3]);
