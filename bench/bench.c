@@ -16,6 +16,8 @@
 #define UNTOUCHED 0x5555555555555555ll
 #define DEFAULT_TRO 0xFFFFFFFFu
 #define RECORD_VERSION 2 /* of a record file, the last */
+#define EDITIONS 2       /* of the test plan */
+#define TIMED 1          /* the edition by which everything is timed */
 #define RATE 6 /* 50 frames a second */
 #define FRAME_NS 20000000ull
 #define TICKS_PER_FRAME 1800u
@@ -39,7 +41,7 @@ struct stream {
     uint16_t height;
     uint32_t n;
     uint16_t maxudp;
-    uint32_t tro;
+    uint32_t tro, edition;
 };
 
 /* splitmix64: small, and the same numbers on every machine. */
@@ -95,12 +97,12 @@ static struct list jittered(size_t count, uint32_t n)
 
 /* Set up and fed in one, as the twin does it. */
 static uint32_t proved_feed(uint8_t rate, uint8_t schedule, uint8_t class, uint16_t height, uint32_t n, uint16_t maxudp, uint32_t tro,
-                            const uint64_t *arrivals, size_t arrival_count, const uint32_t *stamps, size_t stamp_count,
+                            uint32_t edition, const uint64_t *arrivals, size_t arrival_count, const uint32_t *stamps, size_t stamp_count,
                             const uint8_t *markers, size_t marker_count, int64_t *rows, size_t row_count, uint64_t *out,
                             size_t out_count)
 {
     uint64_t state[STATE_WORDS];
-    uint32_t refused = vtiming_set_up(rate, schedule, class, height, n, maxudp, tro, state, STATE_WORDS);
+    uint32_t refused = vtiming_set_up(rate, schedule, class, height, n, maxudp, tro, edition, state, STATE_WORDS);
     if (refused) return refused;
     return vtiming_feed(state, STATE_WORDS, arrivals, arrival_count, stamps, stamp_count, markers, marker_count, rows, row_count, out,
                         out_count);
@@ -108,14 +110,15 @@ static uint32_t proved_feed(uint8_t rate, uint8_t schedule, uint8_t class, uint1
 
 static uint32_t fed(feed_function *feed, struct stream s, struct list l, int64_t *rows, size_t row_count, uint64_t *out)
 {
-    return feed(s.rate, s.schedule, s.class, s.height, s.n, s.maxudp, s.tro, l.arrivals, l.count, l.stamps, l.count, l.markers,
-                l.count, rows, row_count, out, SUMMARY);
+    return feed(s.rate, s.schedule, s.class, s.height, s.n, s.maxudp, s.tro, s.edition, l.arrivals, l.count, l.stamps, l.count,
+                l.markers, l.count, rows, row_count, out, SUMMARY);
 }
 
 static void differ(const char *what, struct stream s, size_t count, size_t place, int64_t proved, int64_t twin)
 {
-    printf("DIFFERENT: %s %zu: proved %" PRId64 ", twin %" PRId64 "; rate %u schedule %u class %u height %u n %u maxudp %u tro %u, %zu packets\n",
-           what, place, proved, twin, s.rate, s.schedule, s.class, s.height, s.n, s.maxudp, s.tro, count);
+    printf("DIFFERENT: %s %zu: proved %" PRId64 ", twin %" PRId64
+           "; rate %u schedule %u class %u height %u n %u maxudp %u tro %u edition %u, %zu packets\n",
+           what, place, proved, twin, s.rate, s.schedule, s.class, s.height, s.n, s.maxudp, s.tro, s.edition, count);
     exit(1);
 }
 
@@ -145,11 +148,28 @@ static uint32_t agree(struct stream s, struct list l, size_t row_count)
 
 static void agree_in_both_versions(struct stream s, struct list l);
 
+/* The other edition; one that there is not stays as it is. */
+static uint32_t other_edition(uint32_t edition) { return edition == 1 || edition == 2 ? 3 - edition : edition; }
+
+/* The number of the buffer answer to a list that is accepted. */
+#define BROKEN 4
+static uint64_t buffer_by_edition_2(struct stream s, struct list l)
+{
+    uint64_t out[SUMMARY] = {0};
+    size_t row_count = (l.count + 1) * ROW;
+    int64_t *rows = room(row_count * sizeof *rows);
+    s.edition = EDITIONS;
+    fed(proved_feed, s, l, rows, row_count, out);
+    free(rows);
+    return out[6];
+}
+
 /* Short lists of every sort: all rates and classes, frames short, long and of two timestamps, first packets half a wrap from two
-   encoded times, bursts, long pauses, refusals. Those that are accepted are files as well, of both versions. */
+   encoded times, bursts, long pauses, refusals. Those that are accepted are measured by both editions, and are files as well, of both
+   versions, by both editions. */
 static void agree_on_short_lists(unsigned lists)
 {
-    unsigned by_answer[256] = {0};
+    unsigned by_answer[256] = {0}, broken = 0;
     for (unsigned k = 0; k < lists; k++) {
         struct stream s;
         s.rate = (uint8_t)(1 + below(8));
@@ -159,13 +179,15 @@ static void agree_on_short_lists(unsigned lists)
         s.n = (uint32_t)(below(4) ? 1 + below(8) : 1 + below(20000));
         s.maxudp = below(2) ? 1460 : 8960;
         s.tro = below(2) ? DEFAULT_TRO : (uint32_t)below(16000);
-        if (below(20) == 0) switch (below(7)) { /* one number that set-up refuses */
+        s.edition = (uint32_t)(1 + below(EDITIONS));
+        if (below(20) == 0) switch (below(8)) { /* one number that set-up refuses */
             case 0: s.rate = 9; break;
             case 1: s.schedule = 2; break;
             case 2: s.class = 4; break;
             case 3: s.height = 0; break;
             case 4: s.n = 20001; break;
             case 5: s.maxudp = 1500; break;
+            case 6: s.edition = (uint32_t)(below(2) ? 3 * below(2) : any() | 4); break;
             default: s.tro = 50000; break;
         }
         struct list l = new_list(below(200));
@@ -195,12 +217,16 @@ static void agree_on_short_lists(unsigned lists)
             if (below(2)) l.markers[i] = 2;
             else l.arrivals[i] = below(2) ? l.arrivals[i] / 2 : l.arrivals[i] + 600000000001ull;
         }
-        uint32_t answer = agree(s, l, below(10) ? 200 * ROW : below(200));
+        size_t row_count = below(10) ? 200 * ROW : below(200);
+        uint32_t answer = agree(s, l, row_count);
         by_answer[answer]++;
-        if (answer == 0) agree_in_both_versions(s, l);
+        s.edition = other_edition(s.edition);
+        uint32_t by_other = agree(s, l, row_count);
+        if (by_other != answer) differ("answer by the other edition", s, l.count, 0, by_other, answer);
+        if (answer == 0) agree_in_both_versions(s, l), broken += buffer_by_edition_2(s, l) == BROKEN;
         free_list(l);
     }
-    printf("%u short lists: the two agree;", lists);
+    printf("%u short lists: the two agree; by edition 2 broken: %u;", lists, broken);
     for (int i = 0; i < 256; i++)
         if (by_answer[i]) printf(" %s%d: %u", i ? "refused by " : "answer ", i, by_answer[i]);
     printf("\n");
@@ -241,7 +267,7 @@ static double timed(feed_function *feed, size_t calls, struct stream s, struct l
 
 static struct stream stream_of(uint32_t n)
 {
-    struct stream s = {RATE, 0, 1, 1080, n, 1460, DEFAULT_TRO};
+    struct stream s = {RATE, 0, 1, 1080, n, 1460, DEFAULT_TRO, TIMED};
     return s;
 }
 
@@ -320,12 +346,12 @@ static struct file file_of(uint8_t version, struct stream s, struct list l)
     return f;
 }
 
-static double timed_file(measure_function *measure, size_t calls, struct file f, uint8_t *out, size_t size)
+static double timed_file(measure_function *measure, size_t calls, struct file f, uint32_t edition, uint8_t *out, size_t size)
 {
     double start = 0;
     for (size_t k = 0; k <= calls; k++) {
         if (k == 1) start = now();
-        if (measure(f.bytes, f.size, out, size) == 0) continue;
+        if (measure(f.bytes, f.size, edition, out, size) == 0) continue;
         printf("DIFFERENT: the file is refused\n");
         exit(1);
     }
@@ -343,31 +369,31 @@ static void read_bytes(struct file f)
     sink = sum;
 }
 
-static void agree_on_file(struct file f, uint8_t *out, size_t size)
+static void agree_on_file(struct file f, uint32_t edition, uint8_t *out, size_t size)
 {
     measure_function *twins[] = {kit_twin_measure, twin_measure};
     uint8_t *twin = room(size);
     for (int k = 0; k < 2; k++) {
         memset(out, 0x55, size);
         memset(twin, 0x55, size);
-        timed_file(vtiming_measure, 1, f, out, size);
-        timed_file(twins[k], 1, f, twin, size);
+        timed_file(vtiming_measure, 1, f, edition, out, size);
+        timed_file(twins[k], 1, f, edition, twin, size);
         if (memcmp(out, twin, size) != 0) {
-            printf("DIFFERENT: the bytes of a file of %zu bytes\n", f.size);
+            printf("DIFFERENT: the bytes of a file of %zu bytes, by edition %" PRIu32 "\n", f.size, edition);
             exit(1);
         }
     }
     free(twin);
 }
 
-/* Of class 0 the two versions may be answered differently. */
+/* Of class 0 the two versions may be answered differently, and of broken frames the two editions. */
 static void agree_in_both_versions(struct stream s, struct list l)
 {
     size_t size = 8 * (SUMMARY + ROW * (l.count + 1));
     uint8_t *out = room(size);
     for (uint8_t version = 1; version <= RECORD_VERSION; version++) {
         struct file f = file_of(version, s, l);
-        agree_on_file(f, out, size);
+        for (uint32_t edition = 1; edition <= EDITIONS; edition++) agree_on_file(f, edition, out, size);
         free(f.bytes);
     }
     free(out);
@@ -387,12 +413,12 @@ static void time_file(uint32_t n, size_t wanted)
     struct file f = jittered_file(n, load.count);
     size_t size = 8 * (SUMMARY + ROW * (load.count / n + 1));
     uint8_t *out = room(size);
-    agree_on_file(f, out, size);
+    agree_on_file(f, TIMED, out, size);
     double times[COLUMNS] = {0};
     for (int round = 0; round < ROUNDS; round++) {
-        keep_least(times + PROVED, timed_file(vtiming_measure, load.calls, f, out, size));
-        keep_least(times + KIT, timed_file(kit_twin_measure, load.calls, f, out, size));
-        keep_least(times + SYSTEM, timed_file(twin_measure, load.calls, f, out, size));
+        keep_least(times + PROVED, timed_file(vtiming_measure, load.calls, f, TIMED, out, size));
+        keep_least(times + KIT, timed_file(kit_twin_measure, load.calls, f, TIMED, out, size));
+        keep_least(times + SYSTEM, timed_file(twin_measure, load.calls, f, TIMED, out, size));
         double start = now();
         for (size_t k = 0; k < load.calls; k++) read_bytes(f);
         keep_least(times + FLOOR, now() - start);
@@ -434,12 +460,12 @@ static struct file capture_of(struct list l, size_t captured)
 
 static uint32_t captured_by(capture_function *measure, struct stream s, struct file f, uint8_t *out, size_t size)
 {
-    return measure(f.bytes, f.size, PORT, OFFSET, s.rate, s.schedule, s.class, s.height, s.n, s.maxudp, s.tro, out, size);
+    return measure(f.bytes, f.size, PORT, OFFSET, s.rate, s.schedule, s.class, s.height, s.n, s.maxudp, s.tro, s.edition, out, size);
 }
 
 static uint32_t captured_by_libpcap(const char *name, struct stream s, uint8_t *out, size_t size)
 {
-    return libpcap_capture(name, PORT, OFFSET, s.rate, s.schedule, s.class, s.height, s.n, s.maxudp, s.tro, out, size);
+    return libpcap_capture(name, PORT, OFFSET, s.rate, s.schedule, s.class, s.height, s.n, s.maxudp, s.tro, s.edition, out, size);
 }
 
 static void must_accept(const char *what, uint32_t refused)
@@ -485,7 +511,8 @@ static void save(struct file f, const char *name)
     }
 }
 
-/* The two on captures that are refused too: a short one with any bit turned, cut anywhere or whole. */
+/* The two on captures that are refused too: a short one with any bit turned, cut anywhere or whole, by either edition, now and then by
+   one that there is not. */
 static void agree_on_damaged(unsigned captures)
 {
     unsigned by_answer[256] = {0};
@@ -502,11 +529,13 @@ static void agree_on_damaged(unsigned captures)
         size_t lent = below(10) ? sizeof out : below(sizeof out);
         memset(out, 0x55, sizeof out);
         memset(walked, 0x55, sizeof walked);
+        s.edition = (uint32_t)(below(50) ? 1 + below(EDITIONS) : 3 * below(2));
         uint32_t proved = captured_by(vtiming_capture, s, damaged, out, lent);
         uint32_t plain = captured_by(walker_capture, s, damaged, walked, lent);
         f.bytes[at] ^= bit;
         if (proved != plain) {
-            printf("DIFFERENT: byte %zu, bit %u, %zu bytes: proved %" PRIu32 ", walker %" PRIu32 "\n", at, bit, damaged.size, proved, plain);
+            printf("DIFFERENT: byte %zu, bit %u, %zu bytes, edition %" PRIu32 ": proved %" PRIu32 ", walker %" PRIu32 "\n", at, bit,
+                   damaged.size, s.edition, proved, plain);
             exit(1);
         }
         same_bytes("the walker, damaged", out, walked, sizeof out);
@@ -587,7 +616,7 @@ static int count_file(measure_function *measure, uint32_t n, size_t count)
 {
     struct file f = jittered_file(n, count);
     size_t size = 8 * (SUMMARY + ROW * (count / n + 1));
-    return measure(f.bytes, f.size, room(size), size) != 0;
+    return measure(f.bytes, f.size, TIMED, room(size), size) != 0;
 }
 
 static int count_capture(capture_function *measure, uint32_t n, size_t count)
@@ -622,16 +651,16 @@ static int64_t number(const uint8_t *out, size_t k)
     return (int64_t)x;
 }
 
-/* What vcapture prints of the file, called with the nine words that follow it, by libpcap; status 3 where there is no libpcap. */
+/* What vcapture prints of the file, called with the ten words that follow it, by libpcap; status 3 where there is no libpcap. */
 static int print_by_libpcap(char **words)
 {
-    static const char *const buffers[] = {"none", "pass", "under", "over"};
-    uint32_t x[9];
-    for (int k = 0; k < 9; k++) x[k] = (uint32_t)strtoul(words[k + 1], NULL, 10);
+    static const char *const buffers[] = {"none", "pass", "under", "over", "broken"};
+    uint32_t x[10];
+    for (int k = 0; k < 10; k++) x[k] = (uint32_t)strtoul(words[k + 1], NULL, 10);
     size_t size = 64 << 20;
     uint8_t *out = room(size);
     uint32_t refused = libpcap_capture(words[0], (uint16_t)x[0], x[1], (uint8_t)x[2], (uint8_t)x[3], (uint8_t)x[4], (uint16_t)x[5], x[6],
-                                       (uint16_t)x[7], x[8], out, size);
+                                       (uint16_t)x[7], x[8], x[9], out, size);
     if (refused) return refused == NO_LIBPCAP ? 3 : 1;
     for (int64_t frame = 0; frame < number(out, 1); frame++) {
         printf("frame");
@@ -641,7 +670,7 @@ static int print_by_libpcap(char **words)
     printf("packets %" PRId64 " frames %" PRId64 " peak %" PRId64 " network ", number(out, 0), number(out, 1), number(out, 2));
     if (number(out, 3)) printf("burst %" PRId64 " %" PRId64, number(out, 4), number(out, 5));
     else printf("pass");
-    printf(" buffer %s", buffers[number(out, 6) & 3]);
+    printf(" buffer %s", buffers[number(out, 6) % 5]);
     if (number(out, 6) > 1) printf(" %" PRId64 " %" PRId64, number(out, 7), number(out, 8));
     printf(" records %" PRId64 " skipped %" PRId64 "\n", number(out, 9), number(out, 10));
     free(out);
@@ -687,8 +716,8 @@ int main(int argc, char **argv)
     if (argc == 5 && strcmp(what, "once") == 0) return call_once(argv[2], (uint32_t)x[1], x[2]);
     if (argc == 5 && strcmp(what, "file") == 0) return write_file(jittered_file((uint32_t)x[0], x[1]), argv[4]);
     if (argc == 6 && strcmp(what, "capture") == 0) return write_file(jittered_capture((uint32_t)x[0], x[1], x[2]), argv[5]);
-    if (argc == 12 && strcmp(what, "libpcap") == 0) return print_by_libpcap(argv + 2);
+    if (argc == 13 && strcmp(what, "libpcap") == 0) return print_by_libpcap(argv + 2);
     fprintf(stderr, "usage: bench agree; bench time SCRATCH; bench once FUNCTION N PACKETS; bench file N PACKETS FILE;\n"
-                    "bench capture N PACKETS CAPTURED FILE; bench libpcap FILE and the nine words of vcapture\n");
+                    "bench capture N PACKETS CAPTURED FILE; bench libpcap FILE and the ten words of vcapture\n");
     return 2;
 }

@@ -60,7 +60,7 @@ INLINE void frame_line(struct twin *w, const struct rules *r)
 /* The last line, but for its end. */
 static void last_words(const struct twin *w)
 {
-    static const char *const buffers[] = {"none", "pass", "under ", "over "};
+    static const char *const buffers[] = {"none", "pass", "under ", "over ", "broken "};
     if (written + LINE > WINDOW) flush();
     word("packets "), number((int64_t)w->packets), word(" frames "), number((int64_t)w->closed), word(" peak "), number((int64_t)w->peak);
     word(" network ");

@@ -1,5 +1,5 @@
 /* The program in C, written for speed and proved by nothing: a record file on standard input, its lines on standard output,
-   one read and one write at a time. It takes sound files only; bench/run times it beside vtiming on the same file and compares
+   one read and one write at a time, by edition 1 as vtiming. It takes sound files only; bench/run times it beside vtiming on the same file and compares
    what the two print. */
 #include "lines.h"
 
@@ -21,8 +21,8 @@ int main(void)
         if (!began && held >= HEAD) {
             uint8_t class = class_in(b[0], b[6]);
             if (b[0] < 1 || b[0] > 2) return 1;
-            if (set_up_refusal(b[4], b[5], class, big16(b + 7), big32(b + 9), big16(b + 13), big32(b + 15))) return 1;
-            r = rules_of(b[4], b[5], class, big16(b + 7), big32(b + 9), big16(b + 13), big32(b + 15));
+            if (set_up_refusal(b[4], b[5], class, big16(b + 7), big32(b + 9), big16(b + 13), big32(b + 15), EDITION_1)) return 1;
+            r = rules_of(b[4], b[5], class, big16(b + 7), big32(b + 9), big16(b + 13), big32(b + 15), EDITION_1);
             began = 1;
             b += HEAD;
         }

@@ -18,7 +18,8 @@
 #define SUMMARY 9
 
 enum { STRICT = 0, NARROW = 1, NARROW_LINEAR = 2, WIDE = 3 }; /* STRICT is NARROW on schedule 0, NARROW_LINEAR on 1 */
-enum { NONE, PASS, UNDER, OVER };
+enum { NONE, PASS, UNDER, OVER, BROKEN };
+enum { EDITION_1 = 1, EDITION_2 = 2 }; /* of the test plan: by the second a broken frame fails its buffer */
 
 #define FRAME(num, den) (SECOND * (den) / (num)) /* grains in a frame, at num/den frames a second */
 static const uint64_t frame_lengths[9] = {
@@ -26,7 +27,8 @@ static const uint64_t frame_lengths[9] = {
 
 static uint64_t larger(uint64_t a, uint64_t b) { return a < b ? b : a; }
 
-static uint8_t set_up_refusal(uint8_t rate, uint8_t schedule, uint8_t class, uint16_t height, uint32_t n, uint16_t maxudp, uint32_t tro)
+static uint8_t set_up_refusal(uint8_t rate, uint8_t schedule, uint8_t class, uint16_t height, uint32_t n, uint16_t maxudp, uint32_t tro,
+                              uint32_t edition)
 {
     if (rate < 1 || rate > 8) return 1;
     if (schedule > 1) return 2;
@@ -35,6 +37,7 @@ static uint8_t set_up_refusal(uint8_t rate, uint8_t schedule, uint8_t class, uin
     if (n < 1 || n > 20000) return 5;
     if (maxudp != 1460 && maxudp != 8960) return 6;
     if (tro != DEFAULT_TRO && 27000ull * tro >= frame_lengths[rate]) return 7;
+    if (edition != EDITION_1 && edition != EDITION_2) return 8;
     return 0;
 }
 
@@ -78,11 +81,14 @@ INLINE void put64(uint8_t *b, uint64_t x)
 struct rules {
     uint64_t n, frame, tro, read_den, c_max, vrx_full, spacing, drain_step, read_step;
     int64_t read_num;
+    uint32_t edition;
 };
 
-static struct rules rules_of(uint8_t rate, uint8_t schedule, uint8_t class, uint16_t height, uint32_t n, uint16_t maxudp, uint32_t tro)
+static struct rules rules_of(uint8_t rate, uint8_t schedule, uint8_t class, uint16_t height, uint32_t n, uint16_t maxudp, uint32_t tro,
+                             uint32_t edition)
 {
     struct rules r;
+    r.edition = edition;
     r.n = n;
     r.frame = frame_lengths[rate];
     r.tro = tro != DEFAULT_TRO ? 27000ull * tro : height >= 1080 ? 43 * r.frame / 1125 : 28 * r.frame / 750;
@@ -205,6 +211,11 @@ INLINE void row_of(struct twin *w, const struct rules *r, int64_t *row)
     row[10] = (int64_t)(w->packets - w->held); /* all packets up to the marker, less the frame's own */
     if (kind != 0) {
         row[2] = kind == 3 ? w->differs : (int64_t)w->held;
+        if (r->edition == EDITION_2 && (w->buffer == NONE || w->buffer == PASS)) {
+            w->buffer = BROKEN;
+            w->buffer_frame = w->closed;
+            w->buffer_place = (uint64_t)kind;
+        }
         return;
     }
     int64_t fpt = (int64_t)w->phase - (int64_t)r->frame;
