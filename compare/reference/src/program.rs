@@ -859,13 +859,36 @@ mod tests {
         }
     }
 
+    /// Every last line, what class 0 means and by which edition it was measured.
     #[test]
-    fn what_class_0_means_shows_in_the_fixed_captures() {
-        let outcomes = worth_running()
-            .iter()
-            .flat_map(Input::outcomes)
-            .collect::<Vec<String>>();
-        assert!(outcomes.contains(&"class 0 as strict".to_string()));
+    fn the_fixed_captures_reach_every_outcome() {
+        let inputs = worth_running();
+        let outcomes = inputs.iter().flat_map(Input::outcomes);
+        let outcomes: Vec<String> = outcomes.collect();
+        for outcome in OF_CAPTURES {
+            let seen = outcomes.iter().any(|seen| seen == outcome);
+            assert!(seen, "never seen: {}", outcome);
+        }
         assert!(!outcomes.contains(&"class 0 as wide".to_string()));
+        // One of each is enough: they are run in three ways.
+        assert!(inputs.len() < 120, "{} captures", inputs.len());
+    }
+
+    /// Request (vi): "`vtiming` [...] mean[s] edition 1". By edition 2 some of the
+    /// fixed files would be broken, of whatever else they are by edition 1.
+    #[test]
+    fn that_edition_1_is_meant_shows_in_the_fixed_files() {
+        let nowhere = Path::new(env!("CARGO_MANIFEST_DIR"));
+        let inputs = inputs(1, 0, nowhere).unwrap();
+        let shown = |input: &&Input| input.outcomes().contains(&"by edition 1".to_string());
+        let mut instead: Vec<String> = inputs
+            .iter()
+            .filter(shown)
+            .map(|input| outcomes(&input.wanted())[1].clone())
+            .collect();
+        instead.sort();
+        instead.dedup();
+        let wanted = ["none", "over", "pass", "under"];
+        assert_eq!(instead, wanted.map(|answer| format!("buffer {}", answer)));
     }
 }
