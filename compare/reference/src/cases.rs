@@ -45,7 +45,7 @@ use crate::capture::{expected_capture_call, parts_seen, Asked};
 use crate::feed::{cut_everywhere, dealt, ranges_after, Feed, Lists};
 use crate::fixed_captures::fixed_captures;
 use crate::generate::{damaged, file, front, other_edition, other_version, random_bytes, under};
-use crate::generate::{OTHER_EDITIONS, OTHER_VERSIONS};
+use crate::generate::{LOOKALIKES, OTHER_EDITIONS, OTHER_VERSIONS};
 use crate::graph::graph;
 use crate::next_read::{next_read, three_numbers, Wait};
 use crate::numbers::{set_up, Numbers, EDITIONS, EDITION_1};
@@ -125,11 +125,13 @@ struct Others {
 }
 
 impl Others {
-    /// All that are worth a look, for a fixed input.
+    /// All that are worth a look, for a fixed input; of the editions that look like
+    /// 1 or 2 one, by turns.
     fn fixed(turn: usize) -> Others {
+        let lookalike = LOOKALIKES[turn % LOOKALIKES.len()];
         Others {
             versions: OTHER_VERSIONS.to_vec(),
-            editions: OTHER_EDITIONS.to_vec(),
+            editions: [&OTHER_EDITIONS[..], &[lookalike]].concat(),
             turn,
         }
     }

@@ -3,7 +3,7 @@
 use std::io;
 use std::path::Path;
 
-use crate::numbers::{Numbers, EDITIONS};
+use crate::numbers::Numbers;
 use crate::packet::Packet;
 use crate::random::Random;
 use crate::record::{packet_body, parameters_body, record, write, VERSIONS};
@@ -23,14 +23,13 @@ pub(crate) fn other_version(random: &mut Random) -> u8 {
 /// the last of all.
 pub const OTHER_EDITIONS: [u32; 4] = [0, 3, 255, u32::MAX];
 
-/// One of these, or any that is neither 1 nor 2; some of them are 1 or 2 in their
-/// last byte.
+/// Others that are 1 or 2 in fewer bits than an edition has.
+pub const LOOKALIKES: [u32; 4] = [257, 258, 65_537, (1 << 31) + 2];
+
+/// One of these, or any that is neither 1 nor 2.
 pub(crate) fn other_edition(random: &mut Random) -> u32 {
     let any = random.between(3, i128::from(u32::MAX)) as u32;
-    let high = random
-        .pick(&[1 << 8, 1 << 16, 1 << 31, any & !0xff])
-        .max(1 << 8);
-    let lookalike = high | random.pick(&EDITIONS);
+    let lookalike = random.pick(&LOOKALIKES);
     let [zero, three, byte, last] = OTHER_EDITIONS;
     random.pick(&[zero, three, byte, last, any, lookalike])
 }

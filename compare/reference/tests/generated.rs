@@ -10,7 +10,7 @@ use vtiming_reference::capture::{Carried, Why};
 use vtiming_reference::cases::{captures, cases, fixed, waits, Call, Case, ROUND};
 use vtiming_reference::fraction::Fraction;
 use vtiming_reference::frame::{closed_frames, t_cf, Kind};
-use vtiming_reference::generate::{file, under, OTHER_EDITIONS, OTHER_VERSIONS};
+use vtiming_reference::generate::{file, under, LOOKALIKES, OTHER_EDITIONS, OTHER_VERSIONS};
 use vtiming_reference::measure::{measure_accepted, Row};
 use vtiming_reference::numbers::{GRAINS_PER_NANOSECOND, GRAINS_PER_SECOND, GRAINS_PER_TICK, WRAP};
 use vtiming_reference::packet::LONGEST_HISTORY;
@@ -937,7 +937,7 @@ fn is_other_edition(edition: u32) -> bool {
 fn every_file_and_every_list_is_tried_in_both_versions() {
     let mut seen = Seen::default();
     let generated = (0..100 * ROUND).map(|index| (3, 6, cases(2, index)));
-    for (of_lists, of_files, input) in fixed().into_iter().map(|i| (5, 11, i)).chain(generated) {
+    for (of_lists, of_files, input) in fixed().into_iter().map(|i| (5, 12, i)).chain(generated) {
         let tried = versions_of(&input);
         let name = name_of(&input[0].call);
         let sort = if of_lists == 5 { "fixed" } else { "generated" };
@@ -1142,7 +1142,8 @@ fn every_input_is_tried_by_both_editions_and_by_others() {
         let (good, others) = editions.split_at(2);
         assert_eq!(good, EDITIONS);
         assert!(others.iter().all(|edition| is_other_edition(*edition)));
-        assert!(others == OTHER_EDITIONS || (!all && others.len() == 1));
+        assert_eq!(others.len(), if all { 5 } else { 1 });
+        assert!(!all || (others[..4] == OTHER_EDITIONS && LOOKALIKES.contains(&others[4])));
         let name = name_of(first);
         seen.add(&format!(
             "{} {}",
