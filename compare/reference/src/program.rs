@@ -440,7 +440,8 @@ fn try_file(
     Ok(())
 }
 
-/// The answers of a last line, or its refusal number.
+/// The answers of a last line, a broken frame's with its kind, or its refusal
+/// number.
 fn outcomes(text: &str) -> Vec<String> {
     let last = text.lines().last().unwrap_or("");
     let words: Vec<&str> = last.split(' ').collect();
@@ -451,7 +452,11 @@ fn outcomes(text: &str) -> Vec<String> {
         .iter()
         .map(|what| {
             let place = words.iter().position(|word| word == what);
-            format!("{} {}", what, words[place.map_or(0, |at| at + 1)])
+            let at = place.map_or(0, |at| at + 1);
+            match words[at] {
+                "broken" => format!("{} broken {}", what, words[at + 2]),
+                answer => format!("{} {}", what, answer),
+            }
         })
         .collect()
 }
@@ -704,7 +709,9 @@ pub const OF_CAPTURES: &[&str] = &[
     "buffer pass",
     "buffer under",
     "buffer over",
-    "buffer broken",
+    "buffer broken 1",
+    "buffer broken 2",
+    "buffer broken 3",
     "class 0 as strict",
     "by edition 1",
     "by edition 2",
