@@ -420,9 +420,14 @@ fn lists(random: &mut Random) -> (Numbers, Lists) {
 }
 
 /// A stream dealt out over calls; a short one cut everywhere, now and then. By
-/// each edition it is dealt out anew.
+/// each edition it is dealt out anew, and a quarter are such as the editions often
+/// answer differently.
 fn fed(random: &mut Random, others: &Others) -> Vec<Call> {
-    let (numbers, mut packets) = stream(random);
+    let (numbers, mut packets) = if random.chance(25) {
+        any_sent(random)
+    } else {
+        stream(random)
+    };
     packets.truncate(random.pick(&[2, 12, 12, 60, 60, 200, 200, 400, 2000]));
     let everywhere = packets.len() <= 12 && random.chance(30);
     fed_by_each(others, numbers, |edition| {
@@ -707,6 +712,14 @@ fn sent(frames: &[Sent]) -> (Numbers, Vec<Packet>) {
         ..NARROW
     };
     (numbers, list)
+}
+
+/// Some frames in any order.
+fn any_sent(random: &mut Random) -> (Numbers, Vec<Packet>) {
+    let any = [&SENT[..], &[Sent::Good, Sent::Open]].concat();
+    let count = 1 + random.below(6);
+    let frames: Vec<Sent> = (0..count).map(|_| random.pick(&any)).collect();
+    sent(&frames)
 }
 
 /// Request (vi): frames that pass, that fail and that are broken, alone, in each
