@@ -1,6 +1,6 @@
 /* The program in C, written for speed and proved by nothing: a record file on standard input, its lines on standard output,
-   one read and one write at a time, by edition 1 as vtiming. It takes sound files only; bench/run times it beside vtiming on the same file and compares
-   what the two print. */
+   one read and one write at a time, by edition 1 as vtiming. It takes sound files only; bench/run times it beside vtiming on the
+   same file and compares what the two print. */
 #include "lines.h"
 
 #define HEAD 19

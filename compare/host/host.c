@@ -599,8 +599,8 @@ static void go_on(const uint64_t *after) {
    has it was not tried, as of a case that is tried again, any room will do. */
 static void says_room(uint64_t got) {
     const struct by_edition_1 *same = same_by_edition_1();
-    int elsewhere = refused_by_edition();
-    if (!elsewhere || same->index == now.index) answers(got, elsewhere ? same->filled : now.filled.count, "room for the answer");
+    int elsewhere = refused_by_edition(), tried = same->count && same->index == now.index;
+    if (!elsewhere || tried) answers(got, elsewhere ? same->filled : now.filled.count, "room for the answer");
 }
 
 static void ample_rooms(int fill) {

@@ -179,38 +179,34 @@ fn failure(limits: &Limits, judged: &Judged) -> Option<Buffer> {
     }
 }
 
-/// The same once more, from the first frame that fails in each way: which of
-/// them comes first. The peak and the least of a broken frame's row are 0, so
-/// that such a frame is neither under nor over; and where one frame is both, the
-/// order of the ways decides.
+/// The same once more, from the first frame that fails in each way: the least of
+/// them decides. The peak of a broken frame's row is 0 and no packet of it is late,
+/// so that it is neither under nor over; where one frame is both, it is under.
 fn by_ways_to_fail(limits: &Limits, frames: &[Judged]) -> Buffer {
     let first = |fails: &dyn Fn(&Judged) -> bool| frames.iter().position(fails);
-    let broken = first(&|frame| frame.row[KIND] != 0);
+    let whole = frames.iter().filter(|frame| frame.row[KIND] == 0).count();
+    let (broken, judged) = match limits.edition {
+        Edition::One => (None, whole),
+        Edition::Two => (first(&|frame| frame.row[KIND] != 0), frames.len()),
+    };
     let under = first(&|frame| frame.first_late.is_some());
     let over = first(&|frame| i128::from(frame.row[PEAK]) > limits.vrx_full);
-    let by_edition = broken.filter(|_| limits.edition == Edition::Two);
-    let ways = [by_edition, under, over];
-    let decides = ways.iter().flatten().min().copied();
-    let frame = decides.unwrap_or(0) as u64;
-    let whole = frames.iter().filter(|frame| frame.row[KIND] == 0).count();
-    let counted = match limits.edition {
-        Edition::One => whole,
-        Edition::Two => frames.len(),
+    let decides = [broken, under, over].into_iter().flatten().min();
+    let at = match decides {
+        Some(at) => at,
+        None if judged > 0 => return Buffer::Pass,
+        None => return Buffer::None,
     };
-    match ways.iter().position(|way| way.is_some() && *way == decides) {
-        Some(0) => Buffer::Broken {
+    let (frame, row) = (at as u64, &frames[at].row);
+    if decides == broken {
+        let kind = row[KIND] as u64;
+        return Buffer::Broken { frame, kind };
+    }
+    match frames[at].first_late {
+        Some(packet) => Buffer::Under { frame, packet },
+        None => Buffer::Over {
             frame,
-            kind: frames[frame as usize].row[KIND] as u64,
+            peak: i128::from(row[PEAK]),
         },
-        Some(1) => Buffer::Under {
-            frame,
-            packet: frames[frame as usize].first_late.expect("it is under"),
-        },
-        Some(_) => Buffer::Over {
-            frame,
-            peak: i128::from(frames[frame as usize].row[PEAK]),
-        },
-        None if counted > 0 => Buffer::Pass,
-        None => Buffer::None,
     }
 }
