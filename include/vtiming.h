@@ -201,11 +201,6 @@ enum vtiming_buffer_answer {
  *   8                under: the first packet that came too late, from 0 in its frame; over: the buffer's peak; broken: the
  *                    frame's kind, 1 to 3; else 0
  *
- * The first failing frame decides. Under edition 1 whole frames alone can fail, by under before over; none means that no whole
- * frame has closed, and pass that every whole frame fits. Under edition 2 a broken frame fails by broken, and a whole one as under
- * edition 1; none means that no frame has closed, and pass that every closed frame is whole and fits. The lead-in, and a frame
- * that is still open at the end, are not judged.
- *
  * and then a row of eleven for each frame:
  *
  *   0  frame         its number, from 0
@@ -218,6 +213,11 @@ enum vtiming_buffer_answer {
  *                    counted. Its record is at byte 19 + 16·place of the file
  *
  * For kinds 1 to 3 the numbers 3 to 9 are 0; the last is filled for every kind. So number j of row r is 9 + 11·r + j of all.
+ *
+ * The first failing frame decides. Under edition 1 whole frames alone can fail, by under before over; none means that no whole
+ * frame has closed, and pass that every whole frame fits. Under edition 2 a broken frame fails by broken, and a whole one as under
+ * edition 1; none means that no frame has closed, and pass that every closed frame is whole and fits. The lead-in, and a frame
+ * that is still open at the end, are not judged.
  *
  * Refuses by 20 to 23, 1 to 8 and 11 to 14 at the first record that is refused, and by 15 after all else. 8 is given at the
  * parameters, at offset 1, where these are accepted otherwise, and before any later record is looked at: so a file that has no

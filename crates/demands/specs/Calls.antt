@@ -55,7 +55,7 @@ refused-room s number offset e = ap roomFor e
 pub room-at-most : (s : List ℕ) → AllBelow 256 s → roomOf s ≤ 6 * length s
 room-at-most s b = asked.room-at-most s (bytes-all s b)
 
--- F13: the edition stands beside the file
+-- the edition stands beside the file
 module _ (edition : ℕ) (s : List ℕ) where
   -- C4, C5: "Too few bytes is 15 at the file's length, after all else": a refused file's number and offset do not depend on the room
   pub refused-first : (room number offset : ℕ) → fileIn edition s ≡ refused number offset → answerOf edition s room ≡ answer number offset

@@ -3,6 +3,8 @@
 -- `captureFilled`, film's Paper), and any run of the program for captures, of which `outputOf` of reel's Paper says what it prints.
 use Rattle.laws.specs.Kit.{_≡_, refl, _∙_, Bool, true, false, List, [], ℕ, _+_, _≤_, _<_, min, ℤ, length, getD, ne-eqb}
 use Rattle.endian.specs.Number.{Bytes}
+use Rattle.limits.specs.declared.Parameters.{Parameters}
+use Rattle.limits.specs.Accepted.{KnownEdition}
 use Rattle.packet.specs.declared.Refusal.{Refusal}
 use Rattle.packet.specs.declared.Scanned.the-variants as scanned
 use Rattle.packet.specs.Step.{nothing, scanOf}
@@ -23,7 +25,7 @@ use Rattle.capture.proofs.InPieces as pieces
 use Rattle.capture.proofs.Offsets as offsets
 use Rattle.timing.specs.declared.StreamNumbers.{StreamNumbers}
 use Rattle.timing.specs.declared.State.{State}
-use Rattle.timing.specs.Step.{setUpOf, rulesOf, freshOf}
+use Rattle.timing.specs.Step.{inEdition, ofParameters, setUpOf, rulesOf, freshOf}
 use Rattle.timing.specs.Range.{inRange}
 use Rattle.timing.specs.Feed.{feedAll}
 use Rattle.intake.specs.declared.Taken.the-variants.{Accepted, Refused}
@@ -31,8 +33,9 @@ use Rattle.intake.specs.Paper.{recordsOf, packetsOf, skippedOf, refusedBy, capt
 use Rattle.intake.proofs.Feeding as call
 use Rattle.intake.proofs.Swapped as swapped
 use Rattle.report.specs.Paper.{answer}
-use Rattle.film.specs.Paper.{captureChecked, captureAnswer, captureFilled}
+use Rattle.film.specs.Paper.{captureChecked, captureAnswer, captureFilled, captureRoom}
 use Rattle.film.proofs.Leaving as film
+use Rattle.film.proofs.Editions as film-editions
 use Rattle.text.specs.Lines.{lineRoom}
 use Rattle.reel.specs.declared.Asked.{Asked}
 use Rattle.reel.specs.Paper.{outputOf, printedBy}
@@ -127,7 +130,8 @@ window-keeps p c w v last end = pieces.next-keeps p w v last end c
 
 -- ---- the C function
 
--- R15, R16: "1 to 7, then the order above": a stream that set-up refuses is refused first, at place 0, whatever the capture and the room
+-- R15, R16: "1 to 7, then the order above", with 8 after 7: a stream that set-up refuses is refused first, at place 0, whatever the capture
+-- and the room
 pub set-up-first : (x : StreamNumbers) (port offset : ℕ) (b : List ℕ) (room : ℕ) → (setUpOf x ≡ 0 → ⊥)
     → captureAnswer x port offset b room ≡ answer (setUpOf x) 0
 unfolding captureAnswer captureChecked
@@ -137,6 +141,11 @@ set-up-first x port offset b room n = rw (ne-eqb (setUpOf x) 0 n)
 pub refused-fills-nothing : (x : StreamNumbers) (port offset : ℕ) (b out : List ℕ)
     → (captureAnswer x port offset b (length out) .number ≡ 0 → ⊥) → captureFilled x port offset b out ≡ out
 refused-fills-nothing = film.refused-fills-nothing
+
+-- X13: the room that is told of a capture, with no edition, is the room of each edition
+pub capture-room : (p : Parameters) (edition : ℕ) → KnownEdition edition → (port offset : ℕ) (b : List ℕ)
+    → captureRoom (inEdition edition p) port offset b ≡ captureRoom (ofParameters p) port offset b
+capture-room = film-editions.room-alike
 
 -- ---- the program
 

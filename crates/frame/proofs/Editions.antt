@@ -128,7 +128,8 @@ module _ (plan : Plan) (h : History) where
             let c = fails-closed k (f .0) (f .1) (f .2) in
             quiet (AnswerIs plan h) (answer-unique plan h) k Pass (a .each k l c) refl f
 
--- V12: "a case that names frame and kind; the first failing frame decides, broken or not"
+-- ---- the new case
+
 module _ (plan : Plan) (h : History) (b : BrokenFrame) where
   -- packet i closes the broken frame, and no frame before it fails
   abbrev First-broken : Type 0
@@ -139,6 +140,7 @@ module _ (plan : Plan) (h : History) (b : BrokenFrame) where
   first-broken (passed i l x fine e) = absurd (false-true (sym (ap hasFailed e)))
   first-broken (unjudged all e) = absurd (false-true (sym (ap hasFailed e)))
 
+  -- V12: "a case that names frame and kind; the first failing frame decides, broken or not"
   pub broken-is : BufferIs plan h (Broken b) ↔ First-broken
   broken-is = (first-broken, λ x. failed (x .0) (x .1) (x .2) refl (x .3))
 

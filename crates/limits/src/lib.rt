@@ -1,5 +1,5 @@
 // The numbers that a stream is set up with: the frame length of each rate, the share of a frame in
-// which its packets are read, the offset TRO, the limits C_MAX and VRX_FULL, and the seven refusals.
+// which its packets are read, the offset TRO, the limits C_MAX and VRX_FULL, and what set-up refuses, 1 to 8.
 // It knows plain numbers, as the record file holds them, a frame length in grains, whatever its rate, and
 // from `grain` how many grains a nanosecond has. It must never know a packet, an arrival or a state: what a
 // limit is held against lies above.

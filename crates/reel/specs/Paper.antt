@@ -50,7 +50,7 @@ outputBy a (capture f) file =
     (recordsIn (record { format = f; port = a .port; offset = a .offset }) (drop headerBytes file))
 outputBy a unknown file = refusalLine 30 0
 
--- R15, R17: "1 to 7, then the order above": 33, 30, and then record by record
+-- R15, R17: "1 to 7, then the order above", with 8 after 7: 33, 30, and then record by record
 unfoldable pub outputOf : Asked → List ℕ → List ℕ
 outputOf a file =
     pick (eqb (setUpOf (a .numbers)) 0)

@@ -82,7 +82,7 @@ graphNumber fpt margin latency = pick (inFloat binary64 fpt && (inFloat binary64
 abbrev pub apartNumber : ℕ → ℕ → ℕ
 apartNumber first t = pick (ltb t first) 12 (pick (ltb 600000000000 (t - first)) 13 0)
 
--- N14: 1 to 7 come first
+-- N14: what set-up refuses comes first
 abbrev pub nextNumber : StreamNumbers → ℕ → ℕ → ℕ
 nextNumber x first t = orElse (setUpOf x) (apartNumber first t)
 
