@@ -109,7 +109,8 @@ module _ (edition : ℕ) (s : List ℕ) where
     too-little-room room h = too-few-bytes room (omega (arith, room-is))
 
     -- C1: "fills lent bytes with nine numbers [..], then the rows; bytes beyond stay"
-    pub filled-with : (out : List ℕ) → length (bytesFor edition w ps) ≤ length out → filledBy edition s out ≡ bytesFor edition w ps ++ drop (length (bytesFor edition w ps)) out
+    pub filled-with : (out : List ℕ) → length (bytesFor edition w ps) ≤ length out
+        → filledBy edition s out ≡ bytesFor edition w ps ++ drop (length (bytesFor edition w ps)) out
     unfolding filledBy
     filled-with out h = ap (filled edition out) e ∙ rw (le-leb (length (bytesFor edition w ps)) (length out) h)
 

@@ -37,10 +37,10 @@ packets =
 -- L5: the whole output, computed from the bytes of the file
 pub file-output : outputOf (head ++ packets)
     ≡ codes "frame 0 0 0 18900000 0 18900000 1740000 45900000 1 0 1\npackets 5 frames 1 peak 2 network pass buffer pass\n"
-unfolding outputOf rowLines rowLine fields digitsOf summaryLine refusalLine setUpIn editionRefusal setUpRefusal firstNo troFits rateOf frameLength activeRatio classOf
-    cMax vrxFull int troGrains defaultTro nearest phase latency count fold rulesOf arriveOf markOf stepOf rowsAfter B.stepOf F.openedOf
-    F.countedOf F.kindOf F.wholeRow F.rowOf F.answerOf F.joined F.arriveOf F.closeOf F.rowsOf readingOf packetsBy formatRefusal
-    versionKnown classIn isParameters kindLength numberOf refusalOf verdictOf inRange
+unfolding outputOf rowLines rowLine fields digitsOf summaryLine refusalLine setUpIn editionRefusal setUpRefusal firstNo troFits
+    rateOf frameLength activeRatio classOf cMax vrxFull int troGrains defaultTro nearest phase latency count fold rulesOf arriveOf markOf
+    stepOf rowsAfter B.stepOf F.openedOf F.countedOf F.kindOf F.wholeRow F.rowOf F.answerOf F.joined F.arriveOf F.closeOf F.rowsOf
+    readingOf packetsBy formatRefusal versionKnown classIn isParameters kindLength numberOf refusalOf verdictOf inRange
 file-output = refl
 
 -- a frame sent at once, with class 0: what follows the version byte of examples/class-0-version-1.rec and -2.rec
@@ -61,10 +61,10 @@ told network =
 
 -- F11: the same bytes but the version: wide in version 1, narrow in version 2
 pub wide-then-strict : (outputOf (1 ∷ at-once) ≡ told "pass") × (outputOf (2 ∷ at-once) ≡ told "burst 0 4")
-unfolding outputOf rowLines rowLine fields digitsOf summaryLine refusalLine setUpIn editionRefusal setUpRefusal firstNo troFits rateOf frameLength activeRatio strictOn classOf
-    cMax vrxFull int troGrains defaultTro nearest phase latency count fold rulesOf arriveOf markOf stepOf rowsAfter B.stepOf F.openedOf
-    F.countedOf F.kindOf F.wholeRow F.rowOf F.answerOf F.joined F.arriveOf F.closeOf F.rowsOf readingOf packetsBy formatRefusal
-    versionKnown classIn isParameters kindLength numberOf refusalOf verdictOf inRange
+unfolding outputOf rowLines rowLine fields digitsOf summaryLine refusalLine setUpIn editionRefusal setUpRefusal firstNo troFits
+    rateOf frameLength activeRatio strictOn classOf cMax vrxFull int troGrains defaultTro nearest phase latency count fold rulesOf arriveOf markOf
+    stepOf rowsAfter B.stepOf F.openedOf F.countedOf F.kindOf F.wholeRow F.rowOf F.answerOf F.joined F.arriveOf F.closeOf F.rowsOf
+    readingOf packetsBy formatRefusal versionKnown classIn isParameters kindLength numberOf refusalOf verdictOf inRange
 wide-then-strict = (refl, refl)
 
 pub empty-output : outputOf [] ≡ codes "refused 20 0\n"
