@@ -5,6 +5,8 @@ use Rattle.grain.specs.Paper.{grains}
 use Rattle.limits.specs.Fraction.{Fraction, whole, _over_, _·_, _÷_, int}
 use Rattle.limits.specs.declared.Class.{Class}
 use Rattle.limits.specs.declared.Parameters.{Parameters}
+use Rattle.limits.specs.declared.Profile.{Profile}
+use Rattle.limits.specs.declared.Profile.the-variants.{Video, Compressed}
 use Rattle.limits.specs.declared.Class.the-variants.{Narrow, NarrowLinear, Wide, Unknown}
 
 -- G1: "Every duration is a whole number of grains; 27 grains are one nanosecond."
@@ -150,6 +152,30 @@ editionRefusal edition = pick (within 1 2 edition) 0 8
 -- N1, N2: "8 for an edition other than 1 or 2, after 7"
 unfoldable pub setUpIn : Parameters → ℕ → ℕ
 setUpIn p edition = orElse (setUpRefusal p) (editionRefusal edition)
+
+-- The profile of a stream. It is told by a number, the kind of its parameter record.
+
+-- S12: "ST 2110-22 senders, to which the receiver buffer model does not apply" (document 02, vii)
+abbrev pub hasBuffer : Profile → Bool
+hasBuffer Video = true
+hasBuffer Compressed = false
+
+-- S12: "a parameter record of kind 3, laid out as kind 1, chooses it"
+abbrev pub profileKind : Profile → ℕ
+profileKind Video = 1
+profileKind Compressed = 3
+
+-- S12: the kinds that choose a profile. Both ways: proofs/Profiles.antt
+unfoldable pub isProfile : ℕ → Bool
+isProfile kind = eqb kind 1 || eqb kind 3
+
+-- S12: and the one that they choose; a kind that chooses none, which is refused before, goes with video
+unfoldable pub profileOf : ℕ → Profile
+profileOf kind = pick (eqb kind 3) Compressed Video
+
+-- N1: "22 unknown kind": a profile has no refusal number of its own
+unfoldable pub profileRefusal : ℕ → ℕ
+profileRefusal kind = pick (isProfile kind) 0 22
 
 -- the seven numbers put together, as a call that is given each by itself does
 abbrev pub given : (rate schedule class height n maxudp tro : ℕ) → Parameters

@@ -1,5 +1,6 @@
 // The numbers that a stream is set up with: the frame length of each rate, the share of a frame in
-// which its packets are read, the offset TRO, the limits C_MAX and VRX_FULL, and what set-up refuses, 1 to 8.
+// which its packets are read, the offset TRO, the limits C_MAX and VRX_FULL, and what set-up refuses, 1 to 8;
+// and the profiles, with the numbers that stand for them.
 // It knows plain numbers, as the record file holds them, a frame length in grains, whatever its rate, and
 // from `grain` how many grains a nanosecond has. It must never know a packet, an arrival or a state: what a
 // limit is held against lies above.
@@ -9,6 +10,7 @@ ghost use Rattle.limits.specs.Fraction.{whole, _·_, _÷_, int};
 ghost use Rattle.limits.specs.Steps.{Divides};
 ghost use Rattle.limits.specs.Paper.{frameLength, activeRatio, seconds, strictOn, classOf, cMax, vrxFull, troGrains, readNum, readDen};
 ghost use Rattle.limits.specs.Paper.{within, classFits, maxudpKnown, troFits, setUpRefusal, editionRefusal, setUpIn};
+ghost use Rattle.limits.specs.Paper.{hasBuffer, profileKind, isProfile, profileOf, profileRefusal};
 
 const MICROSECOND: u64 = 1000 * grain::GRAINS_PER_NANOSECOND;
 
@@ -54,12 +56,67 @@ impl Parameters {
     const FRAME_60: u64 = SECOND * 1 / 60;
 }
 
+// What a stream is: video, as in the base; or compressed, to which the receiver buffer model does not apply.
+pub enum Profile {
+    Video,
+    Compressed,
+}
+
 // An unknown class is refused at set-up; the limits give it 0, so that they answer for any number.
 pub enum Class {
     Narrow,
     NarrowLinear,
     Wide,
     Unknown,
+}
+
+impl Profile {
+    // Whether the receiver buffer is judged.
+    pub fn has_buffer(self) -> bool
+        ensures { λ r. ⌜ r ≡ hasBuffer self ⌝ }
+    {
+        match self {
+            Profile::Video => true,
+            Profile::Compressed => false,
+        }
+    }
+
+    // The kind of its parameter record, which stands for it wherever a profile is told.
+    pub fn kind(self) -> u8
+        ensures { λ r. ⌜ r ≡ profileKind self ⌝ }
+    {
+        match self {
+            Profile::Video => 1,
+            Profile::Compressed => 3,
+        }
+    }
+}
+
+// The one place that tells which kinds stand for a profile.
+pub fn is_profile(kind: u8) -> bool
+    ensures { λ r. ⌜ r ≡ isProfile kind ⌝ }
+{
+    match kind {
+        1 | 3 => true,
+        _ => false,
+    }
+}
+
+// The profile that a kind stands for. One that stands for none is refused before it is asked, and goes with video.
+pub fn profile_of(kind: u8) -> Profile
+    ensures { λ r. ⌜ r ≡ profileOf kind ⌝ }
+{
+    match kind {
+        3 => Profile::Compressed,
+        _ => Profile::Video,
+    }
+}
+
+// A profile that is told by its kind has no number of its own: an unknown kind is 22.
+pub fn profile_refusal(kind: u8) -> u8
+    ensures { λ r. ⌜ r ≡ profileRefusal kind ⌝ }
+{
+    if is_profile(kind) { 0 } else { 22 }
 }
 
 // The frame length in grains; a code that set-up refuses has none, and gets 0.
