@@ -1,9 +1,9 @@
 -- The buffer answer is that of the first whole frame that fails. What was kept of a frame is its lack and its top over its arrivals, which
 -- decide the frame's own answer; the answers are then joined place by place.
-use Rattle.laws.specs.Kit.{_≡_, refl, sym, ap, _∙_, subst, Bool, true, false, ℕ, zero, suc, _+_, _≤_, _<_, arith, not-suc-le-zero, decLt}
+use Rattle.laws.specs.Kit.{_≡_, refl, sym, ap, _∙_, subst, _↔_, Bool, true, false, ℕ, zero, suc, _+_, _≤_, _<_, arith, not-suc-le-zero, decLt}
 use Rattle.laws.specs.Kit.{ltb, eqb, ℤ, pos, negsuc, subℕ, _<ℤ_, ltb-true, lt-ltb, eqb-true, eqb-false}
 use Rattle.laws.specs.Choose.{pick}
-use Rattle.laws.proofs.Choose.{false-true, up-to}
+use Rattle.laws.proofs.Choose.{false-true, pick-either, up-to}
 use Rattle.laws.specs.Climb.{Climbs}
 use Rattle.laws.specs.Seek.{seek, Lowest}
 use Rattle.laws.proofs.Seek.{seek-is, seek-same, lowest-unique}
@@ -15,13 +15,14 @@ use Rattle.frame.specs.declared.BrokenFrame.{BrokenFrame}
 use Rattle.frame.specs.declared.Buffer.{Buffer}
 use Rattle.frame.specs.declared.Buffer.the-variants.{None, Pass, Under, Over, Broken}
 use Rattle.frame.specs.Paper.{History, closesAt, numberAt, since, kindAt, readsTo, arrivedBy, PeakIs}
-use Rattle.frame.specs.Paper.{late, Dry, Overfull, Whole, Judged, PassIs, OverIs, BrokenIs, AnswerIs, BufferIs}
+use Rattle.frame.specs.Paper.{late, Dry, Overfull, Whole, Judged, PassIs, OverIs, BrokenIs, AnswerIs, DecidedIs, BufferIs}
 use Rattle.frame.specs.Paper.{hasFailed, isNone, brokenFails, Fails, FirstDecides, failed, passed, unjudged}
-use Rattle.frame.specs.Step.{brokenAnswer, answerOf, joined}
+use Rattle.frame.specs.Step.{brokenAnswer, judgedOf, answerOf, joined}
 use Rattle.frame.specs.ByPlace.{closedAt, answerAt, bufferAt}
 use Rattle.frame.specs.Range.{Planned}
-use Rattle.frame.proofs.FrameKinds.{answer-broken, answer-under, answer-over, answer-pass}
+use Rattle.frame.proofs.FrameKinds.{judged-broken, judged-under, judged-over, judged-pass}
 use Rattle.frame.proofs.RowOfFrame.{peak-unique, kind-is, WholeFrame, frame, top-is, deficit-is, peak-is, least-is, late-is}
+use Rattle.frame.proofs.Stepping.{joined-none}
 use Rattle.frame.proofs.Duality as D
 
 -- ---- the first that fails decides, whatever each place answers by itself, if it has one answer
@@ -160,10 +161,18 @@ module _ (plan : Plan) (h : History) where
           )
       go (negsuc n) peak l = l .lt
 
-  pub buffer-unique : (b c : Buffer) → BufferIs plan h b → BufferIs plan h c → b ≡ c
-  buffer-unique b c x y = decides-unique (AnswerIs plan h) answer-unique (h .packets) b c x y
+  -- V13: where the buffer is judged, the answer is what the frames decide
+  pub buffered-is : plan .buffered ≡ true → (b : Buffer) → BufferIs plan h b ↔ DecidedIs plan h b
+  buffered-is e b = (λ x. x .judged e, λ x. record { judged = λ z. x; unjudged = λ z. absurd (false-true (sym z ∙ e)) })
 
-module _ (plan : Plan) (p : Planned plan) (h : History) (ordered : Climbs (h .time) (h .packets)) where
+  pub buffer-unique : (b c : Buffer) → BufferIs plan h b → BufferIs plan h c → b ≡ c
+  buffer-unique b c x y = go (plan .buffered) refl
+    where
+      go : (t : Bool) → plan .buffered ≡ t → b ≡ c
+      go true e = decides-unique (AnswerIs plan h) answer-unique (h .packets) b c (x .judged e) (y .judged e)
+      go false e = x .unjudged e ∙ sym (y .unjudged e)
+
+module _ (plan : Plan) (p : Planned plan) (h : History) (ordered : Climbs (h .time) (h .packets)) (buffered : plan .buffered ≡ true) where
   -- ---- one frame, closed by packet i
 
   module _ (i : ℕ) (inside : i < h .packets) (whole : kindAt plan h i ≡ 0) where
@@ -179,16 +188,16 @@ module _ (plan : Plan) (p : Planned plan) (h : History) (ordered : Climbs (h .ti
 
     -- the lack and the top that were kept, over the frame's arrivals
     lacks : (j : ℕ) → j < plan .packets → suc j ≤ arrivedBy plan h s j + kept .deficit
-    lacks j l = rw (deficit-is w) (D.lack-bound (frame w) j l)
+    lacks j l = rw (deficit-is w buffered) (D.lack-bound (frame w) j l)
 
     tops : (j : ℕ) → j < plan .packets → suc j ≤ kept .top + readsTo plan h s j
-    tops j l = rw (top-is w) (D.top-bound (frame w) j l)
+    tops j l = rw (top-is w buffered) (D.top-bound (frame w) j l)
 
     -- P19: "The buffer runs dry where least is below 0.": where there was a lack
     pub is-dry : 0 < kept .deficit → Dry plan h s
     is-dry l = (
       subℕ 0 (kept .deficit),
-      least-is w,
+      least-is w buffered,
       differ-lt (subℕ 0 (kept .deficit)) (pos 0) 0 (kept .deficit) 0 0 (differ-sub 0 (kept .deficit)) (omega arith) (omega arith),
     )
 
@@ -204,7 +213,7 @@ module _ (plan : Plan) (p : Planned plan) (h : History) (ordered : Climbs (h .ti
     pub late-lowest : 0 < kept .deficit → Lowest (late plan h s) (plan .packets) (kept .late)
     late-lowest some =
         let same = seek-same (late plan h s) (λ j. ltb j (readsTo plan h s j)) (plan .packets) (D.late-is (frame w)) in
-        rw (late-is w some, sym same) (seek-is (late plan h s) (plan .packets))
+        rw (late-is w buffered some, sym same) (seek-is (late plan h s) (plan .packets))
 
     pub not-overfull : kept .top ≤ plan .full → ¬ Overfull plan h s
     not-overfull few o =
@@ -220,46 +229,46 @@ module _ (plan : Plan) (p : Planned plan) (h : History) (ordered : Climbs (h .ti
       where
         go : Dec (0 < kept .deficit) → (j : ℕ) × (j < plan .packets) × (late plan h s j ≡ true)
         go (yes l) =
-            let q = D.dry-late (frame w) (omega (arith, deficit-is w)) in
+            let q = D.dry-late (frame w) (omega (arith, deficit-is w buffered)) in
             (q .0, q .1, D.late-is (frame w) (q .0) (q .1) ∙ lt-ltb (q .0) (readsTo plan h s (q .0)) (q .2))
         go (no g) = absurd (not-dry (omega arith) d)
 
     pub late-dry : (j : ℕ) → j < plan .packets → late plan h s j ≡ true → Dry plan h s
     late-dry j l e =
         let more = ltb-true j (readsTo plan h s j) (sym (D.late-is (frame w) j l) ∙ e) in
-        is-dry (omega (arith, deficit-is w, D.late-dry (frame w) j l more))
+        is-dry (omega (arith, deficit-is w buffered, D.late-dry (frame w) j l more))
 
   -- ---- what packet i answers, if it closes a frame
 
   module _ (i : ℕ) (inside : i < h .packets) (closing : closesAt h i ≡ true) where
     abbrev answer : Buffer
-    answer = answerOf plan (numberAt h i) (closedAt plan h i)
+    answer = judgedOf plan (numberAt h i) (closedAt plan h i)
 
     judged-whole : kindAt plan h i ≡ 0 → Dec (0 < (closedAt plan h i) .deficit) → Dec (plan .full < (closedAt plan h i) .top)
         → AnswerIs plan h i answer
-    judged-whole k (yes l) over = subst (AnswerIs plan h i) (answer-under plan _ _ (kind-is plan h i ∙ k) l) (record {
+    judged-whole k (yes l) over = subst (AnswerIs plan h i) (judged-under plan _ _ (kind-is plan h i ∙ k) l) (record {
       whole = record { closing = closing; whole = k };
       frame = refl;
       dry = is-dry i inside k l;
       place = late-lowest i inside k l;
     })
-    judged-whole k (no g) (yes l) = subst (AnswerIs plan h i) (answer-over plan _ _ (kind-is plan h i ∙ k) (omega arith) l) (record {
+    judged-whole k (no g) (yes l) = subst (AnswerIs plan h i) (judged-over plan _ _ (kind-is plan h i ∙ k) (omega arith) l) (record {
       whole = record { closing = closing; whole = k };
       frame = refl;
       not-dry = not-dry i inside k (omega arith);
-      peak = peak-is (w i inside k);
+      peak = peak-is (w i inside k) buffered;
       over = l;
     })
     judged-whole k (no g) (no f) =
-        subst (AnswerIs plan h i) (answer-pass plan _ _ (kind-is plan h i ∙ k) (omega arith) (omega arith)) (record {
+        subst (AnswerIs plan h i) (judged-pass plan _ _ (kind-is plan h i ∙ k) (omega arith) (omega arith)) (record {
           whole = record { closing = closing; whole = k };
           not-dry = not-dry i inside k (omega arith);
           not-over = not-overfull i inside k (omega arith);
         })
 
     -- a broken frame fails, or is not judged
-    judged-broken : ¬ (kindAt plan h i ≡ 0) → AnswerIs plan h i (brokenAnswer (plan .edition) (numberAt h i) (kindAt plan h i))
-    judged-broken k = go (brokenFails (plan .edition)) refl
+    not-whole : ¬ (kindAt plan h i ≡ 0) → AnswerIs plan h i (brokenAnswer (plan .edition) (numberAt h i) (kindAt plan h i))
+    not-whole k = go (brokenFails (plan .edition)) refl
       where
         go : (t : Bool) → brokenFails (plan .edition) ≡ t → AnswerIs plan h i (pick t (Broken (record { frame = numberAt h i; kind = kindAt plan h i })) None)
         go true f = record { closing = closing; broken = k; fails = f; frame = refl; kind = refl }
@@ -273,14 +282,19 @@ module _ (plan : Plan) (p : Planned plan) (h : History) (ordered : Climbs (h .ti
             let k = eqb-true (kindAt plan h i) 0 e in
             judged-whole k (decLt 0 ((closedAt plan h i) .deficit)) (decLt (plan .full) ((closedAt plan h i) .top))
         go false e =
-            subst (AnswerIs plan h i) (answer-broken plan _ _ (sym (kind-is plan h i)) (eqb-false (kindAt plan h i) 0 e))
-            (judged-broken (eqb-false (kindAt plan h i) 0 e))
+            subst (AnswerIs plan h i) (judged-broken plan _ _ (sym (kind-is plan h i)) (eqb-false (kindAt plan h i) 0 e))
+            (not-whole (eqb-false (kindAt plan h i) 0 e))
+
+  -- what is judged is the frame's answer
+  judged-answers : (i : ℕ) → judgedOf plan (numberAt h i) (closedAt plan h i) ≡ answerOf plan (numberAt h i) (closedAt plan h i)
+  unfolding answerOf
+  judged-answers i = rw buffered
 
   pub answered : (i : ℕ) → i < h .packets → AnswerIs plan h i (answerAt plan h i)
   answered i inside = go (closesAt h i) refl
     where
       go : (t : Bool) → closesAt h i ≡ t → AnswerIs plan h i (pick t (answerOf plan (numberAt h i) (closedAt plan h i)) None)
-      go true e = judged i inside e
+      go true e = subst (AnswerIs plan h i) (judged-answers i) (judged i inside e)
       go false e = λ w. false-true (sym e ∙ w .closing)
 
   buffer-to : (m : ℕ) → m ≤ h .packets → FirstDecides (AnswerIs plan h) m (bufferAt plan h m)
@@ -290,5 +304,20 @@ module _ (plan : Plan) (p : Planned plan) (h : History) (ordered : Climbs (h .ti
       (buffer-to m (omega arith)) (answered m l)
 
   -- V7, V8: "Buffer: none (no whole frame yet); pass; under [..]; over [..]. The first failing frame decides; in one frame under goes first."
-  pub buffer-is : BufferIs plan h (bufferAt plan h (h .packets))
-  buffer-is = buffer-to (h .packets) (omega arith)
+  pub decided-is : DecidedIs plan h (bufferAt plan h (h .packets))
+  decided-is = buffer-to (h .packets) (omega arith)
+
+-- V13: where the buffer is not judged no frame answers anything
+module _ (plan : Plan) (h : History) (unbuffered : plan .buffered ≡ false) where
+  answer-none : (i : ℕ) → answerAt plan h i ≡ None
+  unfolding answerOf
+  answer-none i = pick-either (λ b. b ≡ None) (closesAt h i) (λ e. rw unbuffered) (λ e. refl)
+
+  none-to : (m : ℕ) → bufferAt plan h m ≡ None
+  unfolding bufferAt
+  none-to zero = refl
+  none-to (suc m) = ap (λ (b : Buffer). joined b (answerAt plan h m)) (none-to m) ∙ ap (joined None) (answer-none m) ∙ joined-none None
+
+-- V7, V13: the buffer answer, judged or not
+pub buffer-is : (plan : Plan) → Planned plan → (h : History) → Climbs (h .time) (h .packets) → BufferIs plan h (bufferAt plan h (h .packets))
+buffer-is plan p h ordered = record { judged = decided-is plan p h ordered; unjudged = λ e. none-to plan h e (h .packets) }

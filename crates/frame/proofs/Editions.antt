@@ -7,7 +7,7 @@ use Rattle.frame.specs.declared.Plan.{Plan}
 use Rattle.frame.specs.declared.Buffer.{Buffer}
 use Rattle.frame.specs.declared.BrokenFrame.{BrokenFrame}
 use Rattle.frame.specs.declared.Buffer.the-variants.{None, Pass, Under, Over, Broken}
-use Rattle.frame.specs.Paper.{History, closesAt, numberAt, kindAt, Whole, Judged, PassIs, BrokenIs, AnswerIs, BufferIs}
+use Rattle.frame.specs.Paper.{History, closesAt, numberAt, kindAt, Whole, Judged, PassIs, BrokenIs, AnswerIs, DecidedIs, BufferIs}
 use Rattle.frame.specs.Paper.{hasFailed, isNone, brokenFails, Fails, FirstDecides, failed, passed, unjudged}
 use Rattle.frame.specs.Editions.{FirstAnswerIs, FirstBufferIs, FrameFails, broken, dry, overfull, NoneClosed, AllFit}
 use Rattle.frame.specs.ByPlace.{answerAt}
@@ -59,13 +59,13 @@ module _ (plan : Plan) (h : History) where
     answers-first i (Broken b) = (λ x. false-true (sym first ∙ x .fails), λ x. absurd x)
 
     -- V12: "Earlier reports must come out as they did, under edition 1"
-    pub first-edition : (b : Buffer) → BufferIs plan h b ↔ FirstBufferIs plan h b
+    pub first-edition : (b : Buffer) → DecidedIs plan h b ↔ FirstBufferIs plan h b
     first-edition b =
         let back : (i : ℕ) (c : Buffer) → FirstAnswerIs plan h i c ↔ AnswerIs plan h i c = λ i c. (answers-first i c .1, answers-first i c .0) in
         (decides-alike answers-first (h .packets) b, decides-alike back (h .packets) b)
 
     -- V12: "the case never occurs"
-    pub never-broken : (b : BrokenFrame) → BufferIs plan h (Broken b) → ⊥
+    pub never-broken : (b : BrokenFrame) → DecidedIs plan h (Broken b) → ⊥
     never-broken b (failed i l x e fine) = false-true (sym first ∙ x .fails)
     never-broken b (passed i l x fine e) = false-true (sym (ap hasFailed e))
     never-broken b (unjudged all e) = false-true (sym (ap hasFailed e))
@@ -86,7 +86,7 @@ module _ (plan : Plan) (h : History) where
     closed-judged i c = record { closing = c; judged = λ other. second }
 
     -- V12: "none means no frame closed"
-    none-is : BufferIs plan h None → NoneClosed plan h
+    none-is : DecidedIs plan h None → NoneClosed plan h
     none-is (failed i l x e fine) = none-failed e
     none-is (passed i l x fine e) = absurd (false-true (sym (ap isNone e)))
     none-is (unjudged all e) = λ i l. go i (all i l) (closesAt h i) refl
@@ -95,7 +95,7 @@ module _ (plan : Plan) (h : History) where
         go i n true c = absurd (n (closed-judged i c))
         go i n false c = c
 
-    pub second-none : BufferIs plan h None ↔ NoneClosed plan h
+    pub second-none : DecidedIs plan h None ↔ NoneClosed plan h
     second-none = (none-is, λ n. unjudged (λ k l j. false-true (sym (n k l) ∙ j .closing)) refl)
 
     -- a broken frame that closes fails
@@ -114,13 +114,13 @@ module _ (plan : Plan) (h : History) where
         go (yes e) = not-failing plan h i (record { closing = c; whole = e }) f
         go (no n) = absurd (f (broken-fails i c n))
 
-    pass-is : BufferIs plan h Pass → AllFit plan h
+    pass-is : DecidedIs plan h Pass → AllFit plan h
     pass-is (failed i l x e fine) = pass-failed e
     pass-is (passed i l x fine e) = record { some = (i, l, x .whole .closing); each = λ k g c. closed-fits k c (fine k g) }
     pass-is (unjudged all e) = absurd (false-true (ap isNone e))
 
     -- V12: pass: "every closed frame is whole and fits"
-    pub second-pass : BufferIs plan h Pass ↔ AllFit plan h
+    pub second-pass : DecidedIs plan h Pass ↔ AllFit plan h
     second-pass = (pass-is, λ a. passed (a .some .0) (a .some .1) (a .each _ (a .some .1) (a .some .2)) (λ k l f. calm a k l f) refl)
       where
         calm : AllFit plan h → (k : ℕ) → k < h .packets → ¬ Fails (AnswerIs plan h) k
@@ -135,18 +135,19 @@ module _ (plan : Plan) (h : History) (b : BrokenFrame) where
   abbrev First-broken : Type 0
   First-broken = (i : ℕ) × (i < h .packets) × BrokenIs plan h i b × ((k : ℕ) → k < i → ¬ Fails (AnswerIs plan h) k)
 
-  first-broken : BufferIs plan h (Broken b) → First-broken
+  first-broken : DecidedIs plan h (Broken b) → First-broken
   first-broken (failed i l x e fine) = (i, l, x, fine)
   first-broken (passed i l x fine e) = absurd (false-true (sym (ap hasFailed e)))
   first-broken (unjudged all e) = absurd (false-true (sym (ap hasFailed e)))
 
   -- V12: "a case that names frame and kind; the first failing frame decides, broken or not"
-  pub broken-is : BufferIs plan h (Broken b) ↔ First-broken
+  pub broken-is : DecidedIs plan h (Broken b) ↔ First-broken
   broken-is = (first-broken, λ x. failed (x .0) (x .1) (x .2) refl (x .3))
 
 -- ---- the ways to fail
 
-module _ (plan : Plan) (p : Planned plan) (h : History) (ordered : Climbs (h .time) (h .packets)) (i : ℕ) (inside : i < h .packets) where
+module _ (plan : Plan) (p : Planned plan) (h : History) (ordered : Climbs (h .time) (h .packets)) (buffered : plan .buffered ≡ true) (i : ℕ)
+    (inside : i < h .packets) where
   fails-way : Fails (AnswerIs plan h) i → FrameFails plan h i
   fails-way (b, x, e) = go b x e
     where
@@ -162,9 +163,9 @@ module _ (plan : Plan) (p : Planned plan) (h : History) (ordered : Climbs (h .ti
   fails-whole w other = go (hasFailed (answerAt plan h i)) refl
     where
       go : (t : Bool) → hasFailed (answerAt plan h i) ≡ t → Fails (AnswerIs plan h) i
-      go true e = (answerAt plan h i, answered plan p h ordered i inside, e)
+      go true e = (answerAt plan h i, answered plan p h ordered buffered i inside, e)
       go false e =
-          let calm = quiet (AnswerIs plan h) (answer-unique plan h) i (answerAt plan h i) (answered plan p h ordered i inside) e in
+          let calm = quiet (AnswerIs plan h) (answer-unique plan h) i (answerAt plan h i) (answered plan p h ordered buffered i inside) e in
           absurd (other (not-failing plan h i w calm))
 
   way-fails : FrameFails plan h i → Fails (AnswerIs plan h) i

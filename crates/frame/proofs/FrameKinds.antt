@@ -5,7 +5,7 @@ use Rattle.frame.specs.declared.Plan.{Plan}
 use Rattle.frame.specs.declared.Frame.{Frame}
 use Rattle.frame.specs.declared.Row.{Row}
 use Rattle.frame.specs.declared.Buffer.the-variants.{Pass, Under, Over}
-use Rattle.frame.specs.Step.{kindOf, detailOf, wholeRow, brokenRow, rowOf, numbersOf, rowWidth, brokenAnswer, answerOf}
+use Rattle.frame.specs.Step.{kindOf, detailOf, wholeRow, brokenRow, rowOf, numbersOf, rowWidth, brokenAnswer, judgedOf}
 
 module _ (f : Frame) (n : ℕ) where
   pub kind-short : f .held < n → 1 ≡ kindOf f n
@@ -46,24 +46,24 @@ module _ (plan : Plan) (number : ℕ) (f : Frame) where
   row-broken marked began kind e b = rw e (rw (ne-eqb (kindOf f (plan .packets)) 0 (rw e at b)))
 
   -- a broken frame by its own kind
-  pub answer-broken : {kind : ℕ} → kind ≡ kindOf f (plan .packets) → (kind ≡ 0 → ⊥)
-      → brokenAnswer (plan .edition) number kind ≡ answerOf plan number f
-  unfolding answerOf
-  answer-broken e b = rw e (rw (ne-eqb (kindOf f (plan .packets)) 0 (rw e at b)))
+  pub judged-broken : {kind : ℕ} → kind ≡ kindOf f (plan .packets) → (kind ≡ 0 → ⊥)
+      → brokenAnswer (plan .edition) number kind ≡ judgedOf plan number f
+  unfolding judgedOf
+  judged-broken e b = rw e (rw (ne-eqb (kindOf f (plan .packets)) 0 (rw e at b)))
 
-  pub answer-under : kindOf f (plan .packets) ≡ 0 → 0 < f .deficit → Under (record { frame = number; place = f .late })
-      ≡ answerOf plan number f
-  unfolding answerOf
-  answer-under e d = rw (eq-eqb (kindOf f (plan .packets)) 0 e, lt-ltb 0 (f .deficit) d)
+  pub judged-under : kindOf f (plan .packets) ≡ 0 → 0 < f .deficit → Under (record { frame = number; place = f .late })
+      ≡ judgedOf plan number f
+  unfolding judgedOf
+  judged-under e d = rw (eq-eqb (kindOf f (plan .packets)) 0 e, lt-ltb 0 (f .deficit) d)
 
-  pub answer-over : kindOf f (plan .packets) ≡ 0 → f .deficit ≤ 0 → plan .full < f .top
-      → Over (record { frame = number; place = f .top }) ≡ answerOf plan number f
-  unfolding answerOf
-  answer-over e d t = rw (eq-eqb (kindOf f (plan .packets)) 0 e, le-ltb 0 (f .deficit) d, lt-ltb (plan .full) (f .top) t)
+  pub judged-over : kindOf f (plan .packets) ≡ 0 → f .deficit ≤ 0 → plan .full < f .top
+      → Over (record { frame = number; place = f .top }) ≡ judgedOf plan number f
+  unfolding judgedOf
+  judged-over e d t = rw (eq-eqb (kindOf f (plan .packets)) 0 e, le-ltb 0 (f .deficit) d, lt-ltb (plan .full) (f .top) t)
 
-  pub answer-pass : kindOf f (plan .packets) ≡ 0 → f .deficit ≤ 0 → f .top ≤ plan .full → Pass ≡ answerOf plan number f
-  unfolding answerOf
-  answer-pass e d t = rw (eq-eqb (kindOf f (plan .packets)) 0 e, le-ltb 0 (f .deficit) d, le-ltb (plan .full) (f .top) t)
+  pub judged-pass : kindOf f (plan .packets) ≡ 0 → f .deficit ≤ 0 → f .top ≤ plan .full → Pass ≡ judgedOf plan number f
+  unfolding judgedOf
+  judged-pass e d t = rw (eq-eqb (kindOf f (plan .packets)) 0 e, le-ltb 0 (f .deficit) d, le-ltb (plan .full) (f .top) t)
 
 -- every row has as many numbers
 pub row-width : (r : Row) → length (numbersOf r) ≡ rowWidth

@@ -1,6 +1,6 @@
 -- What the open frame keeps, packet by packet, is what its packets say: one step goes from what k
 -- packets say to what k + 1 say. And its times, taken from the first packet on, are those of document 01.
-use Rattle.laws.specs.Kit.{_≡_, refl, sym, ap, _∙_, Bool, true, false, not, ℕ, suc, _+_, _-_, _*_, _≤_, _<_, arith, add-mul}
+use Rattle.laws.specs.Kit.{_≡_, refl, sym, ap, _∙_, Bool, true, false, not, _&&_, ℕ, zero, suc, _+_, _-_, _*_, _≤_, _<_, arith, add-mul}
 use Rattle.laws.specs.Kit.{decLt, ltb, eqb, eqb·suc-zero, ltb-true, ltb-false, lt-ltb, le-ltb, eq-eqb, eqb-true, eqb-false}
 use native.Mathlib.Numerals.{add-one}
 use Rattle.laws.specs.Choose.{pick}
@@ -18,7 +18,7 @@ use Rattle.grain.proofs.Rounding.{phase-from}
 use Rattle.grain.proofs.Onward.{known-on, known-from-start}
 use Rattle.frame.specs.declared.Plan.{Plan}
 use Rattle.frame.specs.declared.Frame.{Frame}
-use Rattle.frame.specs.Step.{firstReadOf, openedOf, countedOf, pushOf}
+use Rattle.frame.specs.Step.{firstReadOf, openedOf, countedOf, tickedOf, pushOf}
 use Rattle.frame.specs.ByPlace.{timeFrom, readsFrom, waitFrom, differing, lateFrom, keptOf}
 
 -- the first place with a lack is the first late one: no lack so far, and none was late
@@ -67,54 +67,107 @@ module _ (plan : Plan) (time stamp : ℕ → ℕ) where
   abbrev told : ℕ → Reads
   told k = readsAt (plan .packets) (firstReadOf plan) (plan .reads .num) (plan .reads .den) (timeFrom plan time stamp k)
 
-  -- packet k counted, with the reads before it and the wait that the paper has
-  counted-on : (k reads wait : ℕ) → countedOf (timed k reads wait) (stamp k) (told k) ≡ keptOf plan time stamp (suc k)
-  unfolding keptOf countedOf
-  counted-on k reads wait =
-      rw add-one (λ j. record {
-        held = suc k;
-        first = time 0;
-        stamp = stamp 0;
-        phase = phase (grains (time 0)) (plan .period);
-        differs = sym (hit-on (differing plan time stamp) k (ap not (eq-eqb (stamp 0) (stamp 0) refl))) j;
-        reads = readsFrom plan time stamp k;
-        wait = waitFrom plan time stamp k;
-        top = most (λ j. suc j - readsFrom plan time stamp j) (suc k);
-        deficit = most (λ j. readsFrom plan time stamp j - j) (suc k);
-        late = sym (hit-next (lateFrom plan time stamp) k (eqb (most (λ j. readsFrom plan time stamp j - j) k) 0)
-            (none-late (readsFrom plan time stamp) k) (some-late (readsFrom plan time stamp) k)) j;
-      })
+  differs-on : (k : ℕ) → hit (differing plan time stamp) (suc k)
+      ≡ pick (differing plan time stamp k && eqb (hit (differing plan time stamp) k) 0) k (hit (differing plan time stamp) k)
+  differs-on k = hit-on (differing plan time stamp) k (ap not (eq-eqb (stamp 0) (stamp 0) refl))
+
+  -- ---- where the buffer is judged
+
+  module _ (b : plan .buffered ≡ true) where
+    -- packet k counted, with the reads before it and the wait that the paper has
+    counted-on : (k reads wait : ℕ) → countedOf (timed k reads wait) (stamp k) (told k) ≡ keptOf plan time stamp (suc k)
+    unfolding keptOf countedOf
+    counted-on k reads wait =
+        rw (add-one, b) (λ j. record {
+          held = suc k;
+          first = time 0;
+          stamp = stamp 0;
+          phase = phase (grains (time 0)) (plan .period);
+          differs = sym (differs-on k) j;
+          reads = readsFrom plan time stamp k;
+          wait = waitFrom plan time stamp k;
+          top = most (λ j. suc j - readsFrom plan time stamp j) (suc k);
+          deficit = most (λ j. readsFrom plan time stamp j - j) (suc k);
+          late = sym (hit-next (lateFrom plan time stamp) k (eqb (most (λ j. readsFrom plan time stamp j - j) k) 0)
+              (none-late (readsFrom plan time stamp) k) (some-late (readsFrom plan time stamp) k)) j;
+        })
+
+    module _ (apart : 0 < plan .reads .num) where
+      -- from one period before the frame's start on
+      first-reads : readsOn 0 (firstReadOf plan * plan .reads .den) (plan .packets) (plan .reads .num)
+          (phase (grains (time 0)) (plan .period) * plan .reads .den) ≡ told 0
+      first-reads =
+          let start : timeFrom plan time stamp 0 ≡ phase (grains (time 0)) (plan .period) = omega arith in
+          rw start (known-from-start (firstReadOf plan) (plan .reads .num) (plan .reads .den) apart (plan .packets)
+          (phase (grains (time 0)) (plan .period)))
+
+      judged-first : (gone : ℕ) → pushOf plan (keptOf plan time stamp 0) gone (time 0) (stamp 0) ≡ keptOf plan time stamp 1
+      unfolding keptOf openedOf
+      judged-first gone =
+          rw b
+          (ap (countedOf (timed 0 0 (firstReadOf plan * plan .reads .den)) (stamp 0)) first-reads
+          ∙ counted-on 0 0 (firstReadOf plan * plan .reads .den)
+          ∙ rw b)
+
+      module _ (k : ℕ) (lead : time 0 ≤ time k) (order : time k ≤ time (suc k)) where
+        judged-next : (gone : ℕ) → gone ≡ grains (time (suc k) - time k)
+            → pushOf plan (keptOf plan time stamp (suc k)) gone (time (suc k)) (stamp (suc k)) ≡ keptOf plan time stamp (suc (suc k))
+        unfolding keptOf openedOf
+        judged-next gone e =
+            let later : timeFrom plan time stamp (suc k) ≡ timeFrom plan time stamp k + gone = omega arith in
+            let reads : readsOn (readsFrom plan time stamp k) (waitFrom plan time stamp k) (plan .packets) (plan .reads .num)
+            (gone * plan .reads .den) ≡ told (suc k) =
+            rw later (known-on (firstReadOf plan) (plan .reads .num) (plan .reads .den) apart (timeFrom plan time stamp k) gone
+            (plan .packets)) in
+            rw (eqb·suc-zero k, b)
+            (ap (countedOf (timed (suc k) (readsFrom plan time stamp k) (waitFrom plan time stamp k)) (stamp (suc k))) reads
+            ∙ counted-on (suc k) (readsFrom plan time stamp k) (waitFrom plan time stamp k)
+            ∙ rw b)
+
+  -- ---- where it is not: nothing of reads is kept, whatever goes by
+
+  module _ (b : plan .buffered ≡ false) where
+    -- packets and the place that differs, and nothing else
+    abbrev noted : ℕ → ℕ → Frame
+    noted k differs = record {
+      held = suc k;
+      first = time 0;
+      stamp = stamp 0;
+      phase = phase (grains (time 0)) (plan .period);
+      differs = differs;
+      reads = 0;
+      wait = 0;
+      top = 0;
+      deficit = 0;
+      late = 0;
+    }
+
+    unjudged-next : (k gone : ℕ) → pushOf plan (keptOf plan time stamp k) gone (time k) (stamp k) ≡ keptOf plan time stamp (suc k)
+    unfolding keptOf openedOf tickedOf
+    unjudged-next zero gone = rw b (ap (noted 0) (sym (differs-on 0)))
+    unjudged-next (suc k) gone = rw (eqb·suc-zero k, b, add-one) (ap (noted (suc k)) (sym (differs-on (suc k))))
+
+  -- ---- both
 
   module _ (apart : 0 < plan .reads .num) where
-    -- from one period before the frame's start on
-    first-reads : readsOn 0 (firstReadOf plan * plan .reads .den) (plan .packets) (plan .reads .num)
-        (phase (grains (time 0)) (plan .period) * plan .reads .den) ≡ told 0
-    first-reads =
-        let start : timeFrom plan time stamp 0 ≡ phase (grains (time 0)) (plan .period) = omega arith in
-        rw start (known-from-start (firstReadOf plan) (plan .reads .num) (plan .reads .den) apart (plan .packets)
-        (phase (grains (time 0)) (plan .period)))
-
     -- the first packet, whatever went by before it
     pub kept-first : (gone : ℕ) → pushOf plan (keptOf plan time stamp 0) gone (time 0) (stamp 0) ≡ keptOf plan time stamp 1
-    unfolding keptOf openedOf
-    kept-first gone =
-        ap (countedOf (timed 0 0 (firstReadOf plan * plan .reads .den)) (stamp 0)) first-reads
-        ∙ counted-on 0 0 (firstReadOf plan * plan .reads .den)
+    kept-first gone = go (plan .buffered) refl
+      where
+        go : (t : Bool) → plan .buffered ≡ t → pushOf plan (keptOf plan time stamp 0) gone (time 0) (stamp 0) ≡ keptOf plan time stamp 1
+        go true b = judged-first b apart gone
+        go false b = unjudged-next b 0 gone
 
     -- and each later one, by what goes by since the packet before it
     module _ (k : ℕ) (lead : time 0 ≤ time k) (order : time k ≤ time (suc k)) where
       pub kept-next : (gone : ℕ) → gone ≡ grains (time (suc k) - time k)
           → pushOf plan (keptOf plan time stamp (suc k)) gone (time (suc k)) (stamp (suc k)) ≡ keptOf plan time stamp (suc (suc k))
-      unfolding keptOf openedOf
-      kept-next gone e =
-          let later : timeFrom plan time stamp (suc k) ≡ timeFrom plan time stamp k + gone = omega arith in
-          let reads : readsOn (readsFrom plan time stamp k) (waitFrom plan time stamp k) (plan .packets) (plan .reads .num)
-          (gone * plan .reads .den) ≡ told (suc k) =
-          rw later (known-on (firstReadOf plan) (plan .reads .num) (plan .reads .den) apart (timeFrom plan time stamp k) gone
-          (plan .packets)) in
-          rw (eqb·suc-zero k)
-          (ap (countedOf (timed (suc k) (readsFrom plan time stamp k) (waitFrom plan time stamp k)) (stamp (suc k))) reads
-          ∙ counted-on (suc k) (readsFrom plan time stamp k) (waitFrom plan time stamp k))
+      kept-next gone e = go (plan .buffered) refl
+        where
+          go : (t : Bool) → plan .buffered ≡ t
+              → pushOf plan (keptOf plan time stamp (suc k)) gone (time (suc k)) (stamp (suc k)) ≡ keptOf plan time stamp (suc (suc k))
+          go true b = judged-next b apart k lead order gone e
+          go false b = unjudged-next b (suc k) gone
 
 -- a read is before a time exactly when it is with both as much later
 shift : (base num den x s j : ℕ) → readBefore (base + s) num den (x + s) j ≡ readBefore base num den x j

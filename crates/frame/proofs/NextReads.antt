@@ -1,7 +1,8 @@
 -- The next read of a packet, by its own arrival and that of its frame's first: asked of a frame that opens, it is the paper's; and what the
 -- open frame keeps answers it too. By the one law of what is known of the reads (grain's Onward), times counted from elsewhere.
 use Rattle.laws.specs.Kit.{_≡_, ap, subst, _∙_, ℕ, suc, _+_, _-_, _*_, _≤_, _<_, arith, add-zero, add-mul, mul-assoc}
-use Rattle.laws.specs.Kit.{true, false, mul-le-mul-right}
+use Rattle.laws.specs.Kit.{Bool, true, false, mul-le-mul-right}
+use Rattle.laws.specs.Choose.{pick}
 use Rattle.laws.specs.Climb.{Climbs}
 use Rattle.laws.proofs.Climb.{climbs-le}
 use Rattle.grain.specs.declared.NextRead.{NextRead}
@@ -17,7 +18,7 @@ use Rattle.frame.specs.declared.Plan.{Plan}
 use Rattle.frame.specs.declared.Frame.{Frame}
 use Rattle.frame.specs.Paper.{History, begunAt, since, heldAt, NextReadIs, readZero, nextReadOf}
 use Rattle.frame.specs.Step.{emptyOf, firstReadOf, openedOf}
-use Rattle.frame.specs.ByPlace.{timeFrom, keptOf, frameFrom, framesAt}
+use Rattle.frame.specs.ByPlace.{timeFrom, readsFrom, waitFrom, keptOf, frameFrom, framesAt}
 use Rattle.frame.specs.Range.{Planned, NextAsks}
 use Rattle.frame.proofs.Opening.{first-read-fits, bound-fits}
 use Rattle.frame.proofs.Keeping.{next-shift}
@@ -121,23 +122,24 @@ module _ (plan : Plan) (first t w : ℕ) (e : nextReadOf plan first t ≡ In w) 
         mul-assoc 2 (grains t) den,
       )
 
--- P22: and the open frame keeps it: the count of the reads before its last packet, packet k, and the wait
-pub kept-answers : (plan : Plan) (time stamp : ℕ → ℕ) (k : ℕ) → 0 < plan .reads .num → 0 < plan .period → time 0 ≤ time k
+-- P22: and the open frame keeps it, where the buffer is judged: the count of the reads before its last packet, packet k, and the wait
+pub kept-answers : (plan : Plan) (time stamp : ℕ → ℕ) (k : ℕ) → plan .buffered ≡ true → 0 < plan .reads .num → 0 < plan .period → time 0 ≤ time k
     → nextAfter (plan .packets) (keptOf plan time stamp (suc k) .reads) (keptOf plan time stamp (suc k) .wait)
     ≡ nextReadOf plan (time 0) (time k)
 unfolding keptOf
-kept-answers plan time stamp k apart period order =
+kept-answers plan time stamp k buffered apart period order =
     let same : timeFrom plan time stamp k ≡ gone plan (time 0) (time k) = omega arith in
-    next-after (plan .packets) (firstReadOf plan) (plan .reads .num) (plan .reads .den) (timeFrom plan time stamp k) apart
+    ap (λ (t : Bool). nextAfter (plan .packets) (pick t (readsFrom plan time stamp k) 0) (pick t (waitFrom plan time stamp k) 0)) buffered
+    ∙ next-after (plan .packets) (firstReadOf plan) (plan .reads .num) (plan .reads .den) (timeFrom plan time stamp k) apart
     ∙ ap (nextRead (plan .packets) (firstReadOf plan) (plan .reads .num) (plan .reads .den)) same
     ∙ next-from plan (time 0) (time k) period order
 
 -- so what is kept of the open frame after packet i, which is in a frame and closes none, tells the next read of packet i
-pub open-answers : (plan : Plan) (h : History) → 0 < plan .reads .num → 0 < plan .period → Climbs (h .time) (h .packets)
+pub open-answers : (plan : Plan) (h : History) → plan .buffered ≡ true → 0 < plan .reads .num → 0 < plan .period → Climbs (h .time) (h .packets)
     → (i : ℕ) → i < h .packets → h .marked i ≡ false → begunAt h i ≡ true
     → nextAfter (plan .packets) (framesAt plan h (suc i) .current .reads) (framesAt plan h (suc i) .current .wait)
     ≡ nextReadOf plan (h .time (since h i)) (h .time i)
-open-answers plan h apart period order i inside unmarked begun =
+open-answers plan h buffered apart period order i inside unmarked begun =
     let s = since h i in
     let k = i - s in
     let within = since-is h i .within in
@@ -146,6 +148,6 @@ open-answers plan h apart period order i inside unmarked begun =
     let open-frame = still-open plan h apart order i inside unmarked begun ∙ ap (frameFrom plan h s) held in
     let lead = climbs-le (h .time) (h .packets) order (s + 0) (s + k) (omega arith) (omega arith) in
     ap (λ (f : Frame). nextAfter (plan .packets) (f .reads) (f .wait)) open-frame
-    ∙ kept-answers plan (λ j. h .time (s + j)) (λ j. h .stamp (s + j)) k apart period lead
+    ∙ kept-answers plan (λ j. h .time (s + j)) (λ j. h .stamp (s + j)) k buffered apart period lead
     ∙ ap (λ (j : ℕ). nextReadOf plan (h .time j) (h .time (s + k))) (add-zero s)
     ∙ ap (λ (j : ℕ). nextReadOf plan (h .time s) (h .time j)) last

@@ -1,5 +1,6 @@
 -- A frame whose times are set: what holds of it before its next packet is counted, so that every product fits.
-use Rattle.laws.specs.Kit.{_≡_, sym, subst, ℕ, _+_, _*_, _≤_, _<_, arith, mul-le-mul, mul-le-mul-right, eqb}
+use Rattle.laws.specs.Kit.{_≡_, sym, ap, subst, Bool, true, false, ℕ, _+_, _*_, _≤_, _<_, arith, mul-le-mul, mul-le-mul-right, eqb}
+use Rattle.laws.specs.Choose.{pick}
 use Rattle.laws.proofs.Choose.{pick-either}
 use Rattle.grain.specs.Paper.{grains, phase}
 use Rattle.grain.specs.Carry.{ReadsAsks}
@@ -7,8 +8,9 @@ use Rattle.grain.proofs.Rounding.{phase-small}
 use Rattle.grain.proofs.Extremes.{reads-fit}
 use Rattle.frame.specs.declared.Plan.{Plan}
 use Rattle.frame.specs.declared.Frame.{Frame}
-use Rattle.frame.specs.Step.{firstReadOf, openedOf, goneOf}
-use Rattle.frame.specs.Range.{Planned, PushAsks}
+use Rattle.frame.specs.Step.{firstReadOf, openedOf, goneOf, readsOf, countedOf, tickedOf, pushOf}
+use Rattle.frame.specs.declared.Most.{Most}
+use Rattle.frame.specs.Range.{Planned, PushAsks, keptMost, mostOf}
 
 pub record Timed (plan : Plan) (f : Frame) (gone : ℕ) : Type 0 where
   pub few : f .held < 1000000000
@@ -67,3 +69,33 @@ module _ {plan : Plan} {f g : Frame} {gone : ℕ} (t stamp : ℕ) (e : g ≡ ope
         (p .divided) (omega (arith, p .near, p .short));
     waits = omega (arith, opened-timed .waits, bound-fits plan p, p .near, p .short);
   }
+
+-- V13: what a push is, by whether the buffer is judged
+module _ (plan : Plan) (f : Frame) (gone t stamp : ℕ) where
+  abbrev o : Frame
+  o = openedOf plan f t stamp
+
+  abbrev by : Bool → Frame
+  by judged = pick judged (countedOf o stamp (readsOf plan o gone)) (tickedOf o stamp)
+
+  pub push-judged : plan .buffered ≡ true → countedOf o stamp (readsOf plan o gone) ≡ pushOf plan f gone t stamp
+  push-judged e = ap by (sym e)
+
+  pub push-unjudged : plan .buffered ≡ false → tickedOf o stamp ≡ pushOf plan f gone t stamp
+  push-unjudged e = ap by (sym e)
+
+-- V13: and what a state may hold of reads
+module _ (plan : Plan) (held : ℕ) where
+  abbrev bounds : Bool → Most
+  bounds judged = record {
+    reads = keptMost judged (plan .packets);
+    wait = keptMost judged (2 * plan .period * plan .reads .den);
+    held = keptMost judged held;
+    number = keptMost judged 4;
+  }
+
+  pub most-judged : plan .buffered ≡ true → bounds true ≡ mostOf plan held
+  most-judged e = ap bounds (sym e)
+
+  pub most-unjudged : plan .buffered ≡ false → bounds false ≡ mostOf plan held
+  most-unjudged e = ap bounds (sym e)

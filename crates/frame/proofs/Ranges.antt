@@ -1,6 +1,6 @@
 -- Frames pass their tests exactly where each number is in its range; it stays there, packet by packet, and from
 -- these ranges the code's own demands follow.
-use Rattle.laws.specs.Kit.{_≡_, refl, sym, _∙_, Bool, true, false, not, _&&_, ℕ, _+_, _*_, _≤_, _<_, arith, ltb, eqb, eqb-false}
+use Rattle.laws.specs.Kit.{_≡_, refl, sym, subst, _∙_, Bool, true, false, not, _&&_, ℕ, _+_, _*_, _≤_, _<_, arith, ltb, eqb, eqb-false}
 use Rattle.laws.specs.Choose.{pick}
 use Rattle.laws.proofs.Choose.{pick-either, false-true}
 use Rattle.laws.specs.Every.{every, All}
@@ -10,10 +10,10 @@ use Rattle.frame.specs.declared.Plan.{Plan}
 use Rattle.frame.specs.declared.Frame.{Frame}
 use Rattle.frame.specs.declared.Frames.{Frames}
 use Rattle.frame.specs.declared.Buffer.{Buffer}
-use Rattle.frame.specs.Paper.{hasFailed, isNone, brokenFails, bufferFrame, bufferPlace}
-use Rattle.frame.specs.Step.{kindOf, openedOf, goneOf, countedOf, readsOf, pushOf, brokenAnswer, answerOf, joined, noFrames}
-use Rattle.frame.specs.Step.{arriveOf, closeOf, emptyOf, beganOf}
-use Rattle.frame.specs.Range.{Planned, PushAsks, RowAsks, FramesRowAsks, isBroken, ranges, Answered, Kept}
+use Rattle.frame.specs.Paper.{hasFailed, isNone, brokenFails, bufferNumber, bufferFrame, bufferPlace}
+use Rattle.frame.specs.Step.{kindOf, openedOf, goneOf, differsOf, countedOf, tickedOf, readsOf, pushOf, brokenAnswer, judgedOf, answerOf}
+use Rattle.frame.specs.Step.{joined, noFrames, arriveOf, closeOf, emptyOf, beganOf}
+use Rattle.frame.specs.Range.{Planned, PushAsks, RowAsks, FramesRowAsks, isBroken, keptMost, ranges, Answered, Kept}
 use Rattle.frame.proofs.FrameKinds.{kind-small}
 use Rattle.frame.proofs.Opening.{Timed, timed, wait-fits}
 
@@ -36,7 +36,7 @@ module _ (plan : Plan) (s : Frames) (first last packets : ℕ) where
         top = t 11;
         late = t 12;
         deficit = t 13;
-        answered = record { fails = t 14; frame = t 15; place = t 16; kind-from = t 17; kind-to = t 18 };
+        answered = record { number = t 14; fails = t 15; frame = t 16; place = t 17; kind-from = t 18; kind-to = t 19 };
       }
 
   pub of-kept : Kept plan s first last packets → every (ranges plan s first last packets) ≡ true
@@ -44,12 +44,13 @@ module _ (plan : Plan) (s : Frames) (first last packets : ℕ) where
   of-kept k =
       of-facts (ranges plan s first last packets)
       (k .closed and k .begun and k .marked-from and k .marked-to and k .held and k .first-from and k .first-to and k .phased and k .read
-      and k .waits and k .differs and k .top and k .late and k .deficit and k .answered .fails and k .answered .frame and k .answered .place
-      and k .answered .kind-from and k .answered .kind-to and tt)
+      and k .waits and k .differs and k .top and k .late and k .deficit and k .answered .number and k .answered .fails and k .answered .frame
+      and k .answered .place and k .answered .kind-from and k .answered .kind-to and tt)
 
 -- no answer is out of its range with one packet more
 more-named : {plan : Plan} {b : Buffer} {m : ℕ} → Answered plan b m → Answered plan b (m + 1)
 more-named a = record {
+  number = a .number;
   fails = a .fails;
   frame = omega (arith, a .frame);
   place = λ e. omega (arith, a .place e);
@@ -65,9 +66,18 @@ third-most {plan} {b} {m} {k} a l t = go (isBroken b) refl
     go true e = omega (arith, a .kind-to e)
     go false e = omega (arith, a .place (rw e))
 
+-- V13: the bound of what is kept of reads is at most what it was, and is that where the buffer is judged
+most-kept : (judged : Bool) (m : ℕ) → keptMost judged m ≤ m
+most-kept judged m = pick-either (λ x. x ≤ m) judged (λ e. omega arith) (λ e. omega arith)
+
+kept-all : {judged : Bool} {x m : ℕ} → judged ≡ true → x ≤ m → x ≤ keptMost judged m
+kept-all {judged} {x} {m} e l = subst (λ (t : Bool). x ≤ keptMost t m) (sym e) l
+
 -- an answer that is not broken
-placed-named : {plan : Plan} {b : Buffer} {m : ℕ} → isBroken b ≡ false → bufferFrame b ≤ m → bufferPlace b ≤ m → Answered plan b m
-placed-named e f p = record {
+placed-named : {plan : Plan} {b : Buffer} {m : ℕ} → isBroken b ≡ false → bufferNumber b ≤ keptMost (plan .buffered) 4 → bufferFrame b ≤ m
+    → bufferPlace b ≤ m → Answered plan b m
+placed-named e n f p = record {
+  number = n;
   fails = λ z. absurd (false-true (sym e ∙ z));
   frame = f;
   place = λ z. p;
@@ -99,7 +109,7 @@ kept-empty plan b c from to a = record {
 
 pub kept-none : (plan : Plan) → Kept plan noFrames 0 0 0
 kept-none plan = kept-empty plan (λ e. absurd (false-true e)) (omega arith) (λ e. omega arith) (λ e. omega arith)
-    (placed-named refl (omega arith) (omega arith))
+    (placed-named refl (omega arith) (omega arith) (omega arith))
 
 -- the next packet arrives at t, in order and in time
 pub record Next (first last packets t : ℕ) : Type 0 where
@@ -117,8 +127,8 @@ module _ (plan : Plan) (s : Frames) (first last packets gone t : ℕ) (p : Plann
     few = omega (arith, k .held, next e .few);
     near = near;
     phased = omega (arith, k .phased);
-    read = k .read;
-    waits = k .waits;
+    read = omega (arith, k .read, most-kept (plan .buffered) (plan .packets));
+    waits = omega (arith, k .waits, most-kept (plan .buffered) (2 * plan .period * plan .reads .den));
   }
 
   -- what is pushed
@@ -127,30 +137,63 @@ module _ (plan : Plan) (s : Frames) (first last packets gone t : ℕ) (p : Plann
     pub first-from : s .marked ≤ f .first
     pub first-to : f .first ≤ t
     pub phased : f .phase ≤ 2 * plan .period
-    pub read : f .reads ≤ plan .packets
-    pub waits : f .wait ≤ 2 * plan .period * plan .reads .den
+    pub read : f .reads ≤ keptMost (plan .buffered) (plan .packets)
+    pub waits : f .wait ≤ keptMost (plan .buffered) (2 * plan .period * plan .reads .den)
     pub differs : f .differs ≤ f .held
-    pub top : f .top ≤ f .held
-    pub deficit : f .deficit ≤ plan .packets
-    pub late : f .late ≤ f .held
+    pub top : f .top ≤ keptMost (plan .buffered) (f .held)
+    pub deficit : f .deficit ≤ keptMost (plan .buffered) (plan .packets)
+    pub late : f .late ≤ keptMost (plan .buffered) (f .held)
 
-  counted : (o : Frame) (stamp : ℕ) → o .held ≡ s .current .held → o .differs ≡ s .current .differs → o .top ≡ s .current .top
-      → o .deficit ≡ s .current .deficit → o .late ≡ s .current .late → o .wait ≤ 2 * plan .period * plan .reads .den
-      → (s .marked ≤ o .first) × (o .first ≤ t) → Timed plan o gone → Pushed (countedOf o stamp (readsOf plan o gone))
+  -- the frame with its times set, which holds what the open one does
+  record Opened (o : Frame) : Type 0 where
+    pub held : o .held ≡ s .current .held
+    pub differs : o .differs ≡ s .current .differs
+    pub top : o .top ≡ s .current .top
+    pub deficit : o .deficit ≡ s .current .deficit
+    pub late : o .late ≡ s .current .late
+    pub wait : o .wait ≤ 2 * plan .period * plan .reads .den
+    pub first-from : s .marked ≤ o .first
+    pub first-to : o .first ≤ t
+    pub times : Timed plan o gone
+
+  differs-small : (o : Frame) (stamp : ℕ) → Opened o → differsOf o stamp ≤ o .held + 1
+  differs-small o stamp z =
+      place-small (o .differs) (o .held) (not (eqb stamp (o .stamp)) && eqb (o .differs) 0) (omega (arith, k .differs, z .differs, z .held))
+
+  counted : (o : Frame) (stamp : ℕ) → plan .buffered ≡ true → Opened o → Pushed (countedOf o stamp (readsOf plan o gone))
   unfolding countedOf
-  counted o stamp eh ed et ef el wait from z =
+  counted o stamp b z =
+      let top-held : o .top ≤ o .held = omega (arith, k .top, most-kept (plan .buffered) (s .current .held), z .top, z .held) in
+      let late-held : o .late ≤ o .held = omega (arith, k .late, most-kept (plan .buffered) (s .current .held), z .late, z .held) in
+      let lack : o .deficit ≤ plan .packets = omega (arith, k .deficit, most-kept (plan .buffered) (plan .packets), z .deficit) in
       record {
-        held = omega arith;
-        first-from = from .0;
-        first-to = from .1;
-        phased = z .phased;
-        read = omega arith;
-        waits = wait-small (o .wait) (plan .reads .num) (goneOf o gone * plan .reads .den) _ (p .apart) wait (p .spread);
-        differs = place-small (o .differs) (o .held) (not (eqb stamp (o .stamp)) && eqb (o .differs) 0) (omega (arith, k .differs));
-        top = omega (arith, k .top);
-        deficit = omega (arith, k .deficit);
-        late = place-small (o .late) (o .held) (ltb (o .held) (readsOf plan o gone .count) && eqb (o .deficit) 0) (omega (arith, k .late));
+        held = omega (arith, z .held);
+        first-from = z .first-from;
+        first-to = z .first-to;
+        phased = z .times .phased;
+        read = kept-all b (omega arith);
+        waits = kept-all b (wait-small (o .wait) (plan .reads .num) (goneOf o gone * plan .reads .den) _ (p .apart) (z .wait) (p .spread));
+        differs = differs-small o stamp z;
+        top = kept-all b (omega arith);
+        deficit = kept-all b (omega arith);
+        late = kept-all b (place-small (o .late) (o .held) (ltb (o .held) (readsOf plan o gone .count) && eqb (o .deficit) 0) late-held);
       }
+
+  -- V13: nothing of reads
+  ticked : (o : Frame) (stamp : ℕ) → Opened o → Pushed (tickedOf o stamp)
+  unfolding tickedOf
+  ticked o stamp z = record {
+    held = omega (arith, z .held);
+    first-from = z .first-from;
+    first-to = z .first-to;
+    phased = z .times .phased;
+    read = omega arith;
+    waits = omega arith;
+    differs = differs-small o stamp z;
+    top = omega arith;
+    deficit = omega arith;
+    late = omega arith;
+  }
 
   opened-first : (stamp : ℕ) → s .begun ≡ true → Next first last packets t
       → (s .marked ≤ (openedOf plan (s .current) t stamp) .first) × ((openedOf plan (s .current) t stamp) .first ≤ t)
@@ -163,12 +206,28 @@ module _ (plan : Plan) (s : Frames) (first last packets gone t : ℕ) (p : Plann
           let some : ¬ (s .current .held ≡ 0) = eqb-false (s .current .held) 0 q in
           (k .first-from (omega arith), omega (arith, k .first-to (omega arith), next .order))
 
+  opened : (stamp : ℕ) → gone ≤ 16200000000000 → s .begun ≡ true → Next first last packets t → Opened (openedOf plan (s .current) t stamp)
+  unfolding openedOf
+  opened stamp near e next =
+      let asks = pushable near (λ b. next) e in
+      let from = opened-first stamp e next in
+      record {
+        held = refl;
+        differs = refl;
+        top = refl;
+        deficit = refl;
+        late = refl;
+        wait = wait-fits plan p (s .current) t stamp (asks .waits);
+        first-from = from .0;
+        first-to = from .1;
+        times = timed plan p (s .current) t stamp gone asks;
+      }
+
   pub pushed : (stamp : ℕ) → gone ≤ 16200000000000 → s .begun ≡ true → Next first last packets t
       → Pushed (pushOf plan (s .current) gone t stamp)
-  unfolding openedOf
   pushed stamp near e next =
-      counted (openedOf plan (s .current) t stamp) stamp refl refl refl refl refl (wait-fits plan p (s .current) t stamp (k .waits))
-      (opened-first stamp e next) (timed plan p (s .current) t stamp gone (pushable near (λ b. next) e))
+      pick-either Pushed (plan .buffered) (λ b. counted (openedOf plan (s .current) t stamp) stamp b (opened stamp near e next))
+      (λ b. ticked (openedOf plan (s .current) t stamp) stamp (opened stamp near e next))
 
   -- ---- a packet arrives, and closes if it is a marker; first′ is the first arrival with it
 
@@ -253,26 +312,40 @@ module _ (plan : Plan) (s : Frames) (first last packets gone t : ℕ) (p : Plann
           phased = f .phased;
           order = f .first-from;
           near = omega (arith, f .first-to, next e .near, k .marked-from e);
-          top = omega (arith, f .top, f .held, k .held, next e .few);
-          low = omega (arith, f .deficit, p .few);
+          top = omega (arith, f .top, most-kept (plan .buffered) (pushOf plan (s .current) gone t stamp .held), f .held, k .held, next e .few);
+          low = omega (arith, f .deficit, most-kept (plan .buffered) (plan .packets), p .few);
           differs = omega (arith, f .differs, f .held, k .held, next e .few);
         }
 
 -- the answer of a frame names it, and a place in it or its kind
-broken-named : (plan : Plan) (n kind m : ℕ) → n ≤ m → (kind ≡ 0 → ⊥) → kind ≤ 3 → Answered plan (brokenAnswer (plan .edition) n kind) m
-broken-named plan n kind m hn some few =
-    pick-either (λ b. Answered plan b m) (brokenFails (plan .edition))
-    (λ e. record { fails = λ z. e; frame = hn; place = λ z. absurd (false-true z); kind-from = λ z. omega arith; kind-to = λ z. few })
-    (λ e. placed-named refl (omega arith) (omega arith))
+module _ (plan : Plan) (judged : plan .buffered ≡ true) where
+  broken-named : (n kind m : ℕ) → n ≤ m → (kind ≡ 0 → ⊥) → kind ≤ 3 → Answered plan (brokenAnswer (plan .edition) n kind) m
+  broken-named n kind m hn some few =
+      pick-either (λ b. Answered plan b m) (brokenFails (plan .edition))
+      (λ e. record {
+        number = kept-all judged (omega arith);
+        fails = λ z. e;
+        frame = hn;
+        place = λ z. absurd (false-true z);
+        kind-from = λ z. omega arith;
+        kind-to = λ z. few;
+      })
+      (λ e. placed-named refl (omega arith) (omega arith) (omega arith))
+
+  judged-named : (n : ℕ) (f : Frame) (m : ℕ) → n ≤ m → f .late ≤ m → f .top ≤ m → Answered plan (judgedOf plan n f) m
+  unfolding judgedOf
+  judged-named n f m hn hl ht =
+      pick-either (λ b. Answered plan b m) (eqb (kindOf f (plan .packets)) 0) (λ e.
+      pick-either (λ b. Answered plan b m) (ltb 0 (f .deficit)) (λ e. placed-named refl (kept-all judged (omega arith)) hn hl) (λ e.
+      pick-either (λ b. Answered plan b m) (ltb (plan .full) (f .top)) (λ e. placed-named refl (kept-all judged (omega arith)) hn ht) (λ e.
+      placed-named refl (kept-all judged (omega arith)) (omega arith) (omega arith))))
+      (λ e. broken-named n (kindOf f (plan .packets)) m hn (eqb-false (kindOf f (plan .packets)) 0 e) (kind-small f (plan .packets)))
 
 answer-named : (plan : Plan) (n : ℕ) (f : Frame) (m : ℕ) → n ≤ m → f .late ≤ m → f .top ≤ m → Answered plan (answerOf plan n f) m
 unfolding answerOf
 answer-named plan n f m hn hl ht =
-    pick-either (λ b. Answered plan b m) (eqb (kindOf f (plan .packets)) 0) (λ e.
-    pick-either (λ b. Answered plan b m) (ltb 0 (f .deficit)) (λ e. placed-named refl hn hl) (λ e.
-    pick-either (λ b. Answered plan b m) (ltb (plan .full) (f .top)) (λ e. placed-named refl hn ht) (λ e.
-    placed-named refl (omega arith) (omega arith))))
-    (λ e. broken-named plan n (kindOf f (plan .packets)) m hn (eqb-false (kindOf f (plan .packets)) 0 e) (kind-small f (plan .packets)))
+    pick-either (λ b. Answered plan b m) (plan .buffered) (λ e. judged-named plan e n f m hn hl ht)
+    (λ e. placed-named refl (omega arith) (omega arith) (omega arith))
 
 joined-named : (plan : Plan) (b c : Buffer) (m : ℕ) → Answered plan b m → Answered plan c m → Answered plan (joined b c) m
 unfolding joined
@@ -285,9 +358,10 @@ module _ (plan : Plan) (a : Frames) (first t packets : ℕ) (k : Kept plan a fir
     (since : first ≤ t) where
   answers : (b : Bool) → Answered plan (pick b (joined (a .buffer) (answerOf plan (a .closed) (a .current))) (a .buffer)) packets
   answers b =
+      let held-most = most-kept (plan .buffered) (a .current .held) in
       pick-either (λ x. Answered plan x packets) b (λ e. joined-named plan (a .buffer) (answerOf plan (a .closed) (a .current)) packets (k .answered)
-      (answer-named plan (a .closed) (a .current) packets (k .closed) (omega (arith, k .late, k .held))
-      (omega (arith, k .top, k .held)))) (λ e. k .answered)
+      (answer-named plan (a .closed) (a .current) packets (k .closed) (omega (arith, k .late, held-most, k .held))
+      (omega (arith, k .top, held-most, k .held)))) (λ e. k .answered)
 
   pub kept-close : Kept plan (closeOf plan a t) first t packets
   unfolding closeOf

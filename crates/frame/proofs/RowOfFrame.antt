@@ -18,7 +18,7 @@ use Rattle.frame.specs.declared.Plan.{Plan}
 use Rattle.frame.specs.declared.Frame.{Frame}
 use Rattle.frame.specs.declared.Row.{Row}
 use Rattle.frame.specs.Paper.{History, closesAt, numberAt, since, heldAt, differsAt, kindAt, detailAt, arrival, firstRead}
-use Rattle.frame.specs.Paper.{readsTo, PeakIs, LeastIs, Times, Levels, RowIs}
+use Rattle.frame.specs.Paper.{readsTo, PeakIs, LeastIs, Times, Levels, NoLevels, Measured, RowIs}
 use Rattle.frame.specs.Step.{kindOf, detailOf, wholeRow, rowOf}
 use Rattle.frame.specs.ByPlace.{readsFrom, keptOf, frameFrom, closedAt, markedTime}
 use Rattle.frame.specs.Range.{Planned}
@@ -41,6 +41,21 @@ least-unique plan h s z w x y =
     let v = x .met in
     let u = y .met in
     both-ways z w (rw (u .2) (x .bound (u .0) (u .1))) (rw (v .2) (y .bound (v .0) (v .1)))
+
+-- V13: with or without a buffer
+measured-unique : {plan : Plan} {h : History} {s : ℕ} {r q : Row} → Measured plan h s r → Measured plan h s q
+    → (r .peak ≡ q .peak) × (r .least ≡ q .least)
+measured-unique {plan} {h} {s} {r} {q} x y = go (plan .buffered) refl
+  where
+    go : (t : Bool) → plan .buffered ≡ t → (r .peak ≡ q .peak) × (r .least ≡ q .least)
+    go true b =
+        let u = x .judged b in
+        let v = y .judged b in
+        (peak-unique plan h s (r .peak) (q .peak) (u .peak) (v .peak), least-unique plan h s (r .least) (q .least) (u .least) (v .least))
+    go false b =
+        let u = x .unjudged b in
+        let v = y .unjudged b in
+        (u .peak ∙ sym (v .peak), u .least ∙ sym (v .least))
 
 -- ---- the frame's packets, in order
 
@@ -155,36 +170,57 @@ module _ {plan : Plan} {h : History} {i : ℕ} (w : WholeFrame plan h i) where
   most-kept : (g : ℕ → ℕ → ℕ) → most (λ j. g j (reads j)) (suc (i - s)) ≡ most (λ j. g j (readsTo plan h s j)) (plan .packets)
   most-kept g = rw packets-are (most-same _ _ _ (λ j l. ap (g j) (reads-same j l)))
 
-  pub top-is : kept .top ≡ D.top frame
-  unfolding keptOf
-  top-is = ap (λ (f : Frame). f .top) (held-is plan h i) ∙ most-kept (λ j r. suc j - r)
+  -- what is kept of reads
+  abbrev kept-if : ℕ → Bool → ℕ
+  kept-if x t = pick t x 0
 
-  pub deficit-is : kept .deficit ≡ D.lack frame
-  unfolding keptOf
-  deficit-is = ap (λ (f : Frame). f .deficit) (held-is plan h i) ∙ most-kept (λ j r. r - j)
+  -- where the buffer is judged
+  module _ (b : plan .buffered ≡ true) where
+    pub top-is : kept .top ≡ D.top frame
+    unfolding keptOf
+    top-is = ap (λ (f : Frame). f .top) (held-is plan h i) ∙ ap (kept-if (most (λ j. suc j - reads j) (suc (i - s)))) b
+        ∙ most-kept (λ j r. suc j - r)
 
-  -- P17: the greatest level that is kept is the frame's peak
-  pub peak-is : PeakIs plan h s (pos (kept .top))
-  peak-is = rw top-is (record { bound = D.peak-bound frame; met = D.peak-met frame (w .planned .some) })
+    pub deficit-is : kept .deficit ≡ D.lack frame
+    unfolding keptOf
+    deficit-is = ap (λ (f : Frame). f .deficit) (held-is plan h i) ∙ ap (kept-if (most (λ j. reads j - j) (suc (i - s)))) b
+        ∙ most-kept (λ j r. r - j)
 
-  -- P15, P18: the greatest lack that is kept, below 0, is the frame's least
-  pub least-is : LeastIs plan h s (subℕ 0 (kept .deficit))
-  least-is = rw deficit-is (record { bound = D.least-bound frame; met = D.least-met frame (w .planned .some) })
+    -- P17: the greatest level that is kept is the frame's peak
+    pub peak-is : PeakIs plan h s (pos (kept .top))
+    peak-is = rw top-is (record { bound = D.peak-bound frame; met = D.peak-met frame (w .planned .some) })
 
-  -- where there was a lack, some packet is late, and the place that is kept is the first
-  late-there : 0 < kept .deficit → seek (λ j. ltb j (readsTo plan h s j)) (plan .packets) < plan .packets
-  late-there some =
-      let q = D.dry-late frame (omega (arith, deficit-is)) in
-      let no : ¬ (plan .packets ≤ seek (λ j. ltb j (readsTo plan h s j)) (plan .packets)) = λ m. false-true
-      (sym (seek-is (λ j. ltb j (readsTo plan h s j)) (plan .packets) .before (q .0) (omega (arith, q .1)))
-      ∙ lt-ltb (q .0) (readsTo plan h s (q .0)) (q .2)) in
-      omega arith
+    -- P15, P18: the greatest lack that is kept, below 0, is the frame's least
+    pub least-is : LeastIs plan h s (subℕ 0 (kept .deficit))
+    least-is = rw deficit-is (record { bound = D.least-bound frame; met = D.least-met frame (w .planned .some) })
 
-  pub late-is : 0 < kept .deficit → kept .late ≡ seek (λ j. ltb j (readsTo plan h s j)) (plan .packets)
-  unfolding keptOf
-  late-is some = ap (λ (f : Frame). f .late) (held-is plan h i) ∙ ap (hit (λ j. ltb j (reads j))) packets-are
-      ∙ hit-same (λ j. ltb j (reads j)) (λ j. ltb j (readsTo plan h s j)) (plan .packets) (λ j l. ap (ltb j) (reads-same j l))
-      ∙ hit-found (λ j. ltb j (readsTo plan h s j)) (plan .packets) (late-there some)
+    -- where there was a lack, some packet is late, and the place that is kept is the first
+    late-there : 0 < kept .deficit → seek (λ j. ltb j (readsTo plan h s j)) (plan .packets) < plan .packets
+    late-there some =
+        let q = D.dry-late frame (omega (arith, deficit-is)) in
+        let no : ¬ (plan .packets ≤ seek (λ j. ltb j (readsTo plan h s j)) (plan .packets)) = λ m. false-true
+        (sym (seek-is (λ j. ltb j (readsTo plan h s j)) (plan .packets) .before (q .0) (omega (arith, q .1)))
+        ∙ lt-ltb (q .0) (readsTo plan h s (q .0)) (q .2)) in
+        omega arith
+
+    pub late-is : 0 < kept .deficit → kept .late ≡ seek (λ j. ltb j (readsTo plan h s j)) (plan .packets)
+    unfolding keptOf
+    late-is some = ap (λ (f : Frame). f .late) (held-is plan h i) ∙ rw b (ap (hit (λ j. ltb j (reads j))) packets-are)
+        ∙ hit-same (λ j. ltb j (reads j)) (λ j. ltb j (readsTo plan h s j)) (plan .packets) (λ j l. ap (ltb j) (reads-same j l))
+        ∙ hit-found (λ j. ltb j (readsTo plan h s j)) (plan .packets) (late-there some)
+
+    -- V1: peak and least of the row are the frame's
+    levels-are : Levels plan h s (wholeRow plan (numberAt h i) (markedTime plan h i) s kept)
+    unfolding wholeRow
+    levels-are = record { peak = peak-is; least = least-is }
+
+  -- V13: where it is not, both are 0, for nothing of reads is kept
+  no-levels : plan .buffered ≡ false → NoLevels plan h s (wholeRow plan (numberAt h i) (markedTime plan h i) s kept)
+  unfolding wholeRow keptOf
+  no-levels b = record {
+    peak = ap (λ (f : Frame). pos (f .top)) (held-is plan h i) ∙ rw b;
+    least = ap (λ (f : Frame). subℕ 0 (f .deficit)) (held-is plan h i) ∙ rw b;
+  }
 
   -- of the frame's first packet
   first-is : kept .first ≡ h .time (s + 0)
@@ -228,9 +264,8 @@ module _ {plan : Plan} {h : History} {i : ℕ} (w : WholeFrame plan h i) where
     gap = gap-is e;
   }
 
-  pub levels-are : Levels plan h s (wholeRow plan (numberAt h i) (markedTime plan h i) s kept)
-  unfolding wholeRow
-  levels-are = record { peak = peak-is; least = least-is }
+  pub measured-is : Measured plan h s (wholeRow plan (numberAt h i) (markedTime plan h i) s kept)
+  measured-is = record { judged = levels-are; unjudged = no-levels }
 
 -- "A closed frame writes ten numbers", and an eleventh: the row that the code makes of the frame it kept is the row of that stretch
 module _ (plan : Plan) (h : History) (ordered : Climbs (h .time) (h .packets)) (i : ℕ) (inside : i < h .packets) where
@@ -248,7 +283,7 @@ module _ (plan : Plan) (h : History) (ordered : Climbs (h .time) (h .packets)) (
             detail = ap pos (rw k);
             began = refl;
             times = λ z. times-are w closing;
-            levels = λ z. levels-are w;
+            levels = λ z. measured-is w;
             broken = λ z. absurd (z k);
           })
       go false e =
@@ -313,9 +348,9 @@ row-unique plan h i r q x y = go (eqb (kindAt plan h i) 0) refl
         let k = eqb-true (kindAt plan h i) 0 e in
         let a = x .times k in
         let b = y .times k in
+        let both = measured-unique (x .levels k) (y .levels k) in
         same-row (cc) (cc) (cc) (cc) (offset-same a b) (vl-same a b) (cc) (cc)
-        (peak-unique plan h (since h i) (r .peak) (q .peak) (x .levels k .peak) (y .levels k .peak))
-        (least-unique plan h (since h i) (r .least) (q .least) (x .levels k .least) (y .levels k .least)) (cc)
+        (both .0) (both .1) (cc)
     go false e =
         let a = x .broken (eqb-false (kindAt plan h i) 0 e) in
         let b = y .broken (eqb-false (kindAt plan h i) 0 e) in

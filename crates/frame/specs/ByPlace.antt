@@ -34,6 +34,10 @@ module _ (plan : Plan) (time stamp : ℕ → ℕ) where
   abbrev pub lateFrom : ℕ → Bool
   lateFrom j = ltb j (readsFrom j)
 
+  -- V13: what is kept of reads, where the buffer is judged; nothing elsewhere
+  abbrev pub judged : ℕ → ℕ
+  judged x = pick (plan .buffered) x 0
+
   -- what is kept of the first k of them
   unfoldable pub keptOf : ℕ → Frame
   unfolding most seek
@@ -44,11 +48,11 @@ module _ (plan : Plan) (time stamp : ℕ → ℕ) where
     stamp = stamp 0;
     phase = phase (grains (time 0)) (plan .period);
     differs = hit differing (suc k);
-    reads = readsFrom k;
-    wait = waitFrom k;
-    top = most (λ j. suc j - readsFrom j) (suc k);
-    deficit = most (λ j. readsFrom j - j) (suc k);
-    late = hit lateFrom (suc k);
+    reads = judged (readsFrom k);
+    wait = judged (waitFrom k);
+    top = judged (most (λ j. suc j - readsFrom j) (suc k));
+    deficit = judged (most (λ j. readsFrom j - j) (suc k));
+    late = judged (hit lateFrom (suc k));
   }
 
 -- from the packet before packet i of a history to packet i, in grains; 0 for the first

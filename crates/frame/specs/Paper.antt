@@ -175,6 +175,16 @@ module _ (plan : Plan) (h : History) where
       pub peak : PeakIs (r .peak)
       pub least : LeastIs (r .least)
 
+    -- V13: "rows with peak and least 0 for whole frames" (document 02, vii)
+    pub record NoLevels (r : Row) : Type 0 where
+      pub peak : r .peak ≡ pos 0
+      pub least : r .least ≡ pos 0
+
+    -- V1, V13: peak and least of a whole frame, by whether the buffer is judged
+    pub record Measured (r : Row) : Type 0 where
+      pub judged : plan .buffered ≡ true → Levels r
+      pub unjudged : plan .buffered ≡ false → NoLevels r
+
   -- ---- the row
 
   -- V3: "For kinds 1 to 3 the last seven are 0.": of the ten numbers that document 01 speaks of, so the fourth to the tenth. The eleventh
@@ -196,7 +206,7 @@ module _ (plan : Plan) (h : History) where
     pub detail : r .detail ≡ pos (detailAt i)
     pub began : r .began ≡ pos (since h i)
     pub times : kindAt i ≡ 0 → Times (since h i) r
-    pub levels : kindAt i ≡ 0 → Levels (since h i) r
+    pub levels : kindAt i ≡ 0 → Measured (since h i) r
     pub broken : (kindAt i ≡ 0 → ⊥) → Zeros r
 
   -- V10: packet i closes a frame, and the eleventh number of the frame's row is `place`
@@ -258,8 +268,13 @@ module _ (plan : Plan) (h : History) where
 
   -- V7, V8, V12: "Buffer: none (no whole frame yet); pass; under [..]; over [..]. The first failing frame decides", in every edition; what
   -- each edition comes to: specs/Editions.antt
-  abbrev pub BufferIs : Buffer → Type 0
-  BufferIs b = FirstDecides AnswerIs (h .packets) b
+  abbrev pub DecidedIs : Buffer → Type 0
+  DecidedIs b = FirstDecides AnswerIs (h .packets) b
+
+  -- V7, V13: that is the buffer answer where the buffer is judged; elsewhere "Its buffer answer is always none, in test plan edition 2 as well."
+  pub record BufferIs (b : Buffer) : Type 0 where
+    pub judged : plan .buffered ≡ true → DecidedIs b
+    pub unjudged : plan .buffered ≡ false → b ≡ None
 
 -- P14: "T_CF + TRO", where read 0 is of a frame whose first packet arrives at `first`, in nanoseconds
 abbrev pub readZero : Plan → ℕ → ℕ

@@ -1,12 +1,14 @@
 -- What a plan and an open frame must keep to, so that nothing overflows. Each
 -- is met by every stream that set-up accepts and every accepted history.
 use Rattle.laws.specs.Kit.{_≡_, Bool, true, not, List, [], _∷_, ℕ, _+_, _*_, _≤_, _<_, eqb}
+use Rattle.laws.specs.Choose.{pick}
 use Rattle.grain.specs.Paper.{nanosecond}
 use Rattle.laws.specs.Every.{Test, at-most, below, is, where-so, Entry, entry, flag, tests}
 use Rattle.frame.specs.declared.Plan.{Plan}
 use Rattle.frame.specs.declared.Frame.{Frame}
 use Rattle.frame.specs.declared.Frames.{Frames}
 use Rattle.frame.specs.declared.Buffer.{Buffer}
+use Rattle.frame.specs.declared.Most.{Most}
 use Rattle.frame.specs.Paper.{bufferNumber, bufferFrame, bufferPlace, brokenFails}
 use Rattle.frame.specs.Step.{beganOf}
 
@@ -57,6 +59,20 @@ pub record FramesRowAsks (plan : Plan) (s : Frames) (packets : ℕ) : Type 0 whe
 abbrev pub isBroken : Buffer → Bool
 isBroken b = eqb (bufferNumber b) 4
 
+-- V13: the most that a number of the reads may be, or that of the answer: nothing of reads is kept where the buffer is not judged, and no answer
+-- but none
+abbrev pub keptMost : Bool → ℕ → ℕ
+keptMost judged most = pick judged most 0
+
+-- of each of them, in an open frame of so many packets
+abbrev pub mostOf : Plan → ℕ → Most
+mostOf plan held = record {
+  reads = keptMost (plan .buffered) (plan .packets);
+  wait = keptMost (plan .buffered) (2 * plan .period * plan .reads .den);
+  held = keptMost (plan .buffered) held;
+  number = keptMost (plan .buffered) 4;
+}
+
 -- The range of each number that is kept of the frames, as docs/STATE.md gives it, by the plan and by what
 -- came before, the first and the last arrival and how many packets: one table, and what it means.
 module _ (plan : Plan) (s : Frames) (first last packets : ℕ) where
@@ -74,13 +90,16 @@ module _ (plan : Plan) (s : Frames) (first last packets : ℕ) where
       ∷ [])
       ∷ entry (s .current .stamp) 4 []
       ∷ entry (s .current .phase) 8 (at-most (s .current .phase) (2 * plan .period) ∷ [])
-      ∷ entry (s .current .reads) 8 (at-most (s .current .reads) (plan .packets) ∷ [])
-      ∷ entry (s .current .wait) 8 (at-most (s .current .wait) (2 * plan .period * plan .reads .den) ∷ [])
+      ∷ entry (s .current .reads) 8 (at-most (s .current .reads) (mostOf plan (s .current .held) .reads) ∷ [])
+      ∷ entry (s .current .wait) 8 (at-most (s .current .wait) (mostOf plan (s .current .held) .wait) ∷ [])
       ∷ entry (s .current .differs) 8 (at-most (s .current .differs) (s .current .held) ∷ [])
-      ∷ entry (s .current .top) 8 (at-most (s .current .top) (s .current .held) ∷ [])
-      ∷ entry (s .current .late) 8 (at-most (s .current .late) (s .current .held) ∷ [])
-      ∷ entry (s .current .deficit) 8 (at-most (s .current .deficit) (plan .packets) ∷ [])
-      ∷ entry (bufferNumber (s .buffer)) 1 (where-so (is (isBroken (s .buffer))) (is (brokenFails (plan .edition))) ∷ [])
+      ∷ entry (s .current .top) 8 (at-most (s .current .top) (mostOf plan (s .current .held) .held) ∷ [])
+      ∷ entry (s .current .late) 8 (at-most (s .current .late) (mostOf plan (s .current .held) .held) ∷ [])
+      ∷ entry (s .current .deficit) 8 (at-most (s .current .deficit) (mostOf plan (s .current .held) .reads) ∷ [])
+      ∷ entry (bufferNumber (s .buffer)) 1
+      (at-most (bufferNumber (s .buffer)) (mostOf plan (s .current .held) .number)
+      ∷ where-so (is (isBroken (s .buffer))) (is (brokenFails (plan .edition)))
+      ∷ [])
       ∷ entry (bufferFrame (s .buffer)) 8 (at-most (bufferFrame (s .buffer)) packets ∷ [])
       ∷ entry (bufferPlace (s .buffer)) 8
       (where-so (is (not (isBroken (s .buffer)))) (at-most (bufferPlace (s .buffer)) packets)
@@ -92,8 +111,10 @@ module _ (plan : Plan) (s : Frames) (first last packets : ℕ) where
   abbrev pub ranges : List Test
   ranges = tests table
 
--- an answer names a frame and a place in it, or the kind of a frame that failed by being broken, where such a frame does
+-- an answer names a frame and a place in it, or the kind of a frame that failed by being broken, where such a frame does; it is none where
+-- the buffer is not judged
 pub record Answered (plan : Plan) (b : Buffer) (most : ℕ) : Type 0 where
+  pub number : bufferNumber b ≤ keptMost (plan .buffered) 4
   pub fails : isBroken b ≡ true → brokenFails (plan .edition) ≡ true
   pub frame : bufferFrame b ≤ most
   pub place : not (isBroken b) ≡ true → bufferPlace b ≤ most
@@ -110,10 +131,10 @@ pub record Kept (plan : Plan) (s : Frames) (first last packets : ℕ) : Type 0 w
   pub first-from : 0 < s .current .held → s .marked ≤ s .current .first
   pub first-to : 0 < s .current .held → s .current .first ≤ last
   pub phased : s .current .phase ≤ 2 * plan .period
-  pub read : s .current .reads ≤ plan .packets
-  pub waits : s .current .wait ≤ 2 * plan .period * plan .reads .den
+  pub read : s .current .reads ≤ keptMost (plan .buffered) (plan .packets)
+  pub waits : s .current .wait ≤ keptMost (plan .buffered) (2 * plan .period * plan .reads .den)
   pub differs : s .current .differs ≤ s .current .held
-  pub top : s .current .top ≤ s .current .held
-  pub deficit : s .current .deficit ≤ plan .packets
-  pub late : s .current .late ≤ s .current .held
+  pub top : s .current .top ≤ keptMost (plan .buffered) (s .current .held)
+  pub deficit : s .current .deficit ≤ keptMost (plan .buffered) (plan .packets)
+  pub late : s .current .late ≤ keptMost (plan .buffered) (s .current .held)
   pub answered : Answered plan (s .buffer) packets

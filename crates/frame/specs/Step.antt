@@ -57,6 +57,21 @@ countedOf f stamp reads = record {
   late = pick (ltb (f .held) (reads .count) && eqb (f .deficit) 0) (f .held) (f .late);
 }
 
+-- V13: one packet more, where the buffer is not judged: nothing of reads is kept
+unfoldable pub tickedOf : Frame → ℕ → Frame
+tickedOf f stamp = record {
+  held = f .held + 1;
+  first = f .first;
+  stamp = f .stamp;
+  phase = f .phase;
+  differs = differsOf f stamp;
+  reads = 0;
+  wait = 0;
+  top = 0;
+  deficit = 0;
+  late = 0;
+}
+
 -- the time that goes by up to a packet, in grains: since the packet before it, which the step is told; for the first of a frame since one
 -- period before the frame's start
 abbrev pub goneOf : Frame → ℕ → ℕ
@@ -67,7 +82,9 @@ abbrev pub readsOf : Plan → Frame → ℕ → Reads
 readsOf plan f gone = readsOn (f .reads) (f .wait) (plan .packets) (plan .reads .num) (goneOf f gone * plan .reads .den)
 
 abbrev pub pushOf : Plan → Frame → ℕ → ℕ → ℕ → Frame
-pushOf plan f gone t stamp = countedOf (openedOf plan f t stamp) stamp (readsOf plan (openedOf plan f t stamp) gone)
+pushOf plan f gone t stamp =
+    pick (plan .buffered) (countedOf (openedOf plan f t stamp) stamp (readsOf plan (openedOf plan f t stamp) gone))
+    (tickedOf (openedOf plan f t stamp) stamp)
 
 -- ---- its kind, row and answer
 
@@ -143,13 +160,18 @@ abbrev pub brokenAnswer : ℕ → ℕ → ℕ → Buffer
 brokenAnswer edition number kind = pick (brokenFails edition) (Broken (record { frame = number; kind = kind })) None
 
 -- V7, V8, V12: "under (least below 0) [..]; over (VRX peak above VRX_FULL) [..]; in one frame under goes first."
-unfoldable pub answerOf : Plan → ℕ → Frame → Buffer
+unfoldable pub judgedOf : Plan → ℕ → Frame → Buffer
 unfolding kindOf
-answerOf plan number f =
+judgedOf plan number f =
     pick (eqb (kindOf f (plan .packets)) 0)
     (pick (ltb 0 (f .deficit)) (Under (record { frame = number; place = f .late }))
     (pick (ltb (plan .full) (f .top)) (Over (record { frame = number; place = f .top })) Pass))
     (brokenAnswer (plan .edition) number (kindOf f (plan .packets)))
+
+-- V13: "Its buffer answer is always none": a frame answers nothing where the buffer is not judged
+unfoldable pub answerOf : Plan → ℕ → Frame → Buffer
+unfolding judgedOf
+answerOf plan number f = pick (plan .buffered) (judgedOf plan number f) None
 
 -- V8: "The first failing frame decides": the answer so far, and then the next frame's
 unfoldable pub joined : Buffer → Buffer → Buffer

@@ -1,15 +1,16 @@
 // The frames of a stream: the open frame packet by packet, its row when a marker closes it, and the
 // receiver buffer's answer.
 // It knows `grain`. It must never know a rate code, a class or a schedule: the period, the packets of a
-// period, the offset and the spacing of the reads, the limit and the edition come in a plan.
+// period, the offset and the spacing of the reads, the limit, the edition and whether the buffer is judged
+// at all come in a plan.
 ghost use Rattle.laws.specs.Kit.{_≡_, true, _+_, _-_, _≤_, _<_, length, sets};
 ghost use Rattle.laws.specs.Choose.{pick};
 ghost use Rattle.laws.specs.Every.{every};
 ghost use Rattle.frame.specs.Paper.{nextReadOf, bufferNumber, bufferFrame, bufferPlace, hasFailed, isNone, brokenFails};
-ghost use Rattle.frame.specs.Step.{emptyOf, openedOf, goneOf, differsOf, countedOf, pushOf, kindOf, detailOf, wholeRow};
-ghost use Rattle.frame.specs.Step.{brokenRow, rowOf, numbersOf, rowWidth, closedRow, brokenAnswer, answerOf, joined};
+ghost use Rattle.frame.specs.Step.{emptyOf, openedOf, goneOf, differsOf, countedOf, tickedOf, pushOf, kindOf, detailOf, wholeRow};
+ghost use Rattle.frame.specs.Step.{brokenRow, rowOf, numbersOf, rowWidth, closedRow, brokenAnswer, judgedOf, answerOf, joined};
 ghost use Rattle.frame.specs.Step.{noFrames, arriveOf, closeOf};
-ghost use Rattle.frame.specs.Range.{Planned, PushAsks, NextAsks, RowAsks, FramesRowAsks, ranges};
+ghost use Rattle.frame.specs.Range.{Planned, PushAsks, NextAsks, RowAsks, FramesRowAsks, mostOf, ranges};
 use grain::NextRead;
 use grain::Reads;
 use grain::Spacing;
@@ -19,7 +20,8 @@ pub const ROW: usize = 11;
 
 // What a stream is measured by: frames start at multiples of `period` grains and have `packets` packets;
 // the reads lie at tro + j·num/den grains after the start, by their spacing; `full` is the most that the buffer may hold;
-// by the edition a frame that is not whole fails the buffer, or is not judged.
+// by the edition a frame that is not whole fails the buffer, or is not judged. `buffered`: the buffer is judged. Where it is
+// not, reads are not counted.
 pub struct Plan {
     pub period: u64,
     pub packets: u64,
@@ -27,6 +29,7 @@ pub struct Plan {
     pub reads: Spacing,
     pub full: u64,
     pub edition: u32,
+    pub buffered: bool,
 }
 
 // The open frame: how many packets it holds; of the first its arrival, timestamp and phase; the place of
@@ -170,15 +173,37 @@ impl Frame {
         f
     }
 
+    // One packet more, in a frame whose times are set, where the buffer is not judged: nothing of reads is kept.
+    fn ticked(self, stamp: u32) -> Frame
+        requires { ⌜ self .held < 1000000000 ⌝ }
+        ensures { λ r. ⌜ r ≡ tickedOf self stamp ⌝ }
+    {
+        Frame {
+            held: self.held + 1,
+            first: self.first,
+            stamp: self.stamp,
+            phase: self.phase,
+            differs: self.differing(stamp),
+            reads: 0,
+            wait: 0,
+            top: 0,
+            deficit: 0,
+            late: 0,
+        }
+    }
+
     // One packet more, `gone` grains after the one before. What goes by is taken off the wait, so that nothing is long.
     pub fn push(self, plan: Plan, gone: u64, t: u64, stamp: u32) -> Frame
         requires { ⌜ Planned plan × PushAsks plan self gone ⌝ }
         ensures { λ r. ⌜ r ≡ pushOf plan self gone t stamp ⌝ }
     {
         let f = self.opened(plan, t, stamp);
-        let by = f.gone_by(gone) * plan.reads.den;
-        let reads = grain::reads_on(f.reads, f.wait, plan.packets, plan.reads.num, by);
-        f.counted(stamp, reads)
+        if plan.buffered {
+            let by = f.gone_by(gone) * plan.reads.den;
+            let reads = grain::reads_on(f.reads, f.wait, plan.packets, plan.reads.num, by);
+            return f.counted(stamp, reads);
+        }
+        f.ticked(stamp)
     }
 
     // 1 short, 2 long, 3 stamp, 0 whole: tried in this order.
@@ -239,9 +264,19 @@ impl Frame {
         }
     }
 
-    // A broken frame fails by being broken, or is not judged; of a whole one under goes first.
+    // What the frame answers: nothing, where the buffer is not judged.
     pub fn answer(self, plan: Plan, number: u64) -> Buffer
         ensures { λ r. ⌜ r ≡ answerOf plan number self ⌝ }
+    {
+        if plan.buffered {
+            return self.judged(plan, number);
+        }
+        Buffer::None
+    }
+
+    // A broken frame fails by being broken, or is not judged; of a whole one under goes first.
+    fn judged(self, plan: Plan, number: u64) -> Buffer
+        ensures { λ r. ⌜ r ≡ judgedOf plan number self ⌝ }
     {
         let kind = self.kind(plan.packets);
         if kind != 0 {
@@ -260,6 +295,37 @@ impl Frame {
             });
         }
         Buffer::Pass
+    }
+}
+
+// The most that a state may hold of reads, in an open frame of so many packets, and as the number of its answer.
+struct Most {
+    pub reads: u64,
+    pub wait: u64,
+    pub held: u64,
+    pub number: u64,
+}
+
+impl Plan {
+    // Where the buffer is not judged, nothing of them is kept.
+    fn most(self, held: u64) -> Most
+        requires { ⌜ Planned self ⌝ }
+        ensures { λ r. ⌜ r ≡ mostOf self held ⌝ }
+    {
+        if self.buffered {
+            return Most {
+                reads: self.packets,
+                wait: 2 * self.period * self.reads.den,
+                held,
+                number: 4,
+            };
+        }
+        Most {
+            reads: 0,
+            wait: 0,
+            held: 0,
+            number: 0,
+        }
     }
 }
 
@@ -463,12 +529,12 @@ impl Frames {
         ensures { λ r. ⌜ r ≡ every (ranges plan self first last packets) ⌝ }
     {
         let periods = 2 * plan.period;
-        let longest = periods * plan.reads.den;
         let open = self.current;
         let answer = self.buffer;
         let lead_in = !self.begun;
         let none = !(0 < open.held);
         let edition = plan.edition;
+        let most = plan.most(open.held);
         let numbers = (self.closed <= packets)
             & (lead_in | (0 < packets))
             & (lead_in | (first <= self.marked))
@@ -477,16 +543,18 @@ impl Frames {
             & (none | (self.marked <= open.first))
             & (none | (open.first <= last))
             & (open.phase <= periods)
-            & (open.reads <= plan.packets)
-            & (open.wait <= longest)
+            & (open.reads <= most.reads)
+            & (open.wait <= most.wait)
             & (open.differs <= open.held)
-            & (open.top <= open.held)
-            & (open.late <= open.held)
-            & (open.deficit <= plan.packets);
-        let whole = answer.number() != 4;
+            & (open.top <= most.held)
+            & (open.late <= most.held)
+            & (open.deficit <= most.reads);
+        let number = answer.number();
+        let whole = number != 4;
         let named = answer.frame();
         let place = answer.place();
         numbers
+            & (number <= most.number)
             & (whole | broken_fails(edition))
             & (named <= packets)
             & (!whole | (place <= packets))

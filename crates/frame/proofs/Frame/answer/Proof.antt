@@ -1,29 +1,20 @@
--- The answer by the kind and the two tests, in order.
-use Rattle.laws.specs.Kit.{_∙_, arith}
-use Rattle.frame.proofs.FrameKinds.{answer-broken, answer-under, answer-over, answer-pass}
+-- What is judged, where something is.
+use Rattle.laws.specs.Kit.{sym}
+use Rattle.frame.specs.Step.{answerOf}
 use borrow.Author.Needs.{needs}
 use Rattle.frame.proofs.Frame.answer.Statement.{statement}
 use Rattle.frame.proofs.Frame.answer.Tie as tie
 
-kind-requires : tie.Need-kind-requires
-kind-requires c κs = search needs
-
-broken-answer-requires : tie.Need-broken-answer-requires
-broken-answer-requires c κs = search needs
+judged-requires : tie.Need-judged-requires
+judged-requires c κs = search needs
 
 returns : tie.Need-returns
-returns c =
-    let told = c .before in
-    c .broken-answer .ensures ∙ answer-broken _ _ _ (told .before .kind .ensures) (told .if1 .taken)
+unfolding answerOf
+returns c = rw (c .before .if1 .taken) (c .judged .ensures)
 
 returns-2 : tie.Need-returns-2
-returns-2 c = answer-under _ _ _ (omega arith) (omega arith)
-
-returns-3 : tie.Need-returns-3
-returns-3 c = answer-over _ _ _ (omega arith) (omega arith) (omega arith)
-
-returns-4 : tie.Need-returns-4
-returns-4 c = answer-pass _ _ _ (omega arith) (omega arith) (omega arith)
+unfolding answerOf
+returns-2 c = rw (c .if1 .left)
 
 pub answer-spec : {M : Type 1} → statement M
-answer-spec = tie.close (tie.spec kind-requires broken-answer-requires returns returns-2 returns-3 returns-4)
+answer-spec = tie.close (tie.spec judged-requires returns returns-2)

@@ -1,9 +1,10 @@
--- The frame opened, what goes by taken off the wait, one packet more: the products fit by Opening.
+-- The frame opened, what goes by taken off the wait, one packet more: the products fit by Opening. Where the buffer is not judged the packet
+-- is counted, and nothing else.
 use Rattle.laws.specs.Kit.{ℕ, _*_, arith, ap, _∙_}
 use Rattle.grain.specs.Carry.{readsOn}
 use Rattle.frame.specs.declared.Frame.{Frame}
-use Rattle.frame.specs.Step.{countedOf, readsOf}
-use Rattle.frame.proofs.Opening.{opened-timed, reach-fits}
+use Rattle.frame.specs.Step.{countedOf, tickedOf, readsOf}
+use Rattle.frame.proofs.Opening.{opened-timed, reach-fits, push-judged, push-unjudged}
 use borrow.Author.Needs.{needs}
 use Rattle.frame.proofs.Frame.push.Statement.{statement}
 use Rattle.frame.proofs.Frame.push.Tie as tie
@@ -15,30 +16,42 @@ gone-by-requires : tie.Need-gone-by-requires
 gone-by-requires c κs = search needs
 
 mul-by : tie.Need-mul-by
-mul-by c = let o = c .before .before in
+mul-by c = let o = c .before .before .before in
     let s = o .before in
     record { fits = rw (c .before .gone-by .ensures) (omega (arith, reach-fits _ _ (o .opened .ensures) (s .pre .0) (s .pre .1) .goes)) }
 
 reads-on-requires : tie.Need-reads-on-requires
-reads-on-requires c κs = let o = c .before .before in
+reads-on-requires c κs = let o = c .before .before .before in
     let s = o .before in
     rw (c .before .gone-by .ensures) (reach-fits _ _ (o .opened .ensures) (s .pre .0) (s .pre .1))
 
 counted-requires : tie.Need-counted-requires
-counted-requires c κs = let o = c .before .before .before in
+counted-requires c κs = let o = c .before .before .before .before in
     let s = o .before in
     opened-timed _ _ (o .opened .ensures) (s .pre .0) (s .pre .1) .few
 
 returns : tie.Need-returns
 returns c = let r = c .before in
     let g = r .before .before in
-    let o = g .before in
+    let o = g .before .before in
     let a = o .before .args in
     c .counted .ensures
     ∙ ap (countedOf _ (a .stamp)) (r .reads-on .ensures
     ∙ ap (λ (x : ℕ). readsOn (o .opened .result .reads) (o .opened .result .wait) (a .plan .packets) (a .plan .reads .num)
     (x * a .plan .reads .den)) (g .gone-by .ensures))
     ∙ ap (λ (f : Frame). countedOf f (a .stamp) (readsOf (a .plan) f (a .gone))) (o .opened .ensures)
+    ∙ push-judged (a .plan) (a .self) (a .gone) (a .t) (a .stamp) (g .before .if1 .taken)
+
+ticked-requires : tie.Need-ticked-requires
+ticked-requires c κs = let o = c .before in
+    let s = o .before in
+    opened-timed _ _ (o .opened .ensures) (s .pre .0) (s .pre .1) .few
+
+returns-2 : tie.Need-returns-2
+returns-2 c = let o = c .before .before in
+    let a = o .before .args in
+    c .ticked .ensures ∙ ap (λ (f : Frame). tickedOf f (a .stamp)) (o .opened .ensures)
+    ∙ push-unjudged (a .plan) (a .self) (a .gone) (a .t) (a .stamp) (c .before .if1 .left)
 
 pub push-spec : {M : Type 1} → statement M
 push-spec =
@@ -49,4 +62,6 @@ push-spec =
     mul-by
     reads-on-requires
     counted-requires
-    returns)
+    returns
+    ticked-requires
+    returns-2)

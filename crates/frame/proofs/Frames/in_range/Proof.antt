@@ -1,7 +1,5 @@
--- Each range by its test; twice the period fits, and so does its product with den.
-use Rattle.laws.specs.Kit.{arith}
+-- Each range by its test; twice the period fits.
 use Rattle.laws.specs.Every.{after}
-use Rattle.frame.proofs.Opening.{bound-fits}
 use borrow.Author.Needs.{needs}
 use Rattle.frame.proofs.Frames.in_range.Statement.{statement}
 use Rattle.frame.proofs.Frames.in_range.Tie as tie
@@ -9,8 +7,8 @@ use Rattle.frame.proofs.Frames.in_range.Tie as tie
 mul-periods : tie.Need-mul-periods
 mul-periods c = search needs
 
-mul-longest : tie.Need-mul-longest
-mul-longest c = record { fits = omega (arith, bound-fits _ (c .before .before .pre)) }
+most-requires : tie.Need-most-requires
+most-requires c κs = search needs
 
 number-requires : tie.Need-number-requires
 number-requires c κs = search needs
@@ -27,8 +25,11 @@ broken-fails-requires c κs = search needs
 returns : tie.Need-returns
 unfolding after
 returns c =
-    let told = c .before in
-    rw (told .before .before .number .ensures, told .before .frame .ensures, told .place .ensures, c .broken-fails .ensures)
+    let place = c .before .before in
+    let number = place .before .before in
+    let flags = number .before .before .before .before .before .before .before .before .before .before in
+    let most = flags .before .before .before .before .before .before .before .before .before .before in
+    rw (most .most .ensures, number .number .ensures, place .before .frame .ensures, place .place .ensures, c .broken-fails .ensures)
 
 pub in-range-spec : {M : Type 1} → statement M
-in-range-spec = tie.close (tie.spec mul-periods mul-longest number-requires frame-requires place-requires broken-fails-requires returns)
+in-range-spec = tie.close (tie.spec mul-periods most-requires number-requires frame-requires place-requires broken-fails-requires returns)
