@@ -1,7 +1,8 @@
 -- What an accepted history is known to be, in the owner's words. The state that feeding it reaches is the declared one, and `as-declared`
 -- carries over to it what the crates below show of the declared bucket and the declared frames.
-use Rattle.laws.specs.Kit.{_≡_, refl, sym, ap, subst, _∙_, ⊎-elim, _↔_, true, false, List, [], _∷_, ℕ, suc, _+_, _-_, _*_, _≤_, _<_, arith, ℤ}
+use Rattle.laws.specs.Kit.{_≡_, refl, sym, ap, subst, _∙_, ⊎-elim, _↔_, Bool, true, false, List, [], _∷_, ℕ, suc, _+_, _-_, _*_, _≤_, _<_, arith, ℤ}
 use Rattle.laws.specs.Kit.{append-nil, pos, _-ℤ_, length, take, drop, drop-length, sets, le-ltb}
+use Rattle.laws.proofs.Choose.{false-true}
 use Rattle.laws.specs.Climb.{Climbs}
 use Rattle.laws.proofs.Climb.{climbs-le}
 use Rattle.laws.proofs.Lay.{sets-front}
@@ -10,7 +11,7 @@ use Rattle.grain.specs.declared.NextRead.{NextRead}
 use Rattle.grain.specs.Paper.{InstantBy}
 use Rattle.grain.specs.Carry.{nextAfter}
 use Rattle.limits.specs.Fraction.{Same}
-use Rattle.limits.specs.Paper.{senderClass, readSpacing}
+use Rattle.limits.specs.Paper.{senderClass, readSpacing, hasBuffer}
 use Rattle.limits.specs.Accepted.{Accepted}
 use Rattle.limits.proofs.Facts.{spacing}
 use Rattle.limits.specs.Exact.{CMaxIs, VrxFullIs, TroIs}
@@ -24,8 +25,8 @@ use Rattle.frame.specs.declared.Frames.{Frames}
 use Rattle.frame.specs.declared.Buffer.{Buffer}
 use Rattle.frame.specs.declared.Buffer.the-variants.{None, Pass, Broken}
 use Rattle.frame.specs.declared.BrokenFrame.{BrokenFrame}
-use Rattle.frame.specs.Paper.{begunAt, closesAt, kindAt, numberAt, since, InFrame, RowIs, RowBegan, BufferIs, Dry, SomeLate}
-use Rattle.frame.specs.Paper.{brokenFails, Fails, BrokenIs, AnswerIs, NextReadIs, nextReadOf}
+use Rattle.frame.specs.Paper.{begunAt, closesAt, kindAt, numberAt, since, InFrame, RowIs, RowBegan, DecidedIs, BufferIs, Dry, SomeLate}
+use Rattle.frame.specs.Paper.{isNone, brokenFails, Fails, BrokenIs, AnswerIs, NextReadIs, nextReadOf}
 use Rattle.frame.specs.Editions.{FirstBufferIs, FrameFails, NoneClosed, AllFit}
 use Rattle.frame.specs.Step.{rowWidth, rowOf, numbersOf}
 use Rattle.frame.specs.ByPlace.{markedTime, closedAt, framesAt, rowsAt}
@@ -33,7 +34,7 @@ use Rattle.frame.proofs.Stretches.{since-is}
 use Rattle.frame.proofs.Places.{began-after, began-later, began-next, frame-holds}
 use Rattle.frame.proofs.NextReads.{next-by-place, open-answers}
 use Rattle.frame.proofs.RowOfFrame.{row-is, offset-follows}
-use Rattle.frame.proofs.BufferOfFrames.{buffer-unique, buffer-is, dry-late, late-dry}
+use Rattle.frame.proofs.BufferOfFrames.{buffered-is, buffer-unique, buffer-is, dry-late, late-dry}
 use Rattle.frame.proofs.Editions as by-edition
 use Rattle.timing.specs.declared.State.{State}
 use Rattle.timing.specs.declared.Judged.the-variants.{Given}
@@ -203,40 +204,70 @@ module _ (h : AcceptedHistory) where
   reached-as : {A : Type 0} (b : Buffer) → BufferIs (plan h) (frames h) b ↔ A → (reached h .frames .buffer ≡ b) ↔ A
   reached-as b x = (λ e. x .0 (reached-is b .0 e), λ a. reached-is b .1 (x .1 a))
 
-  pub fails-are : (i : ℕ) → i < size h → Fails (AnswerIs (plan h) (frames h)) i ↔ FrameFails (plan h) (frames h) i
-  fails-are = by-edition.fails-are (plan h) (planned (h .stream) (h .set-up)) (frames h) in-order
-
   -- what the plan asks of its edition is what the stream's edition says
   asks : {n : ℕ} → h .stream .edition ≡ n → brokenFails (plan h .edition) ≡ brokenFails n
   unfolding rulesOf
   asks e = ap brokenFails e
 
-  pub first-edition : h .stream .edition ≡ 1 → (b : Buffer) → BufferIs (plan h) (frames h) b ↔ FirstBufferIs (plan h) (frames h) b
-  first-edition e = by-edition.first-edition (plan h) (frames h) (asks e ∙ by-edition.one-spares)
+  -- S12, V13: what the plan says of the buffer is what the stream's profile says
+  plan-buffered : {t : Bool} → hasBuffer (h .stream .profile) ≡ t → plan h .buffered ≡ t
+  unfolding rulesOf
+  plan-buffered e = e
 
-  pub first-reached : h .stream .edition ≡ 1 → FirstBufferIs (plan h) (frames h) (reached h .frames .buffer)
-  first-reached e = first-edition e (reached h .frames .buffer) .0 buffer-reached
+  -- V13: "Its buffer answer is always none"
+  pub none-reached : hasBuffer (h .stream .profile) ≡ false → reached h .frames .buffer ≡ None
+  none-reached e = buffer-reached .unjudged (plan-buffered e)
 
-  pub never-broken : h .stream .edition ≡ 1 → (b : BrokenFrame) → reached h .frames .buffer ≡ Broken b → ⊥
-  never-broken e b r = by-edition.never-broken (plan h) (frames h) (asks e ∙ by-edition.one-spares) b (reached-is (Broken b) .0 r)
+  -- where the stream has a buffer
+  module _ (b : hasBuffer (h .stream .profile) ≡ true) where
+    pub decided-reached : DecidedIs (plan h) (frames h) (reached h .frames .buffer)
+    decided-reached = buffer-reached .judged (plan-buffered b)
 
-  pub second-none : h .stream .edition ≡ 2 → (reached h .frames .buffer ≡ None) ↔ NoneClosed (plan h) (frames h)
-  second-none e = reached-as None (by-edition.second-none (plan h) (frames h) (asks e ∙ by-edition.two-fails))
+    -- the answer that the frames decide is the one reached
+    decided-as : {A : Type 0} (c : Buffer) → DecidedIs (plan h) (frames h) c ↔ A → (reached h .frames .buffer ≡ c) ↔ A
+    decided-as c x =
+        let is = buffered-is (plan h) (frames h) (plan-buffered b) c in
+        reached-as c (λ y. x .0 (is .0 y), λ a. is .1 (x .1 a))
 
-  pub second-pass : h .stream .edition ≡ 2 → (reached h .frames .buffer ≡ Pass) ↔ AllFit (plan h) (frames h)
-  second-pass e = reached-as Pass (by-edition.second-pass (plan h) (frames h) (asks e ∙ by-edition.two-fails))
+    pub fails-are : (i : ℕ) → i < size h → Fails (AnswerIs (plan h) (frames h)) i ↔ FrameFails (plan h) (frames h) i
+    fails-are = by-edition.fails-are (plan h) (planned (h .stream) (h .set-up)) (frames h) in-order (plan-buffered b)
 
-  pub broken-reached : (b : BrokenFrame) → (reached h .frames .buffer ≡ Broken b)
-      ↔ ((i : ℕ) × (i < size h) × BrokenIs (plan h) (frames h) i b × ((k : ℕ) → k < i → Fails (AnswerIs (plan h) (frames h)) k → ⊥))
-  broken-reached b = reached-as (Broken b) (by-edition.broken-is (plan h) (frames h) b)
+    pub first-edition : h .stream .edition ≡ 1 → (c : Buffer) → BufferIs (plan h) (frames h) c ↔ FirstBufferIs (plan h) (frames h) c
+    first-edition e c =
+        let is = buffered-is (plan h) (frames h) (plan-buffered b) c in
+        let first = by-edition.first-edition (plan h) (frames h) (asks e ∙ by-edition.one-spares) c in
+        (λ x. first .0 (is .0 x), λ x. is .1 (first .1 x))
 
-  pub dry-if-late : (i : ℕ) → i < size h → kindAt (plan h) (frames h) i ≡ 0
-      → Dry (plan h) (frames h) (since (frames h) i) ↔ SomeLate (plan h) (frames h) (since (frames h) i)
-  dry-if-late i b k =
-      let sound = planned (h .stream) (h .set-up) in (
-        dry-late (plan h) sound (frames h) in-order i b k,
-        λ w. late-dry (plan h) sound (frames h) in-order i b k (w .0) (w .1) (w .2),
-      )
+    pub first-reached : h .stream .edition ≡ 1 → FirstBufferIs (plan h) (frames h) (reached h .frames .buffer)
+    first-reached e = first-edition e (reached h .frames .buffer) .0 buffer-reached
+
+    pub second-none : h .stream .edition ≡ 2 → (reached h .frames .buffer ≡ None) ↔ NoneClosed (plan h) (frames h)
+    second-none e = decided-as None (by-edition.second-none (plan h) (frames h) (asks e ∙ by-edition.two-fails))
+
+    pub second-pass : h .stream .edition ≡ 2 → (reached h .frames .buffer ≡ Pass) ↔ AllFit (plan h) (frames h)
+    second-pass e = decided-as Pass (by-edition.second-pass (plan h) (frames h) (asks e ∙ by-edition.two-fails))
+
+    pub broken-reached : (c : BrokenFrame) → (reached h .frames .buffer ≡ Broken c)
+        ↔ ((i : ℕ) × (i < size h) × BrokenIs (plan h) (frames h) i c × ((k : ℕ) → k < i → Fails (AnswerIs (plan h) (frames h)) k → ⊥))
+    broken-reached c = decided-as (Broken c) (by-edition.broken-is (plan h) (frames h) c)
+
+    pub dry-if-late : (i : ℕ) → i < size h → kindAt (plan h) (frames h) i ≡ 0
+        → Dry (plan h) (frames h) (since (frames h) i) ↔ SomeLate (plan h) (frames h) (since (frames h) i)
+    dry-if-late i l k =
+        let sound = planned (h .stream) (h .set-up) in (
+          dry-late (plan h) sound (frames h) in-order (plan-buffered b) i l k,
+          λ w. late-dry (plan h) sound (frames h) in-order (plan-buffered b) i l k (w .0) (w .1) (w .2),
+        )
+
+  -- V12: by edition 1 the new case is never reached, whatever the profile
+  pub never-broken : h .stream .edition ≡ 1 → (c : BrokenFrame) → reached h .frames .buffer ≡ Broken c → ⊥
+  never-broken e c r = go (hasBuffer (h .stream .profile)) refl
+    where
+      go : (t : Bool) → hasBuffer (h .stream .profile) ≡ t → ⊥
+      go true b =
+          by-edition.never-broken (plan h) (frames h) (asks e ∙ by-edition.one-spares) c
+          (buffered-is (plan h) (frames h) (plan-buffered b) (Broken c) .0 (reached-is (Broken c) .0 r))
+      go false b = false-true (ap isNone (sym r ∙ none-reached b))
 
   -- ---- its reads
 
@@ -270,15 +301,15 @@ module _ (h : AcceptedHistory) where
         told-next i b ∙ ap (λ (j : ℕ). awaited (nextReadOf (plan h) (first i) (time j)) (plan h .reads .den)) (sym here),
       )
 
-  -- the state holds it
-  pub next-held : (i : ℕ) → size h ≡ suc i → frames h .marked i ≡ false → begunAt (frames h) i ≡ true
+  -- the state holds it, where it has a buffer
+  pub next-held : hasBuffer (h .stream .profile) ≡ true → (i : ℕ) → size h ≡ suc i → frames h .marked i ≡ false → begunAt (frames h) i ≡ true
       → nextOf (h .stream) (first i) (time i)
       ≡ awaited (nextAfter (plan h .packets) (reached h .frames .current .reads) (reached h .frames .current .wait)) (plan h .reads .den)
   unfolding stateAt
-  next-held i e unmarked begun =
+  next-held b i e unmarked begun =
       let inside : i < size h = omega arith in
       let sound = planned (h .stream) (h .set-up) in
-      let answers = open-answers (plan h) (frames h) (sound .apart) (omega (arith, sound .long)) in-order i inside unmarked begun in
+      let answers = open-answers (plan h) (frames h) (plan-buffered b) (sound .apart) (omega (arith, sound .long)) in-order i inside unmarked begun in
       let Tells : Frames → Type 0 = λ s. nextOf (h .stream) (first i) (time i)
       ≡ awaited (nextAfter (plan h .packets) (s .current .reads) (s .current .wait)) (plan h .reads .den) in
       as-declared (λ s. Tells (s .frames)) (subst (λ (k : ℕ). Tells (framesAt (plan h) (frames h) k)) (sym e)

@@ -1,12 +1,12 @@
 -- What an edition of the test plan can touch: the buffer answer, and nothing else of a state.
 use Rattle.frame.specs.declared.Buffer.the-variants.{None}
 use Rattle.timing.specs.declared.State.{State}
-use Rattle.timing.specs.Step.{ofParameters}
+use Rattle.timing.specs.Step.{ofProfile}
 
 -- V12: a state without its edition and its buffer answer: those of edition 1 before any frame stand instead
 abbrev pub besideBuffer : State → State
 besideBuffer s = record {
-  numbers = ofParameters (s .numbers .parameters);
+  numbers = ofProfile (s .numbers .profile) (s .numbers .parameters);
   past = s .past;
   rest = s .rest;
   bucket = s .bucket;

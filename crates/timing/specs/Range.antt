@@ -2,6 +2,7 @@
 -- type. `inRange`: refusal 9 is for a state where it is false.
 use Rattle.laws.specs.Kit.{Bool, List, [], _∷_, _++_, _≡_, _<_}
 use Rattle.laws.specs.Every.{below, same, after, every, Entry, entry, tests}
+use Rattle.limits.specs.Paper.{profileKind}
 use Rattle.packet.specs.Range as P
 use Rattle.bucket.specs.Range as B
 use Rattle.frame.specs.Range as F
@@ -10,7 +11,7 @@ use Rattle.timing.specs.Step.{setUpOf, rulesOf}
 
 module _ (s : State) where
   -- every number of a state, in the order of docs/STATE.md, with the bytes of its type and its range. The stream numbers are in range
-  -- exactly where set-up accepts them, which is one test for all eight.
+  -- exactly where set-up accepts them, which is one test for all eight; either profile may stand, by its kind.
   abbrev pub streamTable : List Entry
   streamTable =
       entry (s .numbers .parameters .rate) 1 (same (setUpOf (s .numbers)) 0 ∷ [])
@@ -21,6 +22,7 @@ module _ (s : State) where
       ∷ entry (s .numbers .parameters .maxudp) 2 []
       ∷ entry (s .numbers .parameters .tro) 4 []
       ∷ entry (s .numbers .edition) 4 []
+      ∷ entry (profileKind (s .numbers .profile)) 1 []
       ∷ []
 
   abbrev pub restTable : List Entry

@@ -1,9 +1,12 @@
 -- The measurement step by step: what follows from the stream numbers, one packet more, and the rows that it writes.
 use Rattle.laws.specs.Kit.{List, [], _∷_, _++_, ℕ, _+_, _*_, _/_, _%_, ℤ}
-use Rattle.laws.specs.Choose.{pick}
+use Rattle.laws.specs.Choose.{pick, orElse}
 use Rattle.laws.specs.Fold.{fold}
 use Rattle.grain.specs.Paper.{grains}
 use Rattle.limits.specs.Paper.{frameLength, senderClass, cMax, vrxFull, troGrains, readNum, readDen, setUpIn}
+use Rattle.limits.specs.Paper.{hasBuffer, profileOf, profileRefusal}
+use Rattle.limits.specs.declared.Profile.{Profile}
+use Rattle.limits.specs.declared.Profile.the-variants.{Video}
 use Rattle.limits.specs.declared.Parameters.{Parameters}
 use Rattle.packet.specs.declared.Packet.{Packet}
 use Rattle.packet.specs.Paper.{marked}
@@ -12,22 +15,35 @@ use Rattle.bucket.specs.Step as B
 use Rattle.frame.specs.declared.Row.{Row}
 use Rattle.frame.specs.Step as F
 use Rattle.timing.specs.declared.StreamNumbers.{StreamNumbers}
+use Rattle.timing.specs.declared.Stated.{Stated}
 use Rattle.timing.specs.declared.Rules.{Rules}
 use Rattle.timing.specs.declared.State.{State}
 
 -- ---- what follows from the stream numbers
 
--- S11: "the edition is chosen at set-up", beside the parameters
-abbrev pub inEdition : ℕ → Parameters → StreamNumbers
-inEdition edition p = record { parameters = p; edition = edition }
+-- S11, S12: "the edition is chosen at set-up", beside the parameters, and so is the profile
+abbrev pub streamWith : Profile → ℕ → Parameters → StreamNumbers
+streamWith profile edition p = record { parameters = p; edition = edition; profile = profile }
 
--- S11: "`vtiming` and the writer mean edition 1": the stream numbers of parameters, where set-up is told nothing else
+-- S11: "`vtiming` and the writer mean edition 1": the stream numbers of parameters, where set-up is told nothing else but a profile
+abbrev pub ofProfile : Profile → Parameters → StreamNumbers
+ofProfile profile p = streamWith profile 1 p
+
+-- and where it is told nothing else: video
 abbrev pub ofParameters : Parameters → StreamNumbers
-ofParameters p = inEdition 1 p
+ofParameters p = ofProfile Video p
 
--- N2: the refusals 1 to 8 of set-up, 0 where there is none
+-- N2: the refusals 1 to 8 of set-up, 0 where there is none. "Stream numbers are as in the base": no profile is asked
 abbrev pub setUpOf : StreamNumbers → ℕ
 setUpOf x = setUpIn (x .parameters) (x .edition)
+
+-- S12: the stream numbers that a caller states, whose profile is the one that its kind chooses
+abbrev pub statedOf : Stated → StreamNumbers
+statedOf t = streamWith (profileOf (t .kind)) (t .edition) (t .parameters)
+
+-- N1, N2, S12: 22 for a kind that chooses none, before 1 to 8
+unfoldable pub statedRefusal : Stated → ℕ
+statedRefusal t = orElse (profileRefusal (t .kind)) (setUpOf (statedOf t))
 
 abbrev pub frameOf : StreamNumbers → ℕ
 frameOf x = frameLength (x .parameters .rate)
@@ -41,6 +57,7 @@ rulesOf x = record {
     reads = record { num = readNum (x .parameters .schedule) (frameOf x); den = readDen (x .parameters .schedule) (x .parameters .n) };
     full = vrxFull (senderClass (x .parameters)) (x .parameters .maxudp) (frameOf x) (x .parameters .n);
     edition = x .edition;
+    buffered = hasBuffer (x .profile);
   };
   drains = record { num = 10 * frameOf x; den = 11 * x .parameters .n };
   limit = cMax (senderClass (x .parameters)) (x .parameters .schedule) (frameOf x) (x .parameters .n);

@@ -5,7 +5,7 @@
 ghost use Rattle.laws.specs.Kit.{_≡_, _-_, _≤_, length, T};
 ghost use Rattle.laws.specs.Lay.{Put};
 ghost use Rattle.grain.specs.Paper.{grains as grainsOf};
-ghost use Rattle.timing.specs.Step.{setUpOf, frameOf, rulesOf, freshOf, arriveOf, markOf, numbers};
+ghost use Rattle.timing.specs.Step.{setUpOf, statedOf, statedRefusal, frameOf, rulesOf, freshOf, arriveOf, markOf, numbers};
 ghost use Rattle.timing.specs.Range.{inRange};
 ghost use Rattle.frame.specs.Range.{Planned, FramesRowAsks};
 ghost use Rattle.packet.specs.Paper.{OneLength, packets};
@@ -21,6 +21,7 @@ use frame::Row;
 use grain::NextRead;
 use grain::Spacing;
 use limits::Parameters;
+use limits::Profile;
 use packet::Packet;
 use packet::Past;
 use packet::Scanned;
@@ -28,9 +29,17 @@ use packet::Scanned;
 // How many numbers sum up a measurement.
 pub const SUMMARY: usize = 9;
 
-// What a stream is set up with: its parameters, and the edition of the test plan that its buffer is judged by. A record file
+// What a stream is set up with: its parameters, the edition of the test plan that its buffer is judged by, and its profile. A record file
 // carries no edition: it stands beside the file's own.
 pub struct StreamNumbers {
+    pub parameters: Parameters,
+    pub edition: u32,
+    pub profile: Profile,
+}
+
+// The same as a caller states it who has no profile to give but a number, the kind of a parameter record.
+pub struct Stated {
+    pub kind: u8,
     pub parameters: Parameters,
     pub edition: u32,
 }
@@ -101,6 +110,30 @@ pub enum SetUp {
     Refused(u8),
 }
 
+impl Stated {
+    // 0, or the number by which it is refused: 22 for a kind that stands for no profile, then 1 to 8.
+    pub fn refusal(self) -> u8
+        ensures { λ r. ⌜ r ≡ statedRefusal self ⌝ }
+    {
+        let numbers = self.numbers();
+        let of_profile = limits::profile_refusal(self.kind);
+        let of_numbers = numbers.refusal();
+        laws::first_of(of_profile, of_numbers)
+    }
+
+    // What it states, where it is not refused.
+    pub fn numbers(self) -> StreamNumbers
+        ensures { λ r. ⌜ r ≡ statedOf self ⌝ }
+    {
+        let parameters = self.parameters;
+        StreamNumbers {
+            parameters,
+            edition: self.edition,
+            profile: limits::profile_of(self.kind),
+        }
+    }
+}
+
 impl StreamNumbers {
     // `grain` is the home of both numbers; a stream's numbers name them as document 01 does.
     pub const GRAINS_PER_NANOSECOND: u64 = grain::GRAINS_PER_NANOSECOND;
@@ -134,6 +167,7 @@ impl StreamNumbers {
     {
         let frame = self.frame_length();
         let p = self.parameters;
+        let profile = self.profile;
         let class = limits::class_of(p.class, p.schedule);
         let plan = Plan {
             period: frame,
@@ -145,6 +179,7 @@ impl StreamNumbers {
             },
             full: limits::vrx_full(class, p.maxudp, frame, p.n),
             edition: self.edition,
+            buffered: profile.has_buffer(),
         };
         Rules {
             plan,

@@ -9,8 +9,8 @@ use Rattle.timing.proofs.StreamNumbers.rules.Tie as tie
 frame-length-requires : tie.Need-frame-length-requires
 frame-length-requires c κs = search needs
 
-cast-t6 : tie.Need-cast-t6
-cast-t6 c = search needs
+cast-n : tie.Need-cast-t7
+cast-n c = search needs
 
 class-of-requires : tie.Need-class-of-requires
 class-of-requires c κs = search needs
@@ -27,14 +27,17 @@ read-den-requires c κs = search needs
 vrx-full-requires : tie.Need-vrx-full-requires
 vrx-full-requires c κs = search needs
 
-mul-t6 : tie.Need-mul-t6
-mul-t6 c = omega (arith, frame-most (c .before .before .before .before .before .before .before .before .args .self .parameters .rate))
+has-buffer-requires : tie.Need-has-buffer-requires
+has-buffer-requires c κs = search needs
 
-cast-t11 : tie.Need-cast-t11
-cast-t11 c = search needs
+mul-frame : tie.Need-mul-t7
+mul-frame c = omega (arith, frame-most (c .before .before .before .before .before .before .before .before .before .args .self .parameters .rate))
 
-mul-t7 : tie.Need-mul-t7
-mul-t7 c = search needs
+cast-drains : tie.Need-cast-t8
+cast-drains c = search needs
+
+mul-drains : tie.Need-mul-t12
+mul-drains c = search needs
 
 c-max-requires : tie.Need-c-max-requires
 c-max-requires c κs = search needs
@@ -49,13 +52,14 @@ rules-spec =
     (tie.spec
     frame-length-requires
     class-of-requires
-    cast-t6
+    cast-n
     tro-grains-requires
     read-num-requires
     read-den-requires
     vrx-full-requires
-    mul-t6
-    cast-t11
-    mul-t7
+    has-buffer-requires
+    mul-frame
+    cast-drains
+    mul-drains
     c-max-requires
     returns)
