@@ -123,19 +123,19 @@ rest-answers s j w h = go (headRead s) (head-says s)
     l : List ℕ
     l = drop headBytes s
 
-    stood : (version kind : ℕ) (x : Parameters) (c : Cursor) → Stood s version kind x c → Dec (setUpRefusal (resolved (heading version x)) ≡ 0)
+    stood : (version kind : ℕ) (x : Parameters) (c : Cursor) → Stood s version kind x c → Dec (setUpRefusal (resolved (heading version kind x)) ≡ 0)
         → Answered (readingOf s) (heard (head.Ready version kind x c) (λ at. answers j at (drop headBytes s)))
     stood version kind x c q (no n) =
         subst (λ (r : Reading). Answered r (heard (head.Ready version kind x c) (λ at. answers j at (drop headBytes s))))
-        (sym (reads-refused q (setUpRefusal (resolved (heading version x))) refl (omega arith))) (refl, refl)
+        (sym (reads-refused q (setUpRefusal (resolved (heading version kind x))) refl (omega arith))) (refl, refl)
     stood version kind x c q (yes z) =
         let size : length (drop headBytes s) + headBytes ≡ length s = omega (arith, length-drop headBytes s, q .nineteen) in
         let told = packets-told j nothing headBytes (drop headBytes s) (omega (arith, size)) (omega (arith, size)) in
         subst (λ (r : Reading). Answered r (heard (head.Ready version kind x c) (λ at. answers j at (drop headBytes s))))
-        (sym (reads-packets q z)) (rw (q .kind-is-1, q .next-19), rw (q .next-19) told)
+        (sym (reads-packets q z)) (rw (q .next-19), rw (q .next-19) told)
 
     go : (y : Head) → SaysHead s y → Answered (readingOf s) (heard y (λ at. answers j at (drop headBytes s)))
-    go (head.Ready version kind x c) q = stood version kind x c q (ℕ-discrete (setUpRefusal (resolved (heading version x))) 0)
+    go (head.Ready version kind x c) q = stood version kind x c q (ℕ-discrete (setUpRefusal (resolved (heading version kind x))) 0)
     go head.More q = absurd q
     go (head.Refused n o) q =
         subst (λ (r : Reading). Answered r (heard (head.Refused n o) (λ at. answers j at (drop headBytes s)))) (sym q) (refl, refl)

@@ -10,11 +10,11 @@ use Rattle.packet.specs.declared.Scanned.{Scanned}
 use Rattle.packet.specs.declared.Scanned.the-variants as scan
 use Rattle.packet.specs.Step.{nothing, nextOf, elapsedOf, refusalOf, numberOf, scanOf, scannedOf}
 use Rattle.limits.specs.declared.Parameters.{Parameters}
-use Rattle.limits.specs.Paper.{setUpRefusal, editionRefusal}
+use Rattle.limits.specs.Paper.{setUpRefusal, editionRefusal, isProfile, profileRefusal}
 use Rattle.limits.specs.Accepted.{KnownEdition}
 use Rattle.limits.proofs.Editions.{edition-fine, edition-known, edition-8, at-most-7}
 use Rattle.record.specs.declared.Written.{Written}
-use Rattle.record.specs.Paper.{versionKnown, versionOf, versionFits, bodyLength, kindOf, kindLength, Heading, heading, resolved}
+use Rattle.record.specs.Paper.{versionKnown, versionOf, versionFits, bodyLength, kindOf, kindLength, Heading, resolvedIn, resolved}
 use Rattle.record.specs.Paper.{parametersAt, packetAt, lone, inPlace, formatRefusal, parametersRefusal, packetRefusal}
 use Rattle.record.specs.Paper.{Ending, done, stopped, Packets, packetsBy, Reading, unread, read, readingOf, file, refused}
 use Rattle.record.specs.Paper.{endedFile, asFile, fileOf, besideEdition, fileIn}
@@ -107,7 +107,7 @@ reading-other s =
     pick-either Reads-other (versionFits s) (λ e.
     pick-either Reads-other (eqb (parametersRefusal (versionOf s) (drop 1 s)) 0)
     (λ e. packets-other _ nothing _ _)
-    (λ e. or-else _ _ (format-other true (drop 1 s)) (set-up-other (resolved (heading (versionOf s) (parametersAt (drop 1 s)))))))
+    (λ e. or-else _ _ (format-other true (drop 1 s)) (set-up-other (resolvedIn (versionOf s) (parametersAt (drop 1 s))))))
     (λ e z. omega arith)
 
 -- F13: a file by itself is never refused by 8
@@ -160,11 +160,12 @@ scanned-other ts ss ms =
 
 -- F13: "the writer mean[s] edition 1" and never gives 8
 pub never-written : (h : Heading) (ts ss ms : List ℕ) (room : ℕ) → Not-8 (writtenNumber (writtenOf h ts ss ms room))
-unfolding writtenOf headingRefusal versionRefusal
+unfolding writtenOf headingRefusal versionRefusal profileRefusal
 never-written h ts ss ms room =
     pick-either (λ (w : Written). Not-8 (writtenNumber w)) (eqb (headingRefusal h) 0)
     (λ e. go (scannedOf nothing false ts ss ms) (scanned-other ts ss ms))
-    (λ e. or-else _ _ (pick-either Not-8 (versionKnown (h .version)) (λ e z. omega arith) (λ e z. omega arith)) (set-up-other (resolved h)))
+    (λ e. or-else _ _ (pick-either Not-8 (versionKnown (h .version)) (λ e z. omega arith) (λ e z. omega arith))
+    (or-else _ _ (pick-either Not-8 (isProfile (h .kind)) (λ e z. omega arith) (λ e z. omega arith)) (set-up-other (resolved h))))
   where
     go : (a : Scanned) → Scans-other a → Not-8 (writtenNumber (scanning a (fileLength (length ts)) room))
     go (scan.Fine closed) x =

@@ -1,5 +1,5 @@
 -- What the fields of a packet's and of the parameters' record are, and both records to bytes and back. By the laws of any list of widths.
-use Rattle.laws.specs.Kit.{_≡_, sym, _∙_, List, [], _∷_, _++_, ℕ, _≤_, arith, length, drop}
+use Rattle.laws.specs.Kit.{_≡_, sym, _∙_, List, [], _∷_, _++_, ℕ, _≤_, _<_, arith, length, drop}
 use Rattle.endian.specs.declared.Order.the-variants.{Big}
 use Rattle.endian.specs.Number.{Bytes}
 use Rattle.endian.specs.Fields.{fields, Fit}
@@ -43,18 +43,19 @@ packet-back p rest f =
     let e-marker : packetAt l .marker ≡ p .marker = cc in
     record { body-14 = cc; kind-2 = cc; same = λ j. record { time = e-time j; stamp = e-stamp j; marker = e-marker j } }
 
-pub record ParametersBack (s : Parameters) (l : List ℕ) : Type 0 where
+pub record ParametersBack (kind : ℕ) (s : Parameters) (l : List ℕ) : Type 0 where
   pub body-16 : bodyLength l ≡ parametersLength
-  pub kind-1 : kindOf l ≡ 1
+  pub kind-is : kindOf l ≡ kind
   pub same : parametersAt l ≡ s
 
--- F3: parameters that are written are read back
-pub parameters-back : (s : Parameters) (rest : List ℕ) → ParametersHeld s → ParametersBack s (parameterRecord s ++ rest)
-parameters-back s rest h =
-    let l = parameterRecord s ++ rest in
-    let f : Fit parameterWidths (parameterFields s)
-    = (omega arith, (omega arith, (h .rate, (h .schedule, (h .class, (h .height, (h .n, (h .maxudp, (h .tro, tt))))))))) in
-    let e = sym (parameter-fields l) ∙ fields-back Big parameterWidths (parameterFields s) rest f in
+-- F3, F14: parameters that are written are read back, and so is the kind of their record
+pub parameters-back : (kind : ℕ) (s : Parameters) (rest : List ℕ) → kind < 256 → ParametersHeld s
+    → ParametersBack kind s (parameterRecord kind s ++ rest)
+parameters-back kind s rest k h =
+    let l = parameterRecord kind s ++ rest in
+    let f : Fit parameterWidths (parameterFields kind s)
+    = (omega arith, (k, (h .rate, (h .schedule, (h .class, (h .height, (h .n, (h .maxudp, (h .tro, tt))))))))) in
+    let e = sym (parameter-fields l) ∙ fields-back Big parameterWidths (parameterFields kind s) rest f in
     let e1 : parametersAt l .rate ≡ s .rate = cc in
     let e2 : parametersAt l .schedule ≡ s .schedule = cc in
     let e3 : parametersAt l .class ≡ s .class = cc in
@@ -64,7 +65,7 @@ parameters-back s rest h =
     let e7 : parametersAt l .tro ≡ s .tro = cc in
     record {
       body-16 = cc;
-      kind-1 = cc;
+      kind-is = cc;
       same = λ j. record { rate = e1 j; schedule = e2 j; class = e3 j; height = e4 j; n = e5 j; maxudp = e6 j; tro = e7 j };
     }
 
@@ -75,7 +76,7 @@ pub packet-again : (l : List ℕ) → Bytes l → packetBytes ≤ length l → b
 packet-again l b h e k =
     rw (packet-fields l, e, k) at (bytes-again Big packetWidths l b h)
 
-pub parameters-again : (l : List ℕ) → Bytes l → parametersBytes ≤ length l → bodyLength l ≡ parametersLength → kindOf l ≡ 1
-    → parameterRecord (parametersAt l) ++ drop parametersBytes l ≡ l
-parameters-again l b h e k =
-    rw (parameter-fields l, e, k) at (bytes-again Big parameterWidths l b h)
+pub parameters-again : (l : List ℕ) → Bytes l → parametersBytes ≤ length l → bodyLength l ≡ parametersLength
+    → parameterRecord (kindOf l) (parametersAt l) ++ drop parametersBytes l ≡ l
+parameters-again l b h e =
+    rw (parameter-fields l, e) at (bytes-again Big parameterWidths l b h)

@@ -8,20 +8,21 @@ use Rattle.limits.proofs.Editions.{in-first, in-edition, in-fine, edition-fine}
 use Rattle.packet.specs.Step.{nothing, noPackets}
 use Rattle.packet.proofs.Declared.{tally-declared}
 use Rattle.record.specs.declared.Cursor.{Cursor}
+use Rattle.record.specs.declared.FileNumbers.{FileNumbers}
 use Rattle.record.specs.declared.Head.{Head}
 use Rattle.record.specs.declared.Head.the-variants.{Ready, More, Refused}
 use Rattle.record.specs.declared.Checked.the-variants as answer
 use Rattle.record.specs.Paper.{headBytes, Heading, heading, resolved, Ending, done, stopped, Packets, packetsIn, endedFile}
 use Rattle.record.specs.Step.{headRead}
-use Rattle.record.specs.Walk.{asChecked, checkedOf, finishBy, finish, refusedBy}
+use Rattle.record.specs.Walk.{numbersOf, asChecked, checkedOf, finishBy, finish, refusedBy}
 use Rattle.record.proofs.Head.{the-type}
 use Rattle.record.proofs.Saying.{Stood, SaysHead, head-says, reads-refused, reads-packets}
 
 pub finish-checked : (h : Heading) (r : Packets)
-    → finish (resolved h) noPackets r ≡ asChecked (endedFile h (r .accepted) (r .ending))
+    → finish (numbersOf h) noPackets r ≡ asChecked (endedFile h (r .accepted) (r .ending))
 finish-checked h r = go (r .ending)
   where
-    go : (e : Ending) → finishBy (resolved h) noPackets (r .accepted) e ≡ asChecked (endedFile h (r .accepted) e)
+    go : (e : Ending) → finishBy (numbersOf h) noPackets (r .accepted) e ≡ asChecked (endedFile h (r .accepted) e)
     go done = rw (tally-declared (r .accepted))
     go (stopped n o) = refl
 
@@ -47,18 +48,25 @@ module _ (edition : ℕ) (s : List ℕ) where
       here : Stood s version kind parameters c
       here = subst (SaysHead s) (sym r ∙ e) (head-says s)
 
-      -- the parameters that it sets up with
-      module _ {numbers : Parameters} (q : numbers ≡ resolved (heading version parameters)) where
+      -- what it sets up with
+      module _ {set : FileNumbers} (q : set ≡ numbersOf (heading version kind parameters)) where
+        abbrev numbers : Parameters
+        numbers = set .parameters
+
+        -- its parameters are refused as those of the file are
+        same-refusal : setUpRefusal (resolved (heading version kind parameters)) ≡ setUpRefusal numbers
+        same-refusal = sym (ap (λ (x : FileNumbers). setUpRefusal (x .parameters)) q)
+
         -- 1 to 7 by the file itself, 8 by what stands beside it
         own-refused : 0 < setUpRefusal numbers → answer.Refused (setUpIn numbers edition) 1 ≡ checkedOf edition s
         unfolding checkedOf
         own-refused p =
-            rw (in-first numbers edition p, reads-refused here (setUpRefusal numbers) (sym (ap setUpRefusal q)) p)
+            rw (in-first numbers edition p, reads-refused here (setUpRefusal numbers) same-refusal p)
 
         edition-refused : setUpRefusal numbers ≡ 0 → 0 < editionRefusal edition → answer.Refused (setUpIn numbers edition) 1 ≡ checkedOf edition s
         unfolding checkedOf
         edition-refused f p =
-            rw (in-edition numbers edition f, reads-packets here (sym (ap setUpRefusal q) ∙ f), ne-eqb (editionRefusal edition) 0 (λ z. omega arith))
+            rw (in-edition numbers edition f, reads-packets here (same-refusal ∙ f), ne-eqb (editionRefusal edition) 0 (λ z. omega arith))
 
         pub opens-refused : (n : ℕ) → setUpIn numbers edition ≡ n → 0 < n → answer.Refused n 1 ≡ checkedOf edition s
         opens-refused n f p = rw (sym f) (go (ℕ-discrete (setUpRefusal numbers) 0))
@@ -68,9 +76,10 @@ module _ (edition : ℕ) (s : List ℕ) where
             go (no z) = own-refused (omega arith)
 
         pub opens-fine : setUpIn numbers edition ≡ 0
-            → finish numbers noPackets (packetsIn nothing (c .at) (drop (c .at) s)) ≡ checkedOf edition s
+            → finish set noPackets (packetsIn nothing (c .at) (drop (c .at) s)) ≡ checkedOf edition s
         unfolding checkedOf
         opens-fine f =
             let fine = in-fine numbers edition f in
-            rw (reads-packets here (sym (ap setUpRefusal q) ∙ fine .0), edition-fine edition (fine .1), here .next-19, q)
-            (finish-checked (heading version parameters) (packetsIn nothing headBytes (drop headBytes s)))
+            rw (reads-packets here (same-refusal ∙ fine .0), edition-fine edition (fine .1), here .next-19)
+            (ap (λ (x : FileNumbers). finish x noPackets (packetsIn nothing headBytes (drop headBytes s))) q
+            ∙ finish-checked (heading version kind parameters) (packetsIn nothing headBytes (drop headBytes s)))

@@ -16,7 +16,7 @@ use Rattle.packet.specs.Quick.{startOf, takesOf, runsOf, ranOf, admitsOf, close
 use Rattle.packet.proofs.Turn.{scan-goes, ready-accepted, fine-ready}
 use Rattle.packet.proofs.Declared.{tally-declared, scan-declared, fine-count}
 use Rattle.packet.proofs.Latest.{run-goes, run-scans}
-use Rattle.limits.specs.declared.Parameters.{Parameters}
+use Rattle.record.specs.declared.FileNumbers.{FileNumbers}
 use Rattle.record.specs.declared.Checked.the-variants as answer
 use Rattle.record.specs.Paper.{packetBytes, packetAt, formatRefusal, done, more, packetsIn}
 use Rattle.record.specs.Step.{standsIn}
@@ -112,7 +112,7 @@ pieces-read (suc k) r z l past begun closed at n e f s =
     (pieces-read k (runsOf r q) z rest (nextOf past (q .time)) (begun || marked q) (closed + closes begun q) (at + packetBytes) n (p .then)
     (length-drop packetBytes l ∙ omega arith) (sym on ∙ s))
 
-pub quick-finish : (numbers : Parameters) (at : ℕ) (l : List ℕ) (k : ℕ) {z : Run} → 0 < k → length l ≡ packetBytes * k
+pub quick-finish : (numbers : FileNumbers) (at : ℕ) (l : List ℕ) (k : ℕ) {z : Run} → 0 < k → length l ≡ packetBytes * k
     → ranIn (startOf nothing false) k l ≡ Through z → admitsOf nothing k (packetAt l .time) (z .last) ≡ true
     → answer.Fine numbers k (closedBy z) ≡ finish numbers noPackets (packetsIn nothing at l)
 unfolding pieces

@@ -16,7 +16,7 @@ use Rattle.record.specs.declared.Written.the-variants.{Done}
 use Rattle.record.specs.Write.{fileLength, headingRefusal, WriteGives}
 use Rattle.limits.specs.Paper.{setUpRefusal}
 use Rattle.record.specs.Paper.{parametersBytes, packetBytes, headBytes}
-use Rattle.record.specs.Paper.{versionOf, versionFits, parametersAt, packetAt, Heading, resolved, formatRefusal, parametersRefusal}
+use Rattle.record.specs.Paper.{versionOf, versionFits, kindOf, parametersAt, packetAt, Heading, resolved, formatRefusal, parametersRefusal}
 use Rattle.record.specs.Paper.{packetRefusal}
 use Rattle.record.specs.Paper.{Ending, done, stopped, Packets, packetsIn, file, refused, endedFile, asFile, fileOf}
 use Rattle.record.specs.Layout.{headOf, recordsOf, bytesIn}
@@ -117,13 +117,15 @@ file-holds s h ps e = go (versionFits s) refl (ℕ-discrete (parametersRefusal (
         let e-heading : headingOf s ≡ h = cc in
         let e-packets : r .accepted ≡ ps = cc in
         let scans = packets-scan (length (drop headBytes s)) nothing false 0 headBytes (drop headBytes s) (omega arith) q in
-        let fine = neither (formatRefusal true (drop 1 s)) (setUpRefusal (resolved (headingOf s))) z .1 in
+        let both = neither (formatRefusal true (drop 1 s)) (setUpRefusal (resolved (headingOf s))) z in
+        let kind = parameters-here (drop 1 s) (both .0) .kind-holds in
+        let fine = both .1 in
         record {
           version-fits = v;
           parameters-fine = z;
           heading-is = e-heading;
           set-up = sym (ap (λ (x : Heading). setUpRefusal (resolved x)) e-heading) ∙ fine;
-          writable = sym (ap headingRefusal e-heading) ∙ sym (heading-set-up (versionOf s) (parametersAt (drop 1 s)) v) ∙ fine;
+          writable = sym (ap headingRefusal e-heading) ∙ sym (heading-set-up (versionOf s) (kindOf (drop 1 s)) (parametersAt (drop 1 s)) v kind) ∙ fine;
           all-read = λ j. record { accepted = e-packets j; ending = q j };
           closed = scans .0;
           scan-fine = sym (ap (scanOf nothing false 0) e-packets) ∙ scans .1;
@@ -141,7 +143,7 @@ module _ (s : List ℕ) (b : Bytes s) where
   head-again e =
       let l = drop 1 s in
       let here = parameters-here l (neither _ _ e .0) in
-      let again = parameters-again l (bytes-drop 1 s b) (here .eighteen) (here .body-16) (here .kind-is-1) in
+      let again = parameters-again l (bytes-drop 1 s b) (here .eighteen) (here .body-16) in
       let size = length-drop 1 s in
       rw (← drop-drop parametersBytes 1 s, again) (version-again s (omega (arith, here .eighteen)))
 

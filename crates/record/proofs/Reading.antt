@@ -6,10 +6,10 @@ use Rattle.laws.proofs.Choose.{neither}
 use Rattle.packet.specs.declared.Past.{Past}
 use Rattle.packet.specs.Step.{nothing, nextOf}
 use Rattle.record.specs.Paper.{parametersLength, packetLength, parametersBytes, packetBytes, headBytes}
-use Rattle.record.specs.Paper.{versionOf, versionFits, bodyLength, kindOf, parametersAt, packetAt, Heading, heading}
+use Rattle.record.specs.Paper.{versionOf, versionFits, bodyLength, kindOf, isParameters, parametersAt, packetAt, Heading, heading}
 use Rattle.record.specs.Paper.{formatRefusal, parametersRefusal, packetRefusal, unread, read, readingOf}
 use Rattle.record.specs.Paper.{done, stopped, none, more, packetsBy, packetsIn}
-use Rattle.record.proofs.Format.{formed, kind-1, packet-kind, length-14, length-16}
+use Rattle.record.proofs.Format.{formed, packet-kind, length-14, length-16}
 
 -- a record that the format accepts after the parameters is a packet's, of 16 bytes
 pub record PacketHere (l : List ℕ) : Type 0 where
@@ -27,14 +27,14 @@ packet-here l e =
 -- and the first record that the format accepts is the parameters', of 18 bytes
 pub record ParametersHere (l : List ℕ) : Type 0 where
   pub body-16 : bodyLength l ≡ parametersLength
-  pub kind-is-1 : kindOf l ≡ 1
+  pub kind-holds : isParameters (kindOf l) ≡ true
   pub eighteen : parametersBytes ≤ length l
 
 pub parameters-here : (l : List ℕ) → formatRefusal true l ≡ 0 → ParametersHere l
 parameters-here l e =
     let f = formed true l e in
     let b : bodyLength l ≡ parametersLength = f .length-fits ∙ length-16 (kindOf l) (f .in-place) in
-    record { body-16 = b; kind-is-1 = kind-1 (kindOf l) (f .in-place); eighteen = omega (arith, f .all-there) }
+    record { body-16 = b; kind-holds = f .in-place; eighteen = omega (arith, f .all-there) }
 
 module _ (past : Past) (at : ℕ) (l : List ℕ) where
   by-end : (k : ℕ) → length l ≡ 0 → packetsBy k past at l ≡ none done
@@ -110,7 +110,7 @@ module _ (past : Past) (at : ℕ) (l : List ℕ) where
 
 -- what it tells before its packets
 abbrev pub headingOf : List ℕ → Heading
-headingOf s = heading (versionOf s) (parametersAt (drop 1 s))
+headingOf s = heading (versionOf s) (kindOf (drop 1 s)) (parametersAt (drop 1 s))
 
 module _ (s : List ℕ) where
   pub reading-20 : versionFits s ≡ false → readingOf s ≡ unread 20 0

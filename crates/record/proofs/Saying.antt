@@ -57,10 +57,10 @@ next-says at l = go (front l) (ℕ-discrete (length l) 0)
 
 -- ---- the head
 
--- a version that is known, and parameters that the format accepts, of kind 1
+-- a version that is known, and parameters that the format accepts, of the kind that stands there
 pub record Stood (s : List ℕ) (version kind : ℕ) (parameters : Parameters) (c : Cursor) : Type 0 where
   pub version-is : version ≡ versionOf s
-  pub kind-is-1 : kind ≡ 1
+  pub kind-is : kind ≡ kindOf (drop 1 s)
   pub next-19 : c ≡ cursor headBytes
   pub nineteen : headBytes ≤ length s
   pub version-fits : versionFits s ≡ true
@@ -82,7 +82,7 @@ module _ (b : ℕ) (l : List ℕ) (v : versionKnown b ≡ true) where
       let here = parameters-here l f in
       record {
         version-is = refl;
-        kind-is-1 = here .kind-is-1;
+        kind-is = refl;
         next-19 = refl;
         nineteen = omega (arith, here .eighteen);
         version-fits = v;
@@ -125,17 +125,17 @@ head-says (b ∷ l) = subst (SaysHead (b ∷ l)) (sym (head-cons b l true)) (go 
 -- and what a file with such a head reads as: set-up refuses it, or its packets follow
 module _ {s : List ℕ} {version kind : ℕ} {parameters : Parameters} {c : Cursor} (h : Stood s version kind parameters c) where
   -- what it tells before its packets
-  heading-is : headingOf s ≡ heading version parameters
-  heading-is = rw (h .version-is, h .parameters-are)
+  heading-is : headingOf s ≡ heading version kind parameters
+  heading-is = rw (h .version-is, h .kind-is, h .parameters-are)
 
-  set-up-is : parametersRefusal (versionOf s) (drop 1 s) ≡ setUpRefusal (resolved (heading version parameters))
+  set-up-is : parametersRefusal (versionOf s) (drop 1 s) ≡ setUpRefusal (resolved (heading version kind parameters))
   set-up-is = second _ _ (h .format-fits) ∙ ap (λ (x : Heading). setUpRefusal (resolved x)) heading-is
 
-  pub reads-refused : (n : ℕ) → setUpRefusal (resolved (heading version parameters)) ≡ n → 0 < n → readingOf s ≡ unread n 1
+  pub reads-refused : (n : ℕ) → setUpRefusal (resolved (heading version kind parameters)) ≡ n → 0 < n → readingOf s ≡ unread n 1
   reads-refused n e p = reading-stop s n (h .version-fits) (set-up-is ∙ e) p
 
-  pub reads-packets : setUpRefusal (resolved (heading version parameters)) ≡ 0
-      → readingOf s ≡ read (heading version parameters) (packetsIn nothing headBytes (drop headBytes s))
+  pub reads-packets : setUpRefusal (resolved (heading version kind parameters)) ≡ 0
+      → readingOf s ≡ read (heading version kind parameters) (packetsIn nothing headBytes (drop headBytes s))
   reads-packets e =
       reading-go s (h .version-fits) (set-up-is ∙ e)
       ∙ ap (λ (x : Heading). read x (packetsIn nothing headBytes (drop headBytes s))) heading-is

@@ -27,12 +27,12 @@ pub packet-stored : (t stamp marker : ℕ) (d : List ℕ) (at : ℕ)
 unfolding fieldBytes
 packet-stored t stamp marker d at = sym (simp (sets-join, length-bytes, one-stored, length-stored packetLength (lit< tt), add-assoc))
 
-pub head-stored : (version : ℕ) (s : Parameters) (d : List ℕ)
-    → sets (sets (sets (sets (set (set (set (set (set (set (set d 0 version) 1 0) 2 parametersLength) 3 1) 4 (s .rate)) 5 (s .schedule))
+pub head-stored : (version kind : ℕ) (s : Parameters) (d : List ℕ)
+    → sets (sets (sets (sets (set (set (set (set (set (set (set d 0 version) 1 0) 2 parametersLength) 3 kind) 4 (s .rate)) 5 (s .schedule))
     6 (s .class)) 7 (bytesOf 2 (s .height))) 9 (bytesOf 4 (s .n))) 13 (bytesOf 2 (s .maxudp))) 15 (bytesOf 4 (s .tro))
-    ≡ sets d 0 (headOf (heading version s))
+    ≡ sets d 0 (headOf (heading version kind s))
 unfolding fieldBytes
-head-stored version s d = sym (simp (sets-join, length-bytes, one-stored, length-stored parametersLength (lit< tt)))
+head-stored version kind s d = sym (simp (sets-join, length-bytes, one-stored, length-stored parametersLength (lit< tt)))
 
 -- the packets' records, one more at a time
 

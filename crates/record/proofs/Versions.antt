@@ -8,12 +8,13 @@ use Rattle.limits.specs.declared.Parameters.{Parameters}
 use Rattle.limits.specs.Paper.{classOf, setUpRefusal}
 use Rattle.limits.specs.Steps.{ParametersHeld}
 use Rattle.packet.specs.Step.{nothing}
-use Rattle.record.specs.Paper.{parametersLength, parametersBytes, headBytes, versionKnown, Heading, heading, firstClass, classIn, resolved}
+use Rattle.record.specs.Paper.{parametersLength, parametersBytes, headBytes, versionKnown, Heading, heading, firstClass, classIn, resolvedIn}
+use Rattle.record.specs.Paper.{isParameters, resolved}
 use Rattle.record.specs.Paper.{formatRefusal, parametersRefusal, Packets, packetsIn, Reading, unread, read, readingOf, refused}
 use Rattle.record.specs.Paper.{asFile, fileOf}
 use Rattle.record.specs.Layout.{parameterRecord, headOf}
 use Rattle.record.specs.Step.{Whole}
-use Rattle.record.proofs.Format.{lone-23, parameters-1, length-16, there}
+use Rattle.record.proofs.Format.{lone-23, kind-small, length-16, there}
 use Rattle.record.proofs.Reading.{reading-20, reading-stop, reading-go}
 use Rattle.record.proofs.Writing.{length-head}
 use Rattle.record.proofs.Fields.{ParametersBack, parameters-back}
@@ -27,57 +28,58 @@ first-classes zero schedule = refl
 first-classes (suc class) schedule = refl
 
 -- F11: of version 2, the numbers as they are
-pub second-kept : (p : Parameters) → resolved (heading 2 p) ≡ p
+pub second-kept : (kind : ℕ) (p : Parameters) → resolved (heading 2 kind p) ≡ p
 unfolding classIn
-second-kept p = refl
+second-kept kind p = refl
 
 -- ---- a head that was written, and any bytes behind it
 
--- what its fields always hold, and a version that is known
-abbrev pub Held : Heading → Type 0
-Held h = ParametersHeld (h .parameters) × (versionKnown (h .version) ≡ true)
+-- what its fields always hold, a version that is known and a kind that holds parameters
+pub record Held (h : Heading) : Type 0 where
+  pub fields : ParametersHeld (h .parameters)
+  pub known : versionKnown (h .version) ≡ true
+  pub kind : isParameters (h .kind) ≡ true
 
 -- what it reads as: set-up refuses it, or the packets follow
 abbrev pub headed : Heading → List ℕ → Reading
 headed h l =
     pick (eqb (setUpRefusal (resolved h)) 0) (read h (packetsIn nothing headBytes l)) (unread (setUpRefusal (resolved h)) 1)
 
-pub reading-headed : (h : Heading) (l : List ℕ) → ParametersHeld (h .parameters) → versionKnown (h .version) ≡ true
-    → readingOf (headOf h ++ l) ≡ headed h l
-reading-headed h rest held known = go (ℕ-discrete (setUpRefusal (resolved h)) 0)
+pub reading-headed : (h : Heading) (l : List ℕ) → Held h → readingOf (headOf h ++ l) ≡ headed h l
+reading-headed h rest held = go (ℕ-discrete (setUpRefusal (resolved h)) 0)
   where
     x : Parameters
     x = h .parameters
 
     l : List ℕ
-    l = parameterRecord x ++ rest
+    l = parameterRecord (h .kind) x ++ rest
 
-    back : ParametersBack x l
-    back = parameters-back x rest held
+    back : ParametersBack (h .kind) x l
+    back = parameters-back (h .kind) x rest (kind-small (h .kind) (held .kind)) (held .fields)
 
-    long : length (parameterRecord x) ≡ parametersBytes
+    long : length (parameterRecord (h .kind) x) ≡ parametersBytes
     long = omega (arith, length-head h)
 
     format : formatRefusal true l ≡ 0
     format =
-        let size : length l ≡ parametersBytes + length rest = length-append (parameterRecord x) rest ∙ rw long in
-        let here : Whole parametersLength 1 l = record {
+        let size : length l ≡ parametersBytes + length rest = length-append (parameterRecord (h .kind) x) rest ∙ rw long in
+        let here : Whole parametersLength (h .kind) l = record {
           length-read = sym (back .body-16);
-          kind-read = sym (back .kind-1);
+          kind-read = sym (back .kind-is);
           some-body = omega arith;
           all-there = omega arith;
         } in
-        there true l here ∙ rw (length-16 1 parameters-1, parameters-1)
+        there true l here ∙ rw (length-16 (h .kind) (held .kind), held .kind)
 
     set-up : parametersRefusal (h .version) l ≡ setUpRefusal (resolved h)
-    set-up = second _ _ format ∙ ap (λ (q : Parameters). setUpRefusal (resolved (heading (h .version) q))) (back .same)
+    set-up = second _ _ format ∙ ap (λ (q : Parameters). setUpRefusal (resolvedIn (h .version) q)) (back .same)
 
     go : Dec (setUpRefusal (resolved h) ≡ 0) → readingOf (headOf h ++ rest) ≡ headed h rest
     go (yes e) =
-        reading-go (h .version ∷ l) known (set-up ∙ e)
-        ∙ rw (back .same, drop-at (parameterRecord x) rest parametersBytes long, eq-eqb (setUpRefusal (resolved h)) 0 e)
+        reading-go (h .version ∷ l) (held .known) (set-up ∙ e)
+        ∙ rw (back .same, back .kind-is, drop-at (parameterRecord (h .kind) x) rest parametersBytes long, eq-eqb (setUpRefusal (resolved h)) 0 e)
     go (no n) =
-        reading-stop (h .version ∷ l) (setUpRefusal (resolved h)) known set-up (omega arith)
+        reading-stop (h .version ∷ l) (setUpRefusal (resolved h)) (held .known) set-up (omega arith)
         ∙ rw (ne-eqb (setUpRefusal (resolved h)) 0 n)
 
 -- ---- two files that set up alike, with the same bytes behind their heads
@@ -103,18 +105,19 @@ module _ (h k : Heading) (e : resolved h ≡ resolved k) where
   pub read-alike : {A : Type 0} (f : Reading → A) → Untold f → (l : List ℕ) → Held h → Held k
       → f (readingOf (headOf h ++ l)) ≡ f (readingOf (headOf k ++ l))
   read-alike f same l a b =
-      ap f (reading-headed h l (a .0) (a .1)) ∙ headed-alike f same l ∙ sym (ap f (reading-headed k l (b .0) (b .1)))
+      ap f (reading-headed h l a) ∙ headed-alike f same l ∙ sym (ap f (reading-headed k l b))
 
 -- a file of version 1, and that of version 2 with the class that it sets up with
 
-pub first-held : (p : Parameters) → ParametersHeld p → Held (heading 1 p)
+pub first-held : (kind : ℕ) (p : Parameters) → isParameters kind ≡ true → ParametersHeld p → Held (heading 1 kind p)
 unfolding versionKnown
-first-held p h = (h, refl)
+first-held kind p k h = record { fields = h; known = refl; kind = k }
 
-pub second-held : (p : Parameters) → ParametersHeld p → Held (heading 2 (resolved (heading 1 p)))
+pub second-held : (kind : ℕ) (p : Parameters) → isParameters kind ≡ true → ParametersHeld p
+    → Held (heading 2 kind (resolved (heading 1 kind p)))
 unfolding versionKnown classIn
-second-held p h = (
-  record {
+second-held kind p k h = record {
+  fields = record {
     rate = h .rate;
     schedule = h .schedule;
     class = go (p .class) (h .class);
@@ -122,9 +125,10 @@ second-held p h = (
     n = h .n;
     maxudp = h .maxudp;
     tro = h .tro;
-  },
-  refl,
-)
+  };
+  known = refl;
+  kind = k;
+}
   where
     go : (class : ℕ) → class < 256 → firstClass class < 256
     go zero h = omega arith

@@ -9,7 +9,7 @@ use Rattle.laws.proofs.Choose.{second, before}
 use Rattle.packet.specs.declared.Packet as packet
 use Rattle.packet.specs.declared.Tally.{Tally}
 use Rattle.packet.specs.Step.{numberOf, nextOf, tallied}
-use Rattle.limits.specs.declared.Parameters.{Parameters}
+use Rattle.record.specs.declared.FileNumbers.{FileNumbers}
 use Rattle.record.specs.declared.Cursor.{Cursor}
 use Rattle.record.specs.declared.Next.{Next}
 use Rattle.record.proofs.Next.{the-type}
@@ -22,7 +22,7 @@ use Rattle.record.proofs.Saying.{Says, next-says}
 use Rattle.record.proofs.Reading.{packet-here, packets-end, packets-stop, packets-go}
 
 -- an answer that is no packet ends the walk
-pub stops : (numbers : Parameters) (y : Tally) (at : ℕ) (l : List ℕ) (r : Next) → OneOf (1 ∷ 2 ∷ 3 ∷ []) (tagOf the-type r)
+pub stops : (numbers : FileNumbers) (y : Tally) (at : ℕ) (l : List ℕ) (r : Next) → OneOf (1 ∷ 2 ∷ 3 ∷ []) (tagOf the-type r)
     → nextRead at l ≡ r → finish numbers y (packetsIn (y .past) at l) ≡ closing r numbers y
 unfolding closing fold
 stops numbers y at l r k e = go r k (subst (Says at l) e (next-says at l))
@@ -34,7 +34,7 @@ stops numbers y at l r k e = go r k (subst (Says at l) e (next-says at l))
     go More k s = absurd s
     go (Refused n o size) k s = rw (packets-stop (y .past) at l n (s .0) (before _ _ (omega arith) ∙ s .1) (s .2), s .3)
 
-finish-more : (numbers : Parameters) (y : Tally) (p : packet.Packet) (r : Packets) → finish numbers y (more p r) ≡ finish numbers (tallied y p) r
+finish-more : (numbers : FileNumbers) (y : Tally) (p : packet.Packet) (r : Packets) → finish numbers y (more p r) ≡ finish numbers (tallied y p) r
 unfolding fold
 finish-more numbers y p r = go (r .ending)
   where
@@ -63,7 +63,7 @@ module _ (s : List ℕ) (at : ℕ) (fits : length s < 2 ^ 64) {p : packet.Packet
   rest : drop packetBytes (drop at s) ≡ drop (next .at) s
   rest = drop-drop packetBytes at s ∙ rw next-at
 
-  module _ (numbers : Parameters) (y : Tally) where
+  module _ (numbers : FileNumbers) (y : Tally) where
     pub goes : numberOf (y .past) p ≡ 0
         → finish numbers y (packetsIn (y .past) at (drop at s))
         ≡ finish numbers (tallied y p) (packetsIn (tallied y p .past) (next .at) (drop (next .at) s))
@@ -85,7 +85,7 @@ module _ (s : List ℕ) (at : ℕ) (fits : length s < 2 ^ 64) {p : packet.Packet
         (second _ _ (here .0) ∙ ap (numberOf (y .past)) the-packet ∙ f) some)
 
 -- an answer at which reading stops
-pub closing-fine : (r : Next) (numbers : Parameters) (y : Tally) → OneOf (0 ∷ 1 ∷ 2 ∷ []) (tagOf the-type r)
+pub closing-fine : (r : Next) (numbers : FileNumbers) (y : Tally) → OneOf (0 ∷ 1 ∷ 2 ∷ []) (tagOf the-type r)
     → fineWith numbers y ≡ closing r numbers y
 unfolding closing
 closing-fine (Packet p c) numbers y k = refl

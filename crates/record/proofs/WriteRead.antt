@@ -78,8 +78,8 @@ pub file-written : (s : Heading) (ps : List Packet) (n : ℕ) → ParametersHeld
 unfolding bytesIn
 file-written s ps n hs hp e f =
     let fine = heading-fine s e in
-    reading-headed s (recordsOf ps) hs (fine .0)
-    ∙ rw (eq-eqb (setUpRefusal (resolved s)) 0 (fine .1), packets-written ps nothing false 0 n headBytes hp f)
+    reading-headed s (recordsOf ps) (record { fields = hs; known = fine .known; kind = fine .kind })
+    ∙ rw (eq-eqb (setUpRefusal (resolved s)) 0 (fine .set-up), packets-written ps nothing false 0 n headBytes hp f)
 
 -- what the writer writes reads as what it was given
 pub written-reads : (s : Heading) (ts ss ms out after : List ℕ) (n : ℕ) → ParametersHeld (s .parameters)

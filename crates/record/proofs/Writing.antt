@@ -3,7 +3,7 @@ use Rattle.laws.specs.Kit.{_≡_, refl, sym, ap, _∙_, true, false, List, [], 
 use Rattle.laws.specs.Kit.{drop, getD, length-append, sets, sets-eq, take-at, leb, eqb, eq-eqb, ne-eqb, le-leb, lt-leb, leb-true}
 use Rattle.laws.specs.Kit.{eqb-true}
 use Rattle.laws.specs.Choose.{pick, orElse}
-use Rattle.laws.proofs.Choose.{pick-either}
+use Rattle.laws.proofs.Choose.{pick-either, neither}
 use Rattle.packet.specs.declared.Past.{Past}
 use Rattle.packet.specs.declared.Refusal.{Refusal}
 use Rattle.packet.specs.declared.Scanned.{Scanned}
@@ -18,13 +18,14 @@ use Rattle.endian.specs.Fields.{fieldBytes}
 use Rattle.laws.proofs.Lay.{sets-join}
 use Rattle.endian.proofs.Width.{length-bytes}
 use Rattle.limits.specs.declared.Parameters.{Parameters}
-use Rattle.limits.specs.Paper.{setUpRefusal}
+use Rattle.limits.specs.Paper.{setUpRefusal, profileRefusal}
+use Rattle.limits.proofs.Profiles.{profile-fine, profile-known, profile-22}
 use Rattle.record.specs.declared.Written.{Written}
 use Rattle.record.specs.declared.Written.the-variants.{Done, Refused}
 use Rattle.record.specs.Layout.{packetRecord, headOf, recordsOf, bytesIn, PacketsHeld}
 use Rattle.record.specs.Write.{fileLength, versionRefusal, headingRefusal, scanning, writtenOf, WriteGives}
 use Rattle.record.proofs.Stores.{length-packet}
-use Rattle.record.specs.Paper.{packetBytes, headBytes, versionKnown, Heading, heading, resolved}
+use Rattle.record.specs.Paper.{packetBytes, headBytes, versionKnown, Heading, heading, resolved, isParameters}
 
 pub length-head : (s : Heading) → length (headOf s) ≡ headBytes
 unfolding fieldBytes
@@ -56,27 +57,45 @@ pub scan-of : (ts ss ms : List ℕ) {past : Past} {a : Scanned} → past ≡ not
     → scannedOf nothing false ts ss ms ≡ a
 scan-of ts ss ms e f = sym (f ∙ ap (λ p. scannedOf p false ts ss ms) e)
 
--- the version first of all, then what set-up refuses
-module _ (version : ℕ) (s : Parameters) where
-  pub heading-20 : versionKnown version ≡ false → 20 ≡ headingRefusal (heading version s)
+-- the version first of all, then the kind, then what set-up refuses
+module _ (version kind : ℕ) (s : Parameters) where
+  pub heading-20 : versionKnown version ≡ false → 20 ≡ headingRefusal (heading version kind s)
   unfolding headingRefusal versionRefusal
   heading-20 e = sym (rw e)
 
-  pub heading-set-up : versionKnown version ≡ true → setUpRefusal (resolved (heading version s)) ≡ headingRefusal (heading version s)
-  unfolding headingRefusal versionRefusal
-  heading-set-up e = sym (rw e)
+  -- F14: 22 where the version is known
+  pub heading-22 : versionKnown version ≡ true → isParameters kind ≡ false → 22 ≡ headingRefusal (heading version kind s)
+  unfolding headingRefusal versionRefusal isParameters
+  heading-22 e k = sym (rw (e, profile-22 kind .1 k))
 
-  -- both numbers as the code finds them
-  pub heading-both : {a b : ℕ} {numbers : Parameters} → a ≡ versionRefusal version → numbers ≡ resolved (heading version s)
-      → b ≡ setUpRefusal numbers → orElse a b ≡ headingRefusal (heading version s)
+  pub heading-set-up : versionKnown version ≡ true → isParameters kind ≡ true
+      → setUpRefusal (resolved (heading version kind s)) ≡ headingRefusal (heading version kind s)
+  unfolding headingRefusal versionRefusal isParameters
+  heading-set-up e k = sym (rw (e, profile-known kind k))
+
+  -- the three numbers as the code finds them
+  pub heading-all : {a b c : ℕ} {numbers : Parameters} → a ≡ versionRefusal version → b ≡ profileRefusal kind
+      → numbers ≡ resolved (heading version kind s) → c ≡ setUpRefusal numbers → orElse a (orElse b c) ≡ headingRefusal (heading version kind s)
   unfolding headingRefusal
-  heading-both e q f = rw (e, f, q)
+  heading-all e k q f = rw (e, k, f, q)
 
-pub heading-fine : (s : Heading) → headingRefusal s ≡ 0 → (versionKnown (s .version) ≡ true) × (setUpRefusal (resolved s) ≡ 0)
-unfolding headingRefusal versionRefusal
-heading-fine s =
-    pick-either (λ n. orElse n (setUpRefusal (resolved s)) ≡ 0 → (versionKnown (s .version) ≡ true) × (setUpRefusal (resolved s) ≡ 0))
-    (versionKnown (s .version)) (λ v e. (v, e)) (λ v e. absurd (omega arith))
+-- a heading that is not refused
+pub record Fine (s : Heading) : Type 0 where
+  pub known : versionKnown (s .version) ≡ true
+  pub kind : isParameters (s .kind) ≡ true
+  pub set-up : setUpRefusal (resolved s) ≡ 0
+
+version-fine : (version : ℕ) → versionRefusal version ≡ 0 → versionKnown version ≡ true
+unfolding versionRefusal
+version-fine version =
+    pick-either (λ n. n ≡ 0 → versionKnown version ≡ true) (versionKnown version) (λ v e. v) (λ v e. absurd (omega arith))
+
+pub heading-fine : (s : Heading) → headingRefusal s ≡ 0 → Fine s
+unfolding headingRefusal isParameters
+heading-fine s e =
+    let first = neither _ _ e in
+    let rest = neither _ _ (first .1) in
+    record { known = version-fine (s .version) (first .0); kind = profile-fine (s .kind) (rest .0); set-up = rest .1 }
 
 -- the answer, for so many lent bytes
 module _ (s : Heading) (ts ss ms : List ℕ) (room : ℕ) where

@@ -11,8 +11,9 @@ use Rattle.record.specs.Paper.{parametersLength, packetLength, Heading}
 abbrev pub parameterWidths : List ℕ
 parameterWidths = 2 ∷ 1 ∷ 1 ∷ 1 ∷ 1 ∷ 2 ∷ 4 ∷ 2 ∷ 4 ∷ []
 
-abbrev pub parameterFields : Parameters → List ℕ
-parameterFields s = parametersLength ∷ 1 ∷ s .rate ∷ s .schedule ∷ s .class ∷ s .height ∷ s .n ∷ s .maxudp ∷ s .tro ∷ []
+-- F14: of either kind
+abbrev pub parameterFields : ℕ → Parameters → List ℕ
+parameterFields kind s = parametersLength ∷ kind ∷ s .rate ∷ s .schedule ∷ s .class ∷ s .height ∷ s .n ∷ s .maxudp ∷ s .tro ∷ []
 
 -- F1, F4: "Kind 2, 14 bytes: kind, arrival (8), timestamp (4), marker."
 abbrev pub packetWidths : List ℕ
@@ -25,8 +26,8 @@ abbrev pub packetWith : ℕ → ℕ → ℕ → Packet
 packetWith t stamp marker = record { time = t; stamp = stamp; marker = marker }
 
 -- F2: "All big-endian."
-abbrev pub parameterRecord : Parameters → List ℕ
-parameterRecord s = fieldBytes Big parameterWidths (parameterFields s)
+abbrev pub parameterRecord : ℕ → Parameters → List ℕ
+parameterRecord kind s = fieldBytes Big parameterWidths (parameterFields kind s)
 
 abbrev pub packetRecord : Packet → List ℕ
 packetRecord p = fieldBytes Big packetWidths (packetFields p)
@@ -38,7 +39,7 @@ recordsOf (p ∷ ps) = packetRecord p ++ recordsOf ps
 
 -- F12: "the writer writes the one asked for" (document 02, viii)
 abbrev pub headOf : Heading → List ℕ
-headOf h = h .version ∷ parameterRecord (h .parameters)
+headOf h = h .version ∷ parameterRecord (h .kind) (h .parameters)
 
 unfoldable pub bytesIn : Heading → List Packet → List ℕ
 bytesIn h ps = headOf h ++ recordsOf ps

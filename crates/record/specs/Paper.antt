@@ -2,7 +2,7 @@
 -- `l` is the rest of a file from one record's length on, and `at` that record's offset.
 use Rattle.laws.specs.Kit.{Bool, true, false, not, _&&_, _||_, List, [], _∷_, ℕ, zero, suc, _+_, ltb, eqb, length, drop, getD}
 use Rattle.laws.specs.Choose.{pick, orElse}
-use Rattle.limits.specs.Paper.{setUpRefusal, editionRefusal, given}
+use Rattle.limits.specs.Paper.{setUpRefusal, editionRefusal, isProfile, given}
 use Rattle.packet.specs.declared.Past.{Past}
 use Rattle.packet.specs.declared.Packet.{Packet}
 use Rattle.packet.specs.Step.{nothing, numberOf, nextOf}
@@ -58,13 +58,14 @@ parametersAt l = record {
   tro = numberAt 4 l 14;
 }
 
--- F5: what a file tells before its packets, both as written
+-- F5, F14: what a file tells before its packets, each as written: its version, and the kind of its parameter record with the parameters
 pub record Heading : Type 0 where
   pub version : ℕ
+  pub kind : ℕ
   pub parameters : Parameters
 
-abbrev pub heading : ℕ → Parameters → Heading
-heading version parameters = record { version = version; parameters = parameters }
+abbrev pub heading : ℕ → ℕ → Parameters → Heading
+heading version kind parameters = record { version = version; kind = kind; parameters = parameters }
 
 -- F11: "version 1 files keep 0 as wide", whose number is 3
 abbrev pub firstClass : ℕ → ℕ
@@ -76,18 +77,20 @@ unfoldable pub classIn : ℕ → ℕ → ℕ
 classIn version class = pick (eqb version 1) (firstClass class) class
 
 -- F11: the parameters that it sets up with: set-up knows no version
+abbrev pub resolvedIn : ℕ → Parameters → Parameters
+resolvedIn version p = given (p .rate) (p .schedule) (classIn version (p .class)) (p .height) (p .n) (p .maxudp) (p .tro)
+
 abbrev pub resolved : Heading → Parameters
-resolved h =
-    let p = h .parameters in
-    given (p .rate) (p .schedule) (classIn (h .version) (p .class)) (p .height) (p .n) (p .maxudp) (p .tro)
+resolved h = resolvedIn (h .version) (h .parameters)
 
 -- F4: "Kind 2, 14 bytes: kind, arrival (8), timestamp (4), marker."
 abbrev pub packetAt : List ℕ → Packet
 packetAt l = record { time = numberAt 8 l 3; stamp = numberAt 4 l 11; marker = getD l 15 0 }
 
--- the kinds whose records hold the parameters
+-- F14: "a parameter record of kind 3, laid out as kind 1, chooses it" (document 02, vii): the kinds whose records hold the parameters are those
+-- that choose a profile
 unfoldable pub isParameters : ℕ → Bool
-isParameters kind = eqb kind 1
+isParameters kind = isProfile kind
 
 -- F3, F4: the length of each kind's body; 0, which no record has, for an unknown kind
 unfoldable pub kindLength : ℕ → ℕ
@@ -97,7 +100,7 @@ kindLength kind = pick (isParameters kind) parametersLength (pick (eqb kind 2) p
 abbrev pub lone : Bool → List ℕ → Bool
 lone first l = first && eqb (length l) 0
 
--- N1: what 23 is not: "no parameters first, or parameters again"
+-- N1, F14: what 23 is not: "no parameters first, or parameters again", of either kind
 abbrev pub inPlace : Bool → ℕ → Bool
 inPlace first kind = pick first (isParameters kind) (not (isParameters kind))
 
@@ -115,7 +118,7 @@ formatRefusal first l =
 
 -- F7: 21 to 23 come "before set-up and packet refusals"
 abbrev pub parametersRefusal : ℕ → List ℕ → ℕ
-parametersRefusal version l = orElse (formatRefusal true l) (setUpRefusal (resolved (heading version (parametersAt l))))
+parametersRefusal version l = orElse (formatRefusal true l) (setUpRefusal (resolved (heading version (kindOf l) (parametersAt l))))
 
 abbrev pub packetRefusal : Past → List ℕ → ℕ
 packetRefusal past l = orElse (formatRefusal false l) (numberOf past (packetAt l))
@@ -159,7 +162,7 @@ pub data Reading : Type 0 where
 abbrev pub parametersIn : ℕ → List ℕ → Reading
 parametersIn version l =
     pick (eqb (parametersRefusal version l) 0)
-    (read (heading version (parametersAt l)) (packetsIn nothing (1 + (2 + bodyLength l)) (drop (2 + bodyLength l) l)))
+    (read (heading version (kindOf l) (parametersAt l)) (packetsIn nothing (1 + (2 + bodyLength l)) (drop (2 + bodyLength l) l)))
     (unread (parametersRefusal version l) 1)
 
 -- N1, F6, F7: "20 is given, first of all, for a version other than 1 or 2" (document 02, viii), as for "file empty": "its offset (0 for 20)"

@@ -135,9 +135,9 @@ unfoldable pub toldPackets : ℕ → List packet.Packet → List Next
 toldPackets at [] = []
 toldPackets at (p ∷ ps) = Packet p (cursor (at + packetBytes)) ∷ toldPackets (at + packetBytes) ps
 
--- the version and kind 1 with the parameters
+-- the version, and the kind with the parameters
 abbrev pub toldHead : Heading → Head
-toldHead h = head.Ready (h .version) 1 (h .parameters) (cursor headBytes)
+toldHead h = head.Ready (h .version) (h .kind) (h .parameters) (cursor headBytes)
 
 -- the head, each packet in order, the end
 abbrev pub told : Heading → List packet.Packet → Heard
@@ -146,7 +146,7 @@ told h ps = record { head = toldHead h; after = toldPackets headBytes ps ++ (End
 -- a head is refused with this number and offset: by the reader itself, or by set-up, which refuses the parameters at offset 1
 abbrev pub HeadRefused : ℕ → ℕ → Head → Type 0
 HeadRefused number offset (head.Ready version kind parameters c) =
-    (setUpRefusal (resolved (heading version parameters)) ≡ number) × (offset ≡ 1)
+    (setUpRefusal (resolved (heading version kind parameters)) ≡ number) × (offset ≡ 1)
 HeadRefused number offset head.More = ⊥
 HeadRefused number offset (head.Refused n o) = (n ≡ number) × (o ≡ offset)
 

@@ -7,7 +7,7 @@ use Rattle.packet.specs.Paper.{packets, OneLength}
 use Rattle.packet.specs.Step.{nothing, scannedOf}
 use Rattle.record.specs.declared.Written.{Written}
 use Rattle.record.specs.declared.Written.the-variants.{Done, Refused}
-use Rattle.limits.specs.Paper.{setUpRefusal}
+use Rattle.limits.specs.Paper.{setUpRefusal, profileRefusal}
 use Rattle.record.specs.Layout.{bytesIn}
 use Rattle.record.specs.Paper.{packetBytes, headBytes, versionKnown, Heading, resolved}
 
@@ -23,15 +23,16 @@ fitting needed room = pick (leb needed room) (Done needed) (Refused 24 0)
 unfoldable pub versionRefusal : ℕ → ℕ
 versionRefusal version = pick (versionKnown version) 0 20
 
+-- F14: 22 for a kind that holds no parameters stands between
 unfoldable pub headingRefusal : Heading → ℕ
-headingRefusal h = orElse (versionRefusal (h .version)) (setUpRefusal (resolved h))
+headingRefusal h = orElse (versionRefusal (h .version)) (orElse (profileRefusal (h .kind)) (setUpRefusal (resolved h)))
 
 -- N12: 10 to 14, "the packet's place in the history (0 for 1 to 10 and 24)"
 abbrev pub scanning : Scanned → ℕ → ℕ → Written
 scanning (scan.Fine closed) needed room = fitting needed room
 scanning (scan.Refused r) needed room = Refused (r .number) (r .place)
 
--- F9: after 20, "The writer refuses by 1 to 7, 10 to 14, then 24"
+-- F9: after 20 and 22, "The writer refuses by 1 to 7, 10 to 14, then 24"
 unfoldable pub writtenOf : Heading → List ℕ → List ℕ → List ℕ → ℕ → Written
 writtenOf h ts ss ms room =
     pick (eqb (headingRefusal h) 0)

@@ -8,6 +8,7 @@ use endian::write16;
 use endian::write32;
 use endian::write64;
 use limits::Parameters;
+use limits::Profile;
 use packet::Packet;
 use packet::Past;
 use packet::Ran;
@@ -20,12 +21,18 @@ ghost use Rattle.packet.specs.Paper.{packets};
 ghost use Rattle.packet.specs.Quick.{startOf};
 ghost use Rattle.packet.specs.Step.{nothing, noPackets};
 ghost use Rattle.record.specs.Paper.{parametersBytes, packetBytes, headBytes};
-ghost use Rattle.record.specs.Paper.{versionKnown, heading, classIn, resolved, parametersAt, packetAt, isParameters, kindLength};
+ghost use Rattle.record.specs.Paper.{versionKnown, heading, classIn, resolvedIn, parametersAt, packetAt, isParameters, kindLength};
 ghost use Rattle.record.specs.Paper.{packetsIn};
 ghost use Rattle.record.specs.Step.{scrapOf, framedOf, Whole, firstOf, headBy, headPiece, after, packetOf, wholeOf, nextPiece, standsIn};
 ghost use Rattle.record.specs.Layout.{packetWith, packetRecord, headOf, recordsOf};
 ghost use Rattle.record.specs.Write.{versionRefusal, headingRefusal, writtenOf, WriteGives, Fitting};
-ghost use Rattle.record.specs.Walk.{ranIn, recordsLeft, closing, refusedBy, finish, checkedOf};
+ghost use Rattle.record.specs.Walk.{numbersOf, ranIn, recordsLeft, closing, refusedBy, finish, checkedOf};
+
+// What a file sets up with, beside an edition: the profile that the kind of its parameter record chooses, and the parameters (`resolved`).
+pub struct FileNumbers {
+    pub profile: Profile,
+    pub parameters: Parameters,
+}
 
 // Where the reader stands after the head of a file: at a packet, or at the end.
 pub struct Cursor {
@@ -65,11 +72,11 @@ pub enum Next {
     Refused { number: u8, offset: u64, size: u64 },
 }
 
-// A whole file: fine, with the parameters that it sets up with (`resolved`) and the numbers of packets and of frames that close; or
-// the number and offset of its first refusal.
+// A whole file: fine, with what it sets up with and the numbers of packets and of frames that close; or the number and offset of its
+// first refusal.
 pub enum Checked {
     Fine {
-        numbers: Parameters,
+        numbers: FileNumbers,
         packets: u64,
         closed: u64,
     },
@@ -87,8 +94,6 @@ pub enum Written {
 
 // The class number that a version 1 file's 0 stands for.
 const WIDE: u8 = 3;
-
-const PARAMETERS: u8 = 1;
 
 const PACKET: u8 = 2;
 
@@ -127,8 +132,8 @@ fn class_in(version: u8, class: u8) -> u8
 }
 
 // The parameters that a file of a version sets up with. A state knows no version.
-pub fn resolved(version: u8, written: Parameters) -> Parameters
-    ensures { λ r. ⌜ r ≡ resolved (heading version written) ⌝ }
+fn resolved(version: u8, written: Parameters) -> Parameters
+    ensures { λ r. ⌜ r ≡ resolvedIn version written ⌝ }
 {
     Parameters {
         rate: written.rate,
@@ -141,11 +146,21 @@ pub fn resolved(version: u8, written: Parameters) -> Parameters
     }
 }
 
-// The one place that tells which kinds hold the parameters.
+// What a file of a version sets up with, whose parameter record is of a kind.
+pub fn set_with(version: u8, kind: u8, written: Parameters) -> FileNumbers
+    ensures { λ r. ⌜ r ≡ numbersOf (heading version kind written) ⌝ }
+{
+    FileNumbers {
+        profile: limits::profile_of(kind),
+        parameters: resolved(version, written),
+    }
+}
+
+// The kinds that hold the parameters are those that stand for a profile.
 fn is_parameters(kind: u8) -> bool
     ensures { λ r. ⌜ r ≡ isParameters kind ⌝ }
 {
-    kind == PARAMETERS
+    limits::is_profile(kind)
 }
 
 // The one place that tells what lengths the kinds have; 0, which no record has, for an unknown kind.
@@ -163,7 +178,7 @@ fn kind_length(kind: u8) -> u16
 
 //  0        2      3      4          5       6        8     12       14    18
 //  | length | kind | rate | schedule | class | height | n   | MAXUDP | TRO |
-//  | 0   16 | 1    |      |          |       |        |     |        |     |
+//  | 0   16 | 1, 3 |      |          |       |        |     |        |     |
 fn parameters_of(s: &[u8]) -> Parameters
     requires { ⌜ Room parametersBytes (now s) 0 ⌝ }
     ensures { λ r. ⌜ r ≡ parametersAt (now (s .entry)) ⌝ }
@@ -397,7 +412,7 @@ impl Cursor {
 }
 
 // The answer where reading stops: at a refusal, or else at the end.
-fn closed(tally: Tally, item: Next, numbers: Parameters) -> Checked
+fn closed(tally: Tally, item: Next, numbers: FileNumbers) -> Checked
     ensures { λ r. ⌜ r ≡ closing item numbers tally ⌝ }
 {
     let Next::Refused {
@@ -443,15 +458,16 @@ pub fn check(edition: u32, s: &[u8]) -> Checked
     let head = read_head(s, true);
     let Head::Ready {
         version,
-        kind: _,
+        kind,
         parameters,
         next,
     } = head
     else {
         return refused_by(head);
     };
-    let numbers = resolved(version, parameters);
-    let number = numbers.refusal_in(edition);
+    let numbers = set_with(version, kind, parameters);
+    let set = numbers.parameters;
+    let number = set.refusal_in(edition);
     if number != 0 {
         return Checked::Refused {
             number: number,
@@ -496,7 +512,7 @@ fn run_packets(from: Cursor, count: usize, s: &[u8]) -> Ran
 }
 
 // The packets from an offset on, after the parameters. Mostly nothing is refused, and a run sees that with fewer tests.
-fn check_packets(numbers: Parameters, from: Cursor, s: &[u8]) -> Checked
+fn check_packets(numbers: FileNumbers, from: Cursor, s: &[u8]) -> Checked
     ensures { λ r. ⌜ r ≡ finish numbers noPackets (packetsIn nothing (from .at) (drop (from .at) (now (s .entry)))) ⌝ }
 {
     let count = records_left(from, s);
@@ -517,7 +533,7 @@ fn check_packets(numbers: Parameters, from: Cursor, s: &[u8]) -> Checked
 }
 
 // The same record by record, whatever stands there: what is refused, and at which offset.
-fn walk_packets(numbers: Parameters, from: Cursor, s: &[u8]) -> Checked
+fn walk_packets(numbers: FileNumbers, from: Cursor, s: &[u8]) -> Checked
     ensures { λ r. ⌜ r ≡ finish numbers noPackets (packetsIn nothing (from .at) (drop (from .at) (now (s .entry)))) ⌝ }
 {
     let mut cursor = from;
@@ -546,28 +562,32 @@ fn version_refusal(version: u8) -> u8
     if version_known(version) { 0 } else { 20 }
 }
 
-// What the writer refuses before it looks at a packet: the version first of all, then what set-up refuses; 0 where nothing is.
-fn heading_refusal(version: u8, written: Parameters) -> u8
-    ensures { λ r. ⌜ r ≡ headingRefusal (heading version written) ⌝ }
+// What the writer refuses before it looks at a packet: the version first of all, then a kind that holds no parameters, then what set-up
+// refuses; 0 where nothing is.
+fn heading_refusal(version: u8, kind: u8, written: Parameters) -> u8
+    ensures { λ r. ⌜ r ≡ headingRefusal (heading version kind written) ⌝ }
 {
     let of_version = version_refusal(version);
+    let of_kind = limits::profile_refusal(kind);
     let numbers = resolved(version, written);
     let of_numbers = numbers.refusal();
-    laws::first_of(of_version, of_numbers)
+    let later = laws::first_of(of_kind, of_numbers);
+    laws::first_of(of_version, later)
 }
 
 // What the writer would answer for so many lent bytes. It writes nothing.
 pub fn would_write(
     version: u8,
+    kind: u8,
     numbers: Parameters,
     arrivals: &[u64],
     stamps: &[u32],
     markers: &[u8],
     room: usize,
 ) -> Written
-    ensures { λ r. ⌜ r ≡ writtenOf (heading version numbers) (now (arrivals .entry)) (now (stamps .entry)) (now (markers .entry)) room ⌝ }
+    ensures { λ r. ⌜ r ≡ writtenOf (heading version kind numbers) (now (arrivals .entry)) (now (stamps .entry)) (now (markers .entry)) room ⌝ }
 {
-    let number = heading_refusal(version, numbers);
+    let number = heading_refusal(version, kind, numbers);
     if number != 0 {
         return Written::Refused {
             number: number,
@@ -593,36 +613,38 @@ pub fn would_write(
     }
 }
 
-// The whole record file of this version, these stream numbers and packets into lent bytes, or nothing where it is refused.
+// The whole record file of this version, with these parameters in a record of this kind, and these packets into lent bytes, or nothing
+// where it is refused.
 pub fn write(
     version: u8,
+    kind: u8,
     numbers: Parameters,
     arrivals: &[u64],
     stamps: &[u32],
     markers: &[u8],
     out: &mut [u8],
 ) -> Written
-    ensures { λ r. ⌜ WriteGives (heading version numbers) (now (arrivals .entry)) (now (stamps .entry)) (now (markers .entry))
+    ensures { λ r. ⌜ WriteGives (heading version kind numbers) (now (arrivals .entry)) (now (stamps .entry)) (now (markers .entry))
         (now (out .entry)) r (now (out .exit)) ⌝ }
 {
-    let answer = would_write(version, numbers, arrivals, stamps, markers, out.len());
+    let answer = would_write(version, kind, numbers, arrivals, stamps, markers, out.len());
     let Written::Done { bytes } = answer else {
         return answer;
     };
-    write_head(version, numbers, out);
+    write_head(version, kind, numbers, out);
     write_packets(arrivals, stamps, markers, out);
     Written::Done { bytes: bytes }
 }
 
 // The version byte and the parameters.
-fn write_head(version: u8, numbers: Parameters, out: &mut [u8])
+fn write_head(version: u8, kind: u8, numbers: Parameters, out: &mut [u8])
     requires { ⌜ Room headBytes (now out) 0 ⌝ }
-    ensures { λ _. ⌜ now (out .exit) ≡ sets (now (out .entry)) 0 (headOf (heading version numbers)) ⌝ }
+    ensures { λ _. ⌜ now (out .exit) ≡ sets (now (out .entry)) 0 (headOf (heading version kind numbers)) ⌝ }
 {
     out[0] = version;
     out[1] = 0;
     out[2] = PARAMETERS_LENGTH;
-    out[3] = PARAMETERS;
+    out[3] = kind;
     out[4] = numbers.rate;
     out[5] = numbers.schedule;
     out[6] = numbers.class;

@@ -17,17 +17,17 @@ refused-by-requires c κs = search needs
 returns : tie.Need-returns
 returns c = c .refused-by .ensures ∙ opens-not _ _ _ (c .before .match .keys2) (c .before .before .read-head .ensures)
 
-resolved-requires : tie.Need-resolved-requires
-resolved-requires c κs = search needs
+set-with-requires : tie.Need-set-with-requires
+set-with-requires c κs = search needs
 
 refusal-in-requires : tie.Need-refusal-in-requires
 refusal-in-requires c κs = search needs
 
 returns-2 : tie.Need-returns-2
 returns-2 c =
-    let told = c .before .before in
+    let told = c .before .before .before in
     let opened = told .before in
-    opens-refused _ _ (opened .before .before .before .read-head .ensures) (opened .before .head .given .1) (told .resolved .ensures) _
+    opens-refused _ _ (opened .before .before .before .read-head .ensures) (opened .before .head .given .1) (told .set-with .ensures) _
     (sym (c .before .refusal-in .ensures)) (omega arith)
 
 check-packets-requires : tie.Need-check-packets-requires
@@ -35,11 +35,11 @@ check-packets-requires c κs = search needs
 
 returns-3 : tie.Need-returns-3
 returns-3 c =
-    let told = c .before .before .before in
+    let told = c .before .before .before .before in
     let opened = told .before in
     let fine = sym (c .before .before .refusal-in .ensures) ∙ c .before .if1 .left in
     c .check-packets .ensures
-    ∙ opens-fine _ _ (opened .before .before .before .read-head .ensures) (opened .before .head .given .1) (told .resolved .ensures) fine
+    ∙ opens-fine _ _ (opened .before .before .before .read-head .ensures) (opened .before .head .given .1) (told .set-with .ensures) fine
 
 pub check-spec : {M : Type 1} → statement M
 check-spec =
@@ -49,7 +49,7 @@ check-spec =
     enum-known-head
     refused-by-requires
     returns
-    resolved-requires
+    set-with-requires
     refusal-in-requires
     returns-2
     check-packets-requires

@@ -60,7 +60,7 @@ same-length c =
     (simp length-sets at (ap length (stored .write322 .ensures))) ∙ long162 (stored .before .before .before .before)
 
 returns : tie.Need-returns
-returns c = cc (head-stored _ _ _)
+returns c = cc (head-stored _ _ _ _)
 
 pub write-head-spec : {M : Type 1} → statement M
 write-head-spec =
