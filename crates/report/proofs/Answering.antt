@@ -7,14 +7,14 @@ use Rattle.packet.specs.declared.Packet.{Packet}
 use Rattle.timing.specs.declared.State.{State}
 use Rattle.timing.specs.declared.Fed.the-variants.{Accepted}
 use Rattle.frame.specs.Step.{rowWidth}
-use Rattle.timing.specs.Step.{inEdition, rulesOf, freshOf, numbers}
+use Rattle.timing.specs.Step.{streamWith, rulesOf, freshOf, numbers}
 use Rattle.timing.specs.Answers.{summaryWith, summaryOf}
 use Rattle.timing.specs.Feed.{feedAll}
 use Rattle.timing.proofs.Editions.{states-alike, rows-alike}
 use Rattle.timing.proofs.InRange.{sound-fresh, of-sound}
 use Rattle.timing.proofs.Scanning.{numbers-length, scan-runs}
 use Rattle.record.specs.Paper.{Heading, File, file, refused, resolved, Ending, done, stopped, Packets, unread, read, asFile, heading}
-use Rattle.record.specs.Paper.{firstClass, classIn, besideEdition, fileIn}
+use Rattle.record.specs.Paper.{firstClass, classIn, isParameters, besideEdition, fileIn}
 use Rattle.record.specs.Walk.{asChecked, checkedOf, checkedNumber, checkedOffset}
 use Rattle.record.proofs.Editions.{accepted-edition}
 use Rattle.report.proofs.Asking.{holds-in}
@@ -24,7 +24,7 @@ use Rattle.record.specs.Layout.{headOf}
 use Rattle.record.proofs.Writing.{length-head}
 use Rattle.record.proofs.Versions.{Held, Untold, read-alike, first-held, second-held, second-kept}
 use Rattle.limits.specs.declared.Parameters.{Parameters}
-use Rattle.limits.specs.Paper.{editionRefusal, given}
+use Rattle.limits.specs.Paper.{editionRefusal, profileOf, given}
 use Rattle.limits.proofs.Editions.{in-known}
 use Rattle.limits.specs.Steps.{ParametersHeld}
 
@@ -84,7 +84,7 @@ as-fed edition s w ps e rows same =
     )
 
 -- two files that set up alike are answered alike, whatever bytes follow their heads
-module _ (edition : ℕ) (h k : Heading) (e : resolved h ≡ resolved k) where
+module _ (edition : ℕ) (h k : Heading) (e : resolved h ≡ resolved k) (q : h .kind ≡ k .kind) where
   file-untold : {A : Type 0} (g : File → A) → ((ps : List Packet) → g (file h ps) ≡ g (file k ps)) → Untold h k e (λ r. g (asFile (besideEdition edition r)))
   file-untold g same r = go (r .ending) (eqb (editionRefusal edition) 0)
     where
@@ -98,7 +98,9 @@ module _ (edition : ℕ) (h k : Heading) (e : resolved h ≡ resolved k) where
       go d false = refl
 
   bytes-alike : (ps : List Packet) → bytesFor edition h ps ≡ bytesFor edition k ps
-  bytes-alike ps = ap (λ (p : Parameters). encoded (reportOf (inEdition edition p) ps)) e
+  bytes-alike ps =
+      ap (λ (p : Parameters). encoded (reportOf (streamWith (profileOf (h .kind)) edition p) ps)) e
+      ∙ ap (λ (kind : ℕ). encoded (reportOf (streamWith (profileOf kind) edition (resolved k)) ps)) q
 
   module _ (l : List ℕ) (a : Held h) (b : Held k) where
     -- F11: the same number and offset
@@ -120,21 +122,21 @@ module _ (edition : ℕ) (h k : Heading) (e : resolved h ≡ resolved k) where
 -- F11: a file of version 1, and that of version 2 whose class 0 is written as 3
 pub first-measured : (edition : ℕ) (w : Heading) (ps : List Packet) → w .version ≡ 1 → let p = w .parameters in
     bytesFor edition w ps
-    ≡ encoded (reportOf (inEdition edition (given (p .rate) (p .schedule) (firstClass (p .class)) (p .height) (p .n) (p .maxudp) (p .tro))) ps)
+    ≡ encoded (reportOf (streamWith (profileOf (w .kind)) edition (given (p .rate) (p .schedule) (firstClass (p .class)) (p .height) (p .n) (p .maxudp) (p .tro))) ps)
 unfolding classIn
 first-measured edition w ps e = rw e
 
-pub first-answered : (edition : ℕ) (p : Parameters) (l out : List ℕ) → ParametersHeld p
-    → let s = headOf (heading 1 p) ++ l in
-    let t = headOf (heading 2 (resolved (heading 1 p))) ++ l in
+pub first-answered : (edition kind : ℕ) (p : Parameters) (l out : List ℕ) → isParameters kind ≡ true → ParametersHeld p
+    → let s = headOf (heading 1 kind p) ++ l in
+    let t = headOf (heading 2 kind (resolved (heading 1 kind p))) ++ l in
     (answerOf edition s (length out) ≡ answerOf edition t (length out)) × (filledBy edition s out ≡ filledBy edition t out)
-first-answered edition p l out held =
-    let q = resolved (heading 1 p) in
-    let same : q ≡ resolved (heading 2 q) = sym (second-kept q) in
-    let a = first-held p held in
-    let b = second-held p held in (
-      answers-alike edition (heading 1 p) (heading 2 q) same l a b (length out),
-      filled-alike edition (heading 1 p) (heading 2 q) same l a b out,
+first-answered edition kind p l out holds held =
+    let q = resolved (heading 1 kind p) in
+    let same : q ≡ resolved (heading 2 kind q) = sym (second-kept kind q) in
+    let a = first-held kind p holds held in
+    let b = second-held kind p holds held in (
+      answers-alike edition (heading 1 kind p) (heading 2 kind q) same refl l a b (length out),
+      filled-alike edition (heading 1 kind p) (heading 2 kind q) same refl l a b out,
     )
 
 -- ---- two editions
@@ -145,7 +147,8 @@ pub reports-alike : (e f : ℕ) (w : Heading) (ps : List Packet)
     × (drop 9 (reportOf (streamOf e w) ps) ≡ drop 9 (reportOf (streamOf f w) ps))
 unfolding summaryWith
 reports-alike e f w ps =
+    let profile = profileOf (w .kind) in
     let p = resolved w in (
-      ap (λ (s : State). take 6 (map pos (summaryOf s))) (states-alike p e f ps),
-      ap numbers (rows-alike p e f ps),
+      ap (λ (s : State). take 6 (map pos (summaryOf s))) (states-alike profile p e f ps),
+      ap numbers (rows-alike profile p e f ps),
     )

@@ -14,13 +14,13 @@ use Rattle.packet.proofs.Declared.{scan-declared, fine-few, fine-count}
 use Rattle.timing.specs.declared.StreamNumbers.{StreamNumbers}
 use Rattle.timing.specs.declared.State.{State}
 use Rattle.frame.specs.Step.{rowWidth}
-use Rattle.timing.specs.Step.{inEdition, rulesOf, freshOf, numbers}
+use Rattle.timing.specs.Step.{rulesOf, freshOf, numbers}
 use Rattle.timing.specs.Answers.{summaryWidth, summaryOf}
 use Rattle.timing.proofs.Scanning.{numbers-length, scan-runs}
-use Rattle.limits.specs.declared.Parameters.{Parameters}
+use Rattle.record.specs.declared.FileNumbers.{FileNumbers}
 use Rattle.record.specs.declared.Checked.the-variants as checked
 use Rattle.record.specs.Paper.{resolved, Heading, Packets, File, file, refused, fileOf, fileIn}
-use Rattle.record.specs.Walk.{asChecked, checkedOf}
+use Rattle.record.specs.Walk.{numbersOf, asChecked, checkedOf}
 use Rattle.record.specs.Write.{fileLength}
 use Rattle.record.proofs.Writing.{length-file}
 use Rattle.record.proofs.Editions.{known-edition, accepted-edition}
@@ -30,7 +30,7 @@ use Rattle.report.specs.declared.Asked.{Asked}
 use Rattle.report.specs.declared.Asked.the-variants.{Fine, Refused}
 use Rattle.report.specs.Paper.{streamOf, stateOf, rowsOf, reportOf, inBytes, encoded, bytesFor, answer, answered, answerOf}
 use Rattle.report.specs.Paper.{numberBytes, roomFor, roomOf, filled, filledBy}
-use Rattle.report.specs.Step.{neededBehind, needed, asAsked, askedOf, askedNumber, askedOffset, packetsOf, MeasureAsks, MeasureGives}
+use Rattle.report.specs.Step.{neededBehind, needed, streamIn, asAsked, askedOf, askedNumber, askedOffset, packetsOf, MeasureAsks, MeasureGives}
 use Rattle.report.proofs.Bytes.{nine, length-stored, length-encoded, encoded-append, naturals, front-last}
 
 -- the room, divided: too few numbers for those in front; then the rows
@@ -92,15 +92,15 @@ room-at-most s b = go (fileOf s) refl
 -- ---- the check's answer
 
 -- a file that the check finds fine with an edition beside it, and the frames that it counts
-pub record FineFile (edition : ℕ) (s : List ℕ) (x : Parameters) (closed : ℕ) : Type 0 where
+pub record FineFile (edition : ℕ) (s : List ℕ) (x : FileNumbers) (closed : ℕ) : Type 0 where
   pub told : Heading
   pub ps : List Packet
   pub is-file : fileIn edition s ≡ file told ps
-  pub resolves : resolved told ≡ x
+  pub resolves : numbersOf told ≡ x
   pub as-many : count (closesAt ps) (length ps) ≡ closed
 
 module _ (edition : ℕ) (s : List ℕ) where
-  checked-file : (x : Parameters) (packets closed : ℕ) → checkedOf edition s ≡ checked.Fine x packets closed → FineFile edition s x closed
+  checked-file : (x : FileNumbers) (packets closed : ℕ) → checkedOf edition s ≡ checked.Fine x packets closed → FineFile edition s x closed
   unfolding checkedOf
   checked-file x packets closed e = go (fileIn edition s) refl e
     where
@@ -112,7 +112,7 @@ module _ (edition : ℕ) (s : List ℕ) where
   pub holds-in : (y : Heading) (ps : List Packet) → fileIn edition s ≡ file y ps → FileHolds s y ps
   holds-in y ps e = file-holds s y ps (accepted-edition edition s y ps e .1)
 
-  module _ (x : Parameters) (closed : ℕ) (f : FineFile edition s x closed) where
+  module _ (x : FileNumbers) (closed : ℕ) (f : FineFile edition s x closed) where
     fine-long : length (bytesFor edition (f .told) (f .ps)) ≡ needed closed
     fine-long = length-needed edition s (f .told) (f .ps) (holds-in (f .told) (f .ps) (f .is-file)) ∙ ap needed (f .as-many)
 
@@ -129,13 +129,13 @@ module _ (s : List ℕ) where
   first-known : fileIn 1 s ≡ fileOf s
   first-known = known-edition 1 s (omega arith, omega arith)
 
-  pub room-fine : (x : Parameters) (packets closed : ℕ) → checkedOf 1 s ≡ checked.Fine x packets closed → needed closed ≡ roomOf s
+  pub room-fine : (x : FileNumbers) (packets closed : ℕ) → checkedOf 1 s ≡ checked.Fine x packets closed → needed closed ≡ roomOf s
   unfolding roomOf
   room-fine x packets closed e =
       let f = checked-file 1 s x packets closed e in
       sym (ap roomFor (sym first-known ∙ f .is-file) ∙ fine-long 1 s x closed f)
 
-  pub few-closed : (x : Parameters) (packets closed : ℕ) → checkedOf 1 s ≡ checked.Fine x packets closed → closed ≤ 1000000000
+  pub few-closed : (x : FileNumbers) (packets closed : ℕ) → checkedOf 1 s ≡ checked.Fine x packets closed → closed ≤ 1000000000
   few-closed x packets closed e = fine-closed 1 s x closed (checked-file 1 s x packets closed e)
 
   pub room-refused : (n o : ℕ) → checkedOf 1 s ≡ checked.Refused n o → 0 ≡ roomOf s
@@ -164,18 +164,19 @@ module _ (edition : ℕ) (s : List ℕ) (room : ℕ) where
       go (file x ps) e = let z : _≡_ {A = ℕ} 0 1 = cc in absurd (omega arith)
       go (refused m p) e = cc
 
-  asked-by : (x : Parameters) (packets closed : ℕ) → checkedOf edition s ≡ checked.Fine x packets closed
-      → pick (leb (needed closed) room) (Fine (inEdition edition x)) (Refused 15 (length s)) ≡ askedOf edition s room
+  asked-by : (x : FileNumbers) (packets closed : ℕ) → checkedOf edition s ≡ checked.Fine x packets closed
+      → pick (leb (needed closed) room) (Fine (streamIn edition x)) (Refused 15 (length s)) ≡ askedOf edition s room
   unfolding askedOf
   asked-by x packets closed e =
       let f = checked-file edition s x packets closed e in
-      sym (ap (asAsked edition (length s) room) (f .is-file) ∙ rw (fine-long edition s x closed f, f .resolves))
+      sym (ap (asAsked edition (length s) room) (f .is-file) ∙ rw (fine-long edition s x closed f)
+      (ap (λ (y : FileNumbers). pick (leb (needed closed) room) (Fine (streamIn edition y)) (Refused 15 (length s))) (f .resolves)))
 
-  pub asked-room : (x : Parameters) (packets closed : ℕ) → checkedOf edition s ≡ checked.Fine x packets closed → leb (needed closed) room ≡ true
-      → Fine (inEdition edition x) ≡ askedOf edition s room
+  pub asked-room : (x : FileNumbers) (packets closed : ℕ) → checkedOf edition s ≡ checked.Fine x packets closed → leb (needed closed) room ≡ true
+      → Fine (streamIn edition x) ≡ askedOf edition s room
   asked-room x packets closed e t = sym (rw t) ∙ asked-by x packets closed e
 
-  pub asked-15 : (x : Parameters) (packets closed : ℕ) → checkedOf edition s ≡ checked.Fine x packets closed → leb (needed closed) room ≡ false
+  pub asked-15 : (x : FileNumbers) (packets closed : ℕ) → checkedOf edition s ≡ checked.Fine x packets closed → leb (needed closed) room ≡ false
       → Refused 15 (length s) ≡ askedOf edition s room
   asked-15 x packets closed e t = sym (rw t) ∙ asked-by x packets closed e
 

@@ -6,9 +6,10 @@ use mir.Syntax.{w64}
 use Rattle.laws.specs.Choose.{pick, orElse}
 use Rattle.endian.specs.Number.{bytesOf}
 use Rattle.packet.specs.declared.Packet.{Packet}
+use Rattle.limits.specs.Paper.{profileOf}
 use Rattle.timing.specs.declared.StreamNumbers.{StreamNumbers}
 use Rattle.timing.specs.declared.State.{State}
-use Rattle.timing.specs.Step.{inEdition, rulesOf, freshOf, stateAfter, rowsAfter, numbers}
+use Rattle.timing.specs.Step.{streamWith, rulesOf, freshOf, stateAfter, rowsAfter, numbers}
 use Rattle.timing.specs.declared.Awaited.{Awaited}
 use Rattle.timing.specs.declared.Awaited.the-variants.{In, NoneLeft, Refused}
 use Rattle.timing.specs.Answers.{summaryWidth, summaryOf, setUpAs, setUpNumber, nextOf, awaitedNumber}
@@ -48,9 +49,9 @@ numberBytes = 8
 abbrev pub summaryBytes : ℕ
 summaryBytes = numberBytes * summaryWidth
 
--- F11, F13: the stream numbers that a file sets up with, and the edition beside it
+-- F11, F13, F14: the stream numbers that a file sets up with, its profile among them, and the edition beside it
 abbrev pub streamOf : ℕ → Heading → StreamNumbers
-streamOf edition h = inEdition edition (resolved h)
+streamOf edition h = streamWith (profileOf (h .kind)) edition (resolved h)
 
 -- the bytes of a file's report, by an edition
 abbrev pub bytesFor : ℕ → Heading → List Packet → List ℕ

@@ -10,9 +10,10 @@ use Rattle.timing.specs.declared.StreamNumbers.{StreamNumbers}
 use Rattle.timing.specs.declared.State.{State}
 use Rattle.timing.specs.declared.Drawn.{Drawn}
 use Rattle.timing.specs.declared.Drawn.the-variants.{Figures, Refused as Not-Drawn}
-use Rattle.timing.specs.Step.{setUpOf, rulesOf, freshOf}
+use Rattle.timing.specs.Step.{streamWith, setUpOf, rulesOf, freshOf}
 use Rattle.timing.specs.Answers.{summaryWidth, graphOf, drawnNumber}
 use Rattle.timing.specs.Feed.{RunGives}
+use Rattle.record.specs.declared.FileNumbers.{FileNumbers}
 use Rattle.record.specs.Paper.{headBytes, Heading, done, packetsIn, File, file, refused, fileIn}
 use Rattle.record.specs.Layout.{bytesIn}
 use Rattle.record.specs.Write.{writtenOf, writtenNumber, leftBy}
@@ -28,6 +29,10 @@ neededBehind front closed = numberBytes * (front + closed * rowWidth)
 
 abbrev pub needed : ℕ → ℕ
 needed closed = neededBehind summaryWidth closed
+
+-- F13, F14: what the check says that a file sets up with, and the edition beside it
+abbrev pub streamIn : ℕ → FileNumbers → StreamNumbers
+streamIn edition x = streamWith (x .profile) edition (x .parameters)
 
 -- a file and the room for its report
 abbrev pub asAsked : ℕ → ℕ → ℕ → File → Asked

@@ -5,7 +5,9 @@ use endian::write64;
 use frame::Row;
 use limits::FIRST_EDITION;
 use limits::Parameters;
+use limits::Profile;
 use record::Checked;
+use record::FileNumbers;
 use record::Written;
 use timing::Awaited;
 use timing::Drawn;
@@ -25,7 +27,7 @@ ghost use Rattle.limits.specs.Paper.{given};
 ghost use Rattle.record.specs.Paper.{heading};
 ghost use Rattle.record.specs.Write.{writtenOf, writtenPlace};
 ghost use Rattle.report.specs.Paper.{inBytes, encoded, rowBytes, summaryBytes, answerOf, roomOf};
-ghost use Rattle.report.specs.Step.{neededBehind, askedOf, MeasureAsks, MeasureGives, CallGives, WriteGives, LimitsGives, DrawGives};
+ghost use Rattle.report.specs.Step.{streamIn, neededBehind, askedOf, MeasureAsks, MeasureGives, CallGives, WriteGives, LimitsGives, DrawGives};
 ghost use Rattle.report.specs.Step.{ThreeGive, NextReadGives};
 
 // The bytes of a number that is reported, of a row, and of the nine numbers in front.
@@ -52,6 +54,19 @@ pub fn fits(front: usize, closed: u64, room: usize) -> bool
     closed <= ((numbers - front) / frame::ROW) as u64
 }
 
+// What a file sets up with, and the edition beside it.
+fn stream_in(edition: u32, numbers: FileNumbers) -> StreamNumbers
+    ensures { λ r. ⌜ r ≡ streamIn edition numbers ⌝ }
+{
+    let parameters = numbers.parameters;
+    let profile = numbers.profile;
+    StreamNumbers {
+        parameters,
+        edition,
+        profile,
+    }
+}
+
 // One pass that checks the file, with the edition beside it, and counts its frames; then the room. It writes nothing.
 fn ask(file: &[u8], edition: u32, room: usize) -> Asked
     ensures { λ r. ⌜ r ≡ askedOf edition (now (file .entry)) room ⌝ }
@@ -64,10 +79,7 @@ fn ask(file: &[u8], edition: u32, room: usize) -> Asked
             closed,
         } => {
             if fits(SUMMARY, closed, room) {
-                return Asked::Fine(StreamNumbers {
-                    parameters: numbers,
-                    edition: edition,
-                });
+                return Asked::Fine(stream_in(edition, numbers));
             }
             Asked::Refused {
                 number: 15,
@@ -208,7 +220,9 @@ pub extern "C" fn vtiming_measure_room(file: &[u8]) -> u64
     }
 }
 
-// A record file written: the refusal number and nothing written; or 0, and the file stands in front.
+// A record file written, whose profile is told by the kind of its parameter record: the refusal number and nothing written; or 0, and the
+// file stands in front. The kind stands in front of the arrivals, where a program that was compiled before there were profiles passes where
+// its arrivals are: they are aligned, so that such a number is no kind of a profile, and is refused.
 #[no_mangle]
 pub extern "C" fn vtiming_write(
     version: u8,
@@ -219,12 +233,13 @@ pub extern "C" fn vtiming_write(
     n: u32,
     maxudp: u16,
     tro: u32,
+    profile: u8,
     arrivals: &[u64],
     stamps: &[u32],
     markers: &[u8],
     out: &mut [u8],
 ) -> u32
-    ensures { λ r. ⌜ WriteGives (heading version (given rate schedule class height n maxudp tro))
+    ensures { λ r. ⌜ WriteGives (heading version profile (given rate schedule class height n maxudp tro))
         (now (arrivals .entry)) (now (stamps .entry)) (now (markers .entry)) (now (out .entry)) r (now (out .exit)) ⌝ }
 {
     let numbers = Parameters {
@@ -236,7 +251,7 @@ pub extern "C" fn vtiming_write(
         maxudp,
         tro,
     };
-    let written = record::write(version, numbers, arrivals, stamps, markers, out);
+    let written = record::write(version, profile, numbers, arrivals, stamps, markers, out);
     match written {
         Written::Done { bytes: _ } => 0,
         Written::Refused { number, place: _ } => number as u32,
@@ -254,12 +269,13 @@ pub extern "C" fn vtiming_write_place(
     n: u32,
     maxudp: u16,
     tro: u32,
+    profile: u8,
     arrivals: &[u64],
     stamps: &[u32],
     markers: &[u8],
     room: usize,
 ) -> u64
-    ensures { λ r. ⌜ r ≡ writtenPlace (writtenOf (heading version (given rate schedule class height n maxudp tro))
+    ensures { λ r. ⌜ r ≡ writtenPlace (writtenOf (heading version profile (given rate schedule class height n maxudp tro))
         (now (arrivals .entry)) (now (stamps .entry)) (now (markers .entry)) room) ⌝ }
 {
     let numbers = Parameters {
@@ -271,7 +287,7 @@ pub extern "C" fn vtiming_write_place(
         maxudp,
         tro,
     };
-    let written = record::would_write(version, numbers, arrivals, stamps, markers, room);
+    let written = record::would_write(version, profile, numbers, arrivals, stamps, markers, room);
     match written {
         Written::Done { bytes: _ } => 0,
         Written::Refused { number: _, place } => place,
@@ -302,6 +318,7 @@ fn stream(
     StreamNumbers {
         parameters: told,
         edition: FIRST_EDITION,
+        profile: Profile::Video,
     }
 }
 
