@@ -11,19 +11,22 @@ use Rattle.limits.specs.Paper.{setUpRefusal}
 use Rattle.limits.proofs.Editions.{in-one}
 use Rattle.record.specs.declared.Head.{Head}
 use Rattle.record.specs.declared.Head.the-variants as head
-use Rattle.record.specs.Paper.{heading, resolved, headBytes, packetsIn}
+use Rattle.record.specs.declared.FileNumbers.{FileNumbers}
+use Rattle.timing.specs.declared.StreamNumbers.{StreamNumbers}
+use Rattle.record.specs.Paper.{heading, headBytes, packetsIn}
+use Rattle.record.specs.Walk.{numbersOf}
 use Rattle.record.specs.Step.{headPiece, headRead}
 use Rattle.record.specs.Pieces.{headWaits}
 use Rattle.record.proofs.Saying.{Stood, SaysHead, head-says, reads-refused, reads-packets}
 use Rattle.record.proofs.InPieces.{last-head, piece-head, head-alone}
 use Rattle.timing.specs.declared.SetUp.{SetUp}
 use Rattle.timing.specs.declared.SetUp.the-variants.{Fresh, Refused as Not-Set-Up}
-use Rattle.timing.specs.Step.{ofParameters, rulesOf, freshOf}
+use Rattle.timing.specs.Step.{ofProfile, rulesOf, freshOf}
 use Rattle.timing.specs.Answers.{setUpAs}
 use Rattle.timing.proofs.InRange.{sound-fresh}
 use Rattle.printer.specs.declared.Opened.{Opened}
 use Rattle.printer.specs.declared.Opened.the-variants.{More as Wanting, Refused as Unopened, Ready as Opens}
-use Rattle.printer.specs.Paper.{linesOf, outputBy, restOf, outputOf}
+use Rattle.printer.specs.Paper.{linesOf, streamOf, outputBy, restOf, outputOf}
 use Rattle.printer.specs.Step.{readyBy, readyOf, headBy, beginOf}
 use Rattle.printer.specs.Drive.{Stands, restFrom}
 
@@ -49,16 +52,19 @@ module _ (w v : List ℕ) (last : Bool) (l : last ≡ true → v ≡ []) where
     nineteen : headBytes ≤ length w
     nineteen = subst (SaysHead w) (sym (head-alone w last (ap headWaits e)) ∙ e) (head-says w) .nineteen
 
-    -- the parameters that it sets up with
-    abbrev numbers : Parameters
-    numbers = resolved (heading version x)
+    -- what it sets up with, and its parameters
+    abbrev stream : StreamNumbers
+    stream = streamOf (heading version kind x)
 
-    fresh-tells : setUpRefusal numbers ≡ 0 → Tells w v (Opens (record { at = c; state = freshOf (ofParameters numbers) }))
+    abbrev numbers : Parameters
+    numbers = stream .parameters
+
+    fresh-tells : setUpRefusal numbers ≡ 0 → Tells w v (Opens (record { at = c; state = freshOf stream }))
     unfolding outputOf restOf
     fresh-tells fine =
-        let rules = rulesOf (ofParameters numbers) in
-        let state = freshOf (ofParameters numbers) in (
-          record { sound = sound-fresh (ofParameters numbers) (in-one numbers ∙ fine); offset = ap (λ (d : Cursor). d .at) (here .next-19) },
+        let rules = rulesOf stream in
+        let state = freshOf stream in (
+          record { sound = sound-fresh stream (in-one numbers ∙ fine); offset = ap (λ (d : Cursor). d .at) (here .next-19) },
           ap outputBy (reads-packets here fine)
               ∙ ap (λ (m : List ℕ). linesOf rules state (packetsIn nothing headBytes m)) (drop-append-le headBytes w v nineteen)
               ∙ ap (λ (d : Cursor). linesOf rules state (packetsIn nothing (d .at) (drop headBytes w ++ v))) (sym (here .next-19)),
@@ -68,7 +74,7 @@ module _ (w v : List ℕ) (last : Bool) (l : last ≡ true → v ≡ []) where
     unfolding outputOf
     refused-tells some = ap outputBy (reads-refused here (setUpRefusal numbers) refl some)
 
-    set-up-tells : Tells w v (readyBy (setUpAs (ofParameters numbers)) c)
+    set-up-tells : Tells w v (readyBy (setUpAs stream) c)
     unfolding setUpAs
     set-up-tells =
         rw (in-one numbers)
@@ -94,9 +100,9 @@ Answered Wanting = ⊥
 Answered (Unopened number offset) = Unit
 Answered (Opens walk) = Unit
 
-ready-answered : (x : Parameters) (c : Cursor) → Answered (readyOf x c)
+ready-answered : (x : FileNumbers) (c : Cursor) → Answered (readyOf x c)
 unfolding readyOf
-ready-answered x c = go (setUpAs (ofParameters x))
+ready-answered x c = go (setUpAs (ofProfile (x .profile) (x .parameters)))
   where
     go : (a : SetUp) → Answered (readyBy a c)
     go (Fresh s) = tt
@@ -107,7 +113,7 @@ unfolding beginOf
 head-answered w last = go (headPiece w last)
   where
     go : (h : Head) → headWaits h ≡ false → Answered (headBy h)
-    go (head.Ready version kind x c) m = ready-answered (resolved (heading version x)) c
+    go (head.Ready version kind x c) m = ready-answered (numbersOf (heading version kind x)) c
     go head.More m = absurd (false-true (sym m))
     go (head.Refused n o) m = tt
 

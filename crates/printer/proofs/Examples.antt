@@ -1,5 +1,5 @@
--- Document 01's own file and its whole output, and the empty file's: the definitions compute to the lines as they are printed there. And a
--- file of class 0 in both versions.
+-- Document 01's own file and its whole output, and the empty file's: the definitions compute to the lines as they are printed there. And the
+-- same file as a compressed stream's, and a file of class 0 in both versions.
 use Rattle.laws.specs.Kit.{_≡_, refl, List, [], _∷_, _++_, ℕ}
 use Prim.Native.String.{String}
 use Rattle.laws.specs.Count.{count}
@@ -7,7 +7,7 @@ use Rattle.laws.specs.Fold.{fold}
 use Rattle.grain.specs.Paper.{nearest, phase, latency}
 use Rattle.limits.specs.Fraction.{int}
 use Rattle.limits.specs.Paper.{strictOn, rateOf, frameLength, activeRatio, classOf, cMax, vrxFull, defaultTro, troGrains, troFits}
-use Rattle.limits.specs.Paper.{firstNo, setUpRefusal, editionRefusal, setUpIn}
+use Rattle.limits.specs.Paper.{firstNo, setUpRefusal, editionRefusal, setUpIn, isProfile, profileOf}
 use Rattle.packet.specs.Step.{refusalOf}
 use Rattle.bucket.specs.Step as B
 use Rattle.frame.specs.Step as F
@@ -20,9 +20,9 @@ use Rattle.timing.specs.Range.{inRange}
 use Rattle.timing.specs.Step.{rulesOf, arriveOf, markOf, stepOf, rowsAfter}
 use Rattle.printer.specs.Paper.{rowLines, outputOf}
 
--- the version byte, parameters 6, 0, 1, height 1080, n 4, 1460, default TRO
-abbrev head : List ℕ
-head = 1 ∷ 0 ∷ 16 ∷ 1 ∷ 6 ∷ 0 ∷ 1 ∷ 4 ∷ 56 ∷ 0 ∷ 0 ∷ 0 ∷ 4 ∷ 5 ∷ 180 ∷ 255 ∷ 255 ∷ 255 ∷ 255 ∷ []
+-- the version byte, and in a record of a kind the parameters 6, 0, 1, height 1080, n 4, 1460, default TRO
+abbrev head : ℕ → List ℕ
+head kind = 1 ∷ 0 ∷ 16 ∷ kind ∷ 6 ∷ 0 ∷ 1 ∷ 4 ∷ 56 ∷ 0 ∷ 0 ∷ 0 ∷ 4 ∷ 5 ∷ 180 ∷ 255 ∷ 255 ∷ 255 ∷ 255 ∷ []
 
 -- five packets: 19000000 0 1; 20700000 1800 0; 25500000 1800 0; 30300000 1800 0; 35100000 1800 1
 abbrev packets : List ℕ
@@ -35,13 +35,22 @@ packets =
     ∷ []
 
 -- L5: the whole output, computed from the bytes of the file
-pub file-output : outputOf (head ++ packets)
+pub file-output : outputOf (head 1 ++ packets)
     ≡ codes "frame 0 0 0 18900000 0 18900000 1740000 45900000 1 0 1\npackets 5 frames 1 peak 2 network pass buffer pass\n"
 unfolding outputOf rowLines rowLine fields digitsOf summaryLine refusalLine setUpIn editionRefusal setUpRefusal firstNo troFits
     rateOf frameLength activeRatio classOf cMax vrxFull int troGrains defaultTro nearest phase latency count fold rulesOf arriveOf markOf
-    stepOf rowsAfter B.stepOf F.openedOf F.countedOf F.kindOf F.wholeRow F.rowOf F.answerOf F.joined F.arriveOf F.closeOf F.rowsOf
-    readingOf packetsBy formatRefusal versionKnown classIn isParameters kindLength numberOf refusalOf verdictOf inRange
+    stepOf rowsAfter B.stepOf F.openedOf F.countedOf F.kindOf F.wholeRow F.rowOf F.judgedOf F.answerOf F.joined F.arriveOf F.closeOf F.rowsOf
+    readingOf packetsBy formatRefusal versionKnown classIn isProfile profileOf isParameters kindLength numberOf refusalOf verdictOf inRange
 file-output = refl
+
+-- V13, F14: and of the same file with its parameters in a record of kind 3
+pub compressed-output : outputOf (head 3 ++ packets)
+    ≡ codes "frame 0 0 0 18900000 0 18900000 1740000 45900000 0 0 1\npackets 5 frames 1 peak 2 network pass buffer none\n"
+unfolding outputOf rowLines rowLine fields digitsOf summaryLine refusalLine setUpIn editionRefusal setUpRefusal firstNo troFits
+    rateOf frameLength activeRatio classOf cMax vrxFull int troGrains defaultTro nearest phase latency count fold rulesOf arriveOf markOf
+    stepOf rowsAfter B.stepOf F.openedOf F.tickedOf F.kindOf F.wholeRow F.rowOf F.answerOf F.joined F.arriveOf F.closeOf F.rowsOf
+    readingOf packetsBy formatRefusal versionKnown classIn isProfile profileOf isParameters kindLength numberOf refusalOf verdictOf inRange
+compressed-output = refl
 
 -- a frame sent at once, with class 0: what follows the version byte of examples/class-0-version-1.rec and -2.rec
 abbrev at-once : List ℕ
@@ -63,8 +72,8 @@ told network =
 pub wide-then-strict : (outputOf (1 ∷ at-once) ≡ told "pass") × (outputOf (2 ∷ at-once) ≡ told "burst 0 4")
 unfolding outputOf rowLines rowLine fields digitsOf summaryLine refusalLine setUpIn editionRefusal setUpRefusal firstNo troFits
     rateOf frameLength activeRatio strictOn classOf cMax vrxFull int troGrains defaultTro nearest phase latency count fold rulesOf arriveOf markOf
-    stepOf rowsAfter B.stepOf F.openedOf F.countedOf F.kindOf F.wholeRow F.rowOf F.answerOf F.joined F.arriveOf F.closeOf F.rowsOf
-    readingOf packetsBy formatRefusal versionKnown classIn isParameters kindLength numberOf refusalOf verdictOf inRange
+    stepOf rowsAfter B.stepOf F.openedOf F.countedOf F.kindOf F.wholeRow F.rowOf F.judgedOf F.answerOf F.joined F.arriveOf F.closeOf F.rowsOf
+    readingOf packetsBy formatRefusal versionKnown classIn isProfile profileOf isParameters kindLength numberOf refusalOf verdictOf inRange
 wide-then-strict = (refl, refl)
 
 pub empty-output : outputOf [] ≡ codes "refused 20 0\n"

@@ -3,12 +3,13 @@ use Rattle.laws.specs.Kit.{_≡_, refl, sym, ap, subst, _∙_, Bool, List, ℕ,
 use Rattle.laws.proofs.Choose.{pick-either}
 use Rattle.packet.specs.Step.{numberOf}
 use Rattle.record.specs.declared.Cursor.{Cursor}
-use Rattle.limits.specs.declared.Parameters.{Parameters}
 use Rattle.record.specs.declared.Next.{Next}
 use Rattle.record.specs.declared.Next.the-variants.{Packet, End, More, Refused}
 use Rattle.record.specs.declared.Head.{Head}
 use Rattle.record.specs.declared.Head.the-variants as head
-use Rattle.record.specs.Paper.{heading, resolved, packetBytes, headBytes}
+use Rattle.record.specs.declared.FileNumbers.{FileNumbers}
+use Rattle.record.specs.Paper.{heading, packetBytes, headBytes}
+use Rattle.record.specs.Walk.{numbersOf}
 use Rattle.text.specs.Lines.{lineRoom}
 use Rattle.record.specs.Step.{headPiece, nextPiece}
 use Rattle.record.specs.Pieces.{headWaits}
@@ -17,7 +18,7 @@ use Rattle.record.proofs.InPieces.{head-alone}
 use Rattle.timing.specs.declared.Rules.{Rules}
 use Rattle.timing.specs.declared.SetUp.{SetUp}
 use Rattle.timing.specs.declared.SetUp.the-variants.{Fresh, Refused as Not-Set-Up}
-use Rattle.timing.specs.Step.{ofParameters, rulesOf}
+use Rattle.timing.specs.Step.{ofProfile, rulesOf}
 use Rattle.timing.specs.Range.{inRange}
 use Rattle.timing.specs.Answers.{setUpAs}
 use Rattle.printer.specs.declared.Walk.{Walk}
@@ -60,9 +61,9 @@ take-inside walk w last room =
 
 -- a walk begins where the window shows the version byte and the parameters
 
-ready-headed : (x : Parameters) (c : Cursor) (bytes : ℕ) → headBytes ≤ bytes → Headed (readyOf x c) bytes
+ready-headed : (x : FileNumbers) (c : Cursor) (bytes : ℕ) → headBytes ≤ bytes → Headed (readyOf x c) bytes
 unfolding readyOf
-ready-headed x c bytes h = go (setUpAs (ofParameters x))
+ready-headed x c bytes h = go (setUpAs (ofProfile (x .profile) (x .parameters)))
   where
     go : (a : SetUp) → Headed (readyBy a c) bytes
     go (Fresh s) = h
@@ -75,6 +76,6 @@ begin-headed w last = go (headPiece w last) refl
     go : (h : Head) → headPiece w last ≡ h → Headed (headBy h) (length w)
     go (head.Ready version kind x c) e =
         let alone = sym (head-alone w last (ap headWaits e)) ∙ e in
-        ready-headed (resolved (heading version x)) c (length w) (subst (SaysHead w) alone (head-says w) .nineteen)
+        ready-headed (numbersOf (heading version kind x)) c (length w) (subst (SaysHead w) alone (head-says w) .nineteen)
     go head.More e = tt
     go (head.Refused n o) e = tt

@@ -4,12 +4,13 @@ use Rattle.laws.specs.Kit.{_≡_, refl, sym, ap, subst, _∙_, _⊎_, Bool, tru
 use Rattle.laws.specs.Kit.{arith, length, drop, getD, length-drop}
 use Rattle.laws.specs.Choose.{pick}
 use Rattle.record.specs.declared.Next.the-variants.{More}
-use Rattle.record.specs.Paper.{headBytes, Heading, resolved, heading}
+use Rattle.record.specs.Paper.{headBytes, Heading, resolved, heading, isParameters}
 use Rattle.record.specs.Step.{nextPiece}
 use Rattle.record.proofs.InPieces.{last-answers, window-suffices}
 use Rattle.text.specs.Lines.{lineRoom, summaryLine, refusalLine}
 use Rattle.timing.specs.declared.State.{State}
-use Rattle.timing.specs.Step.{rulesOf, ofParameters, freshOf}
+use Rattle.timing.specs.Step.{rulesOf, ofProfile, freshOf}
+use Rattle.limits.specs.Paper.{profileOf}
 use Rattle.timing.specs.Answers.{answersOf, verdictOf}
 use Rattle.timing.specs.Range.{Sound}
 use Rattle.timing.proofs.InRange.{of-sound}
@@ -162,16 +163,18 @@ file-printed file = go (beginOf file true) refl (begin-tells file [] true (λ e.
         (subst (Drives walk (drop headBytes file ++ [])) (sym (output ∙ u .1)) (rest-driven walk (drop headBytes file ++ []) (u .0)))
 
 -- F11: two files that set up alike print the same, whatever bytes follow their heads
-pub outputs-alike : (h k : Heading) → resolved h ≡ resolved k → (l : List ℕ) → Held h → Held k
+pub outputs-alike : (h k : Heading) → resolved h ≡ resolved k → h .kind ≡ k .kind → (l : List ℕ) → Held h → Held k
     → outputOf (headOf h ++ l) ≡ outputOf (headOf k ++ l)
 unfolding outputOf
-outputs-alike h k e l =
+outputs-alike h k e q l =
     read-alike h k e outputBy
-    (λ r. ap (λ (p : Parameters). linesOf (rulesOf (ofParameters p)) (freshOf (ofParameters p)) r) e) l
+    (λ r. ap (λ (p : Parameters). linesOf (rulesOf (ofProfile (profileOf (h .kind)) p)) (freshOf (ofProfile (profileOf (h .kind)) p)) r) e
+    ∙ ap (λ (kind : ℕ). linesOf (rulesOf (ofProfile (profileOf kind) (resolved k))) (freshOf (ofProfile (profileOf kind) (resolved k))) r) q) l
 
 -- F11: so a file of version 1 prints what that of version 2 prints whose class 0 is written as 3
-pub first-printed : (p : Parameters) (l : List ℕ) → ParametersHeld p
-    → outputOf (headOf (heading 1 p) ++ l) ≡ outputOf (headOf (heading 2 (resolved (heading 1 p))) ++ l)
-first-printed p l held =
-    let q = resolved (heading 1 p) in
-    outputs-alike (heading 1 p) (heading 2 q) (sym (second-kept q)) l (first-held p held) (second-held p held)
+pub first-printed : (kind : ℕ) (p : Parameters) (l : List ℕ) → isParameters kind ≡ true → ParametersHeld p
+    → outputOf (headOf (heading 1 kind p) ++ l) ≡ outputOf (headOf (heading 2 kind (resolved (heading 1 kind p))) ++ l)
+first-printed kind p l holds held =
+    let q = resolved (heading 1 kind p) in
+    outputs-alike (heading 1 kind p) (heading 2 kind q) (sym (second-kept kind q)) refl l (first-held kind p holds held)
+    (second-held kind p holds held)

@@ -2,13 +2,15 @@
 use Rattle.laws.specs.Kit.{List, [], _∷_, _++_, ℕ}
 use Rattle.frame.specs.declared.Row.{Row}
 use Rattle.text.specs.Lines.{rowLine, summaryLine, refusalLine}
-use Rattle.record.specs.Paper.{resolved, Ending, done, stopped, Packets, packetsIn, Reading, unread, read, readingOf}
+use Rattle.record.specs.Paper.{Heading, resolved, Ending, done, stopped, Packets, packetsIn, Reading, unread, read, readingOf}
 use Rattle.timing.specs.declared.Rules.{Rules}
 use Rattle.timing.specs.declared.State.{State}
 use Rattle.timing.specs.declared.Judged.{Judged}
 use Rattle.timing.specs.declared.Judged.the-variants.{Given, Refused as Not-Judged}
 use Rattle.timing.specs.Answers.{verdictOf}
-use Rattle.timing.specs.Step.{ofParameters, rulesOf, freshOf, stateAfter, rowsAfter}
+use Rattle.limits.specs.Paper.{profileOf}
+use Rattle.timing.specs.declared.StreamNumbers.{StreamNumbers}
+use Rattle.timing.specs.Step.{ofProfile, rulesOf, freshOf, stateAfter, rowsAfter}
 
 -- L2: "It prints `frame` and the ten numbers of each row as it closes"
 unfoldable pub rowLines : List Row → List ℕ
@@ -37,9 +39,13 @@ linesOf rules s r = rowLines (rowsAfter rules s (r .accepted)) ++ lastLine (stat
 unfoldable pub restOf : Rules → State → ℕ → List ℕ → List ℕ
 restOf rules s at l = linesOf rules s (packetsIn (s .past) at l)
 
+-- F11, F14: the stream numbers that a file sets up with, its profile among them; "`vtiming` [..] mean[s] edition 1"
+abbrev pub streamOf : Heading → StreamNumbers
+streamOf h = ofProfile (profileOf (h .kind)) (resolved h)
+
 abbrev pub outputBy : Reading → List ℕ
 outputBy (unread number offset) = refusalLine number offset
-outputBy (read h r) = linesOf (rulesOf (ofParameters (resolved h))) (freshOf (ofParameters (resolved h))) r
+outputBy (read h r) = linesOf (rulesOf (streamOf h)) (freshOf (streamOf h)) r
 
 -- L1: "`vtiming` reads a file on standard input": its whole output
 unfoldable pub outputOf : List ℕ → List ℕ

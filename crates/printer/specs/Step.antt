@@ -5,19 +5,20 @@ use Rattle.packet.specs.declared.Packet as packet
 use Rattle.packet.specs.Step.{numberOf}
 use Rattle.text.specs.Lines.{refusalLine, lineRoom}
 use Rattle.record.specs.declared.Cursor.{Cursor}
-use Rattle.limits.specs.declared.Parameters.{Parameters}
+use Rattle.record.specs.declared.FileNumbers.{FileNumbers}
 use Rattle.record.specs.declared.Head.{Head}
 use Rattle.record.specs.declared.Head.the-variants as head
 use Rattle.record.specs.declared.Next.{Next}
 use Rattle.record.specs.declared.Next.the-variants.{Packet, End, More, Refused}
-use Rattle.record.specs.Paper.{packetBytes, headBytes, heading, resolved}
+use Rattle.record.specs.Paper.{packetBytes, headBytes, heading}
+use Rattle.record.specs.Walk.{numbersOf}
 use Rattle.record.specs.Step.{headPiece, nextPiece}
 use Rattle.record.specs.Pieces.{wantsMore}
 use Rattle.timing.specs.declared.Rules.{Rules}
 use Rattle.timing.specs.declared.State.{State}
 use Rattle.timing.specs.declared.SetUp.{SetUp}
 use Rattle.timing.specs.declared.SetUp.the-variants.{Fresh, Refused as Not-Set-Up}
-use Rattle.timing.specs.Step.{ofParameters, rulesOf, stepOf, rowsOf}
+use Rattle.timing.specs.Step.{ofProfile, rulesOf, stepOf, rowsOf}
 use Rattle.timing.specs.Range.{inRange}
 use Rattle.timing.specs.Feed.{MakeAsks}
 use Rattle.timing.specs.Answers.{setUpAs}
@@ -33,11 +34,11 @@ abbrev pub readyBy : SetUp → Cursor → Opened
 readyBy (Fresh s) c = Opens (record { at = c; state = s })
 readyBy (Not-Set-Up number) c = Unopened number 1
 
-unfoldable pub readyOf : Parameters → Cursor → Opened
-readyOf x c = readyBy (setUpAs (ofParameters x)) c
+unfoldable pub readyOf : FileNumbers → Cursor → Opened
+readyOf x c = readyBy (setUpAs (ofProfile (x .profile) (x .parameters))) c
 
 abbrev pub headBy : Head → Opened
-headBy (head.Ready version kind x c) = readyOf (resolved (heading version x)) c
+headBy (head.Ready version kind x c) = readyOf (numbersOf (heading version kind x)) c
 headBy head.More = Wanting
 headBy (head.Refused number offset) = Unopened number offset
 

@@ -10,8 +10,8 @@ ghost use Rattle.timing.specs.Feed.{closing, Going};
 ghost use Rattle.printer.specs.Paper.{rowLines, sumLine};
 ghost use Rattle.printer.specs.Step.{readyOf, beginOf, lineOf, stopsAt, walkOf, takeOf, CloseAsks, TakeGives};
 use limits::FIRST_EDITION;
-use limits::Parameters;
 use record::Cursor;
+use record::FileNumbers;
 use record::Head;
 use record::Next;
 use record::PACKET_BYTES;
@@ -44,14 +44,16 @@ pub struct TakeAnswer {
     pub ended: bool,
 }
 
-// The parameters that a file sets up with; they stand at offset 1, and so does what set-up refuses. A file carries no edition, and the
-// first is meant.
-fn ready(numbers: Parameters, next: Cursor) -> Opened
+// What a file sets up with; it stands at offset 1, and so does what set-up refuses. A file carries no edition, and the first is meant.
+fn ready(numbers: FileNumbers, next: Cursor) -> Opened
     ensures { λ r. ⌜ r ≡ readyOf numbers next ⌝ }
 {
+    let parameters = numbers.parameters;
+    let profile = numbers.profile;
     let stream = StreamNumbers {
-        parameters: numbers,
+        parameters,
         edition: FIRST_EDITION,
+        profile,
     };
     match stream.set_up() {
         SetUp::Fresh(state) => Opened::Ready(Walk { at: next, state }),
@@ -70,10 +72,10 @@ pub fn begin(window: &[u8], last: bool) -> Opened
     match head {
         Head::Ready {
             version,
-            kind: _,
+            kind,
             parameters,
             next,
-        } => ready(record::resolved(version, parameters), next),
+        } => ready(record::set_with(version, kind, parameters), next),
         Head::More => Opened::More,
         Head::Refused { number, offset } => Opened::Refused {
             number: number,

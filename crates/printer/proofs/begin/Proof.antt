@@ -1,6 +1,6 @@
 -- By the head that was read.
 use Rattle.laws.specs.Kit.{_≡_, ap, _∙_}
-use Rattle.limits.specs.declared.Parameters.{Parameters}
+use Rattle.record.specs.declared.FileNumbers.{FileNumbers}
 use Rattle.record.specs.declared.Cursor.{Cursor}
 use Rattle.printer.specs.Step.{readyOf}
 use Rattle.printer.proofs.Answers.{begins}
@@ -8,8 +8,8 @@ use borrow.Author.Needs.{needs}
 use Rattle.printer.proofs.begin.Statement.{statement}
 use Rattle.printer.proofs.begin.Tie as tie
 
-ready-alike : {x y : Parameters} (c : Cursor) → x ≡ y → readyOf x c ≡ readyOf y c
-ready-alike c e = ap (λ (x : Parameters). readyOf x c) e
+ready-alike : {x y : FileNumbers} (c : Cursor) → x ≡ y → readyOf x c ≡ readyOf y c
+ready-alike c e = ap (λ (x : FileNumbers). readyOf x c) e
 
 read-head-requires : tie.Need-read-head-requires
 read-head-requires c κs = search needs
@@ -17,8 +17,8 @@ read-head-requires c κs = search needs
 enum-known-head : tie.Need-enum-known-head
 enum-known-head c = search needs
 
-resolved-requires : tie.Need-resolved-requires
-resolved-requires c κs = search needs
+set-with-requires : tie.Need-set-with-requires
+set-with-requires c κs = search needs
 
 ready-requires : tie.Need-ready-requires
 ready-requires c κs = search needs
@@ -33,7 +33,7 @@ returns : tie.Need-returns
 returns c =
     let told = c .before .before in
     c .ready .ensures
-    ∙ ready-alike _ (c .before .resolved .ensures)
+    ∙ ready-alike _ (c .before .set-with .ensures)
     ∙ begins _ _ (told .before .before .before .read-head .ensures) (told .before .head .given .1)
 
 returns-2 : tie.Need-returns-2
@@ -48,7 +48,7 @@ begin-spec =
     (tie.spec
     read-head-requires
     enum-known-head
-    resolved-requires
+    set-with-requires
     ready-requires
     enum-told
     enum-known-head-2
