@@ -1,6 +1,6 @@
 -- What set-up refuses where it is told an edition too: 1 to 7 as without one, and 8 exactly where none of these is given and the edition is
 -- neither 1 nor 2. By the two numbers, of which the first goes before.
-use Rattle.laws.specs.Kit.{_≡_, sym, _∙_, _↔_, Bool, true, List, [], _∷_, ℕ, suc, _+_, _≤_, _<_, arith, length, leb, le-leb, leb-true}
+use Rattle.laws.specs.Kit.{_≡_, sym, _∙_, _↔_, Bool, true, List, [], _∷_, ℕ, suc, _+_, _≤_, _<_, arith, length, eqb, leb, le-leb, leb-true}
 use Rattle.laws.specs.Kit.{ℕ-discrete}
 use Rattle.laws.specs.Choose.{orElse}
 use Rattle.laws.proofs.Choose.{pick-either, neither, second, before}
@@ -61,6 +61,13 @@ module _ (p : Parameters) (edition : ℕ) where
   pub in-both : {a b : ℕ} → a ≡ setUpRefusal p → b ≡ editionRefusal edition → orElse a b ≡ setUpIn p edition
   unfolding setUpIn
   in-both e f = rw (e, f)
+
+  -- N2: set-up refuses by 1 to 8
+  pub at-most-8 : setUpIn p edition ≤ 8
+  unfolding setUpIn editionRefusal
+  at-most-8 =
+      pick-either (λ n. n ≤ 8) (eqb (setUpRefusal p) 0)
+      (λ e. pick-either (λ n. n ≤ 8) (within 1 2 edition) (λ t. omega arith) (λ t. omega arith)) (λ e. omega (arith, at-most-7 p))
 
   -- S11: an edition that there is leaves set-up what it was
   pub in-known : KnownEdition edition → setUpIn p edition ≡ setUpRefusal p

@@ -1,13 +1,13 @@
 -- The ways out of set-up and of a call, one law each, from what the code has found.
 use Rattle.laws.specs.Kit.{_≡_, refl, sym, ap, _∙_, List, ℕ, _≤_, _<_, arith, ℤ, length, take, length-take, sets, ne-eqb, le-leb, lt-leb}
-use Rattle.timing.specs.declared.StreamNumbers.{StreamNumbers}
+use Rattle.laws.proofs.Choose.{second, before}
+use Rattle.timing.specs.declared.Stated.{Stated}
 use Rattle.timing.specs.declared.State.{State}
 use Rattle.timing.specs.declared.Fed.{Fed}
 use Rattle.timing.specs.declared.Fed.the-variants.{Accepted, Refused}
-use Rattle.timing.specs.Step.{setUpOf, freshOf}
+use Rattle.timing.specs.Step.{statedOf, statedRefusal, freshOf}
 use Rattle.timing.specs.Answers.{summaryWidth, summaryOf}
 use Rattle.timing.specs.Feed.{feedOf, FeedGives}
-use Rattle.timing.proofs.Answering.{set-up-first, room-short, room-there}
 use Rattle.timing.proofs.Feeding.{refused-stays}
 use Rattle.probe.specs.declared.Answer.{Answer}
 use Rattle.probe.specs.declared.Held.{Held}
@@ -19,24 +19,28 @@ use Rattle.probe.proofs.Asking.{by-lengths}
 
 -- ---- set-up
 
-module _ (x : StreamNumbers) (words : List ℕ) where
+module _ (x : Stated) (words : List ℕ) where
   by-number : (n : ℕ) → wordsNumber x (length words) ≡ n → 0 < n → SetUpGives x words n words
   unfolding setUpLeft
   by-number n e p = record { number-is = sym e; words-are = sym (rw (e, ne-eqb n 0 (λ z. omega arith))) }
 
-  pub not-set-up : (n : ℕ) → setUpOf x ≡ n → 0 < n → SetUpGives x words n words
+  pub not-set-up : (n : ℕ) → statedRefusal x ≡ n → 0 < n → SetUpGives x words n words
   unfolding wordsNumber
-  not-set-up n e p = by-number n (set-up-first x stateWords (length words) e p) p
+  not-set-up n e p = by-number n (before _ _ (omega (arith, e)) ∙ e) p
 
-  pub no-room : setUpOf x ≡ 0 → length words < stateWords → SetUpGives x words 15 words
+  pub no-room : statedRefusal x ≡ 0 → length words < stateWords → SetUpGives x words 15 words
   unfolding wordsNumber
-  no-room e h = by-number 15 (room-short x stateWords (length words) e h) (omega arith)
+  no-room e h = by-number 15 (second _ _ e ∙ rw (lt-leb stateWords (length words) h)) (omega arith)
 
-  pub set-up : {s : State} {after : List ℕ} → setUpOf x ≡ 0 → stateWords ≤ length words → s ≡ freshOf x → after ≡ sets words 0 (wordsOf s)
+  pub words-fit : statedRefusal x ≡ 0 → stateWords ≤ length words → wordsNumber x (length words) ≡ 0
+  unfolding wordsNumber
+  words-fit e h = second _ _ e ∙ rw (le-leb stateWords (length words) h)
+
+  pub set-up : {s : State} {after : List ℕ} → statedRefusal x ≡ 0 → stateWords ≤ length words → s ≡ freshOf (statedOf x) → after ≡ sets words 0 (wordsOf s)
       → SetUpGives x words 0 after
-  unfolding wordsNumber setUpLeft
+  unfolding setUpLeft
   set-up e h f g =
-      let fine : wordsNumber x (length words) ≡ 0 = room-there x stateWords (length words) e h in
+      let fine : wordsNumber x (length words) ≡ 0 = words-fit e h in
       record { number-is = sym fine; words-are = g ∙ ap (λ (t : State). sets words 0 (wordsOf t)) f ∙ sym (rw fine) }
 
 -- ---- a call

@@ -4,9 +4,11 @@ use Rattle.laws.specs.Kit.{_≡_, sym, ap, _∙_, subst, Bool, true, false, Lis
 use Rattle.laws.specs.Kit.{take-at}
 use Rattle.laws.specs.Choose.{pick}
 use Rattle.laws.specs.Fold.{fold}
+use Rattle.laws.proofs.Choose.{pick-either}
 use Rattle.laws.proofs.Lay.{sets-front}
 use Rattle.packet.specs.declared.Packet.{Packet}
 use Rattle.packet.specs.Paper.{marked}
+use Rattle.frame.specs.declared.Frame.{Frame}
 use Rattle.frame.specs.Step as F
 use Rattle.timing.specs.declared.StreamNumbers.{StreamNumbers}
 use Rattle.limits.specs.Steps.{ParametersHeld}
@@ -23,7 +25,7 @@ use Rattle.probe.proofs.RoundTrip.{Narrow, length-words, words-hold}
 
 stamp-step : (rules : Rules) (s : State) (p : Packet) → p .stamp < 4294967296 → s .frames .current .stamp < 4294967296
     → stepOf rules s p .frames .current .stamp < 4294967296
-unfolding stepOf arriveOf markOf F.arriveOf F.closeOf F.openedOf F.countedOf
+unfolding stepOf arriveOf markOf F.arriveOf F.closeOf F.openedOf F.countedOf F.tickedOf
 stamp-step rules s p h k = go (marked p)
   where
     opened : (b : Bool) → pick b (p .stamp) (s .frames .current .stamp) < 4294967296
@@ -33,7 +35,9 @@ stamp-step rules s p h k = go (marked p)
     pushed : (b : Bool)
         → pick b (F.pushOf (rules .plan) (s .frames .current) (goneOf s (p .time)) (p .time) (p .stamp)) (s .frames .current) .stamp
         < 4294967296
-    pushed true = opened (eqb (s .frames .current .held) 0)
+    pushed true =
+        pick-either (λ (f : Frame). f .stamp < 4294967296) (rules .plan .buffered) (λ e. opened (eqb (s .frames .current .held) 0))
+        (λ e. opened (eqb (s .frames .current .held) 0))
     pushed false = k
 
     go : (b : Bool) → pick b (markOf rules (arriveOf rules s (p .time) (p .stamp)) (p .time)) (arriveOf rules s (p .time) (p .stamp))

@@ -6,14 +6,15 @@ use Rattle.packet.specs.Paper.{packets}
 use Rattle.limits.specs.Steps.{ParametersHeld}
 use Rattle.limits.proofs.Editions.{in-fine}
 use Rattle.timing.specs.declared.StreamNumbers.{StreamNumbers}
+use Rattle.timing.specs.declared.Stated.{Stated}
 use Rattle.timing.specs.declared.State.{State}
 use Rattle.timing.specs.declared.Fed.{Fed}
 use Rattle.timing.specs.declared.Fed.the-variants.{Accepted, Refused}
-use Rattle.timing.specs.Step.{setUpOf, rulesOf, freshOf, numbers}
+use Rattle.timing.specs.Step.{setUpOf, statedOf, statedAs, statedRefusal, rulesOf, freshOf, numbers}
 use Rattle.timing.specs.History.{AcceptedHistory, reached, rowsOfAll}
 use Rattle.timing.specs.Answers.{summaryWidth, fedNumber, fedPlace}
 use Rattle.timing.specs.Feed.{Outcome, feedOf, allOf, writes, Deals, none, call, Rooms}
-use Rattle.timing.proofs.Answering.{room-there}
+use Rattle.timing.proofs.Stating.{stated-back, stated-as, stated-fine}
 use Rattle.timing.proofs.Feeding.{accepted-from, feed-slices}
 use Rattle.timing.proofs.Accepting.{dealt}
 use Rattle.probe.specs.declared.Held.{Held}
@@ -22,7 +23,7 @@ use Rattle.probe.specs.Words.{stateWords, heldBy, Holds, HoldNone}
 use Rattle.probe.specs.Calls.{wordsNumber, setUpLeft, CallOutcome, refused, accepted, byFed, byHeld, callOf, Unchanged}
 use Rattle.probe.specs.Dealt.{Lent, lentPackets, asCall, AllWhole, told, Dealt, no-call, one-call}
 use Rattle.probe.proofs.RoundTrip.{Narrow}
-use Rattle.probe.proofs.Calls.{enough-words}
+use Rattle.probe.proofs.Calls.{words-fit, enough-words}
 use Rattle.probe.proofs.Carrying.{narrow-after, laid-hold}
 
 -- ---- set-up
@@ -33,12 +34,12 @@ narrow-fresh x f e =
     record { numbers = f; edition = omega (arith, in-fine (x .parameters) (x .edition) e .1 .1); stamp = omega arith }
 
 -- the words that set-up leaves hold the fresh state
-pub set-up-holds : (x : StreamNumbers) (words : List ℕ) → ParametersHeld (x .parameters) → setUpOf x ≡ 0 → stateWords ≤ length words
-    → (wordsNumber x (length words) ≡ 0) × Holds (setUpLeft x words) (freshOf x)
-unfolding wordsNumber setUpLeft
+pub set-up-holds : (x : Stated) (words : List ℕ) → ParametersHeld (x .parameters) → statedRefusal x ≡ 0 → stateWords ≤ length words
+    → (wordsNumber x (length words) ≡ 0) × Holds (setUpLeft x words) (freshOf (statedOf x))
+unfolding setUpLeft
 set-up-holds x words f e h =
-    let fine : wordsNumber x (length words) ≡ 0 = room-there x stateWords (length words) e h in
-    let fresh = laid-hold words (freshOf x) h (narrow-fresh x f e) in
+    let fine : wordsNumber x (length words) ≡ 0 = words-fit x words e h in
+    let fresh = laid-hold words (freshOf (statedOf x)) h (narrow-fresh (statedOf x) f (stated-fine x e .1)) in
     (fine, rw fine fresh)
 
 -- ---- one call
@@ -112,8 +113,9 @@ carried (c ∷ cs) s t words written (call {t = mid} {more = more} g rest) w f e
 -- its state
 pub dealt-over-c-calls : (h : AcceptedHistory) → ParametersHeld (h .stream .parameters) → (words : List ℕ) → stateWords ≤ length words
     → (cs : List Lent) → AllWhole cs → allOf (map asCall cs) ≡ h .packets → Rooms (freshOf (h .stream)) (map asCall cs)
-    → (end : List ℕ) × Dealt (setUpLeft (h .stream) words) cs end (numbers (rowsOfAll h)) × Holds end (reached h)
+    → (end : List ℕ) × Dealt (setUpLeft (statedAs (h .stream)) words) cs end (numbers (rowsOfAll h)) × Holds end (reached h)
 dealt-over-c-calls h f words enough cs w all room =
-    let begun = set-up-holds (h .stream) words f (h .set-up) enough in
-    carried cs (freshOf (h .stream)) _ (setUpLeft (h .stream) words) _ (dealt h (map asCall cs) all room) w
-    (narrow-fresh (h .stream) f (h .set-up)) (begun .1)
+    let begun = set-up-holds (statedAs (h .stream)) words f (stated-as (h .stream) ∙ h .set-up) enough in
+    carried cs (freshOf (h .stream)) _ (setUpLeft (statedAs (h .stream)) words) _ (dealt h (map asCall cs) all room) w
+    (narrow-fresh (h .stream) f (h .set-up))
+    (begun .1 ∙ ap (λ (x : StreamNumbers). Known (freshOf x)) (stated-back (h .stream)))

@@ -11,7 +11,9 @@ use Rattle.frame.specs.Paper.{bufferNumber, bufferFrame, bufferPlace}
 use Rattle.timing.specs.declared.State.{State}
 use Rattle.laws.specs.Every.{flag}
 use Rattle.limits.specs.declared.Parameters.{Parameters}
-use Rattle.limits.specs.Paper.{given}
+use Rattle.limits.specs.declared.Profile.{Profile}
+use Rattle.limits.specs.declared.Profile.the-variants.{Video, Compressed}
+use Rattle.limits.specs.Paper.{profileKind, profileOf, given}
 use Rattle.limits.specs.Steps.{ParametersHeld}
 use Rattle.probe.specs.declared.Held.the-variants.{Known, Nothing}
 use Rattle.probe.specs.Words.{stateWords, wordsOf, networkIn, bufferIn, stateIn, same, heldBy}
@@ -62,6 +64,11 @@ buffer-again (Under p) = refl
 buffer-again (Over p) = refl
 buffer-again (Broken b) = refl
 
+profile-again : (p : Profile) → profileOf (profileKind p % 256) ≡ p
+unfolding profileOf
+profile-again Video = refl
+profile-again Compressed = refl
+
 flag-again : (b : Bool) → eqb (flag b) 1 ≡ b
 flag-again true = refl
 flag-again false = refl
@@ -87,6 +94,7 @@ read-again s f =
     rw (
       numbers-again (s .numbers .parameters) (f .numbers),
       mod-eq-of-lt (f .edition),
+      profile-again (s .numbers .profile),
       mod-eq-of-lt (f .stamp),
       network-again (s .bucket .network),
       buffer-again (s .frames .buffer),

@@ -1,12 +1,12 @@
 -- The C functions over a state in words: the number that comes back, its place, and what the lent slices hold then.
 use Rattle.laws.specs.Kit.{_≡_, List, ℕ, leb, eqb, ℤ, pos, length, take, replicate, sets}
 use Rattle.laws.specs.Choose.{pick, orElse}
-use Rattle.timing.specs.declared.StreamNumbers.{StreamNumbers}
+use Rattle.timing.specs.declared.Stated.{Stated}
 use Rattle.timing.specs.declared.State.{State}
 use Rattle.timing.specs.declared.Fed.{Fed}
 use Rattle.timing.specs.declared.Fed.the-variants.{Accepted, Refused}
-use Rattle.timing.specs.Step.{freshOf}
-use Rattle.timing.specs.Answers.{summaryWidth, setUpAs, setUpNumber, summaryWith, summaryOf}
+use Rattle.timing.specs.Step.{statedOf, statedRefusal, freshOf}
+use Rattle.timing.specs.Answers.{summaryWidth, summaryWith, summaryOf}
 use Rattle.timing.specs.Feed.{feedOf}
 use Rattle.probe.specs.declared.Answer.{Answer}
 use Rattle.probe.specs.declared.Held.{Held}
@@ -15,16 +15,16 @@ use Rattle.probe.specs.Words.{stateWords, wordsOf, heldBy}
 
 -- ---- set-up
 
--- X8: 1 to 8; then 15 where fewer words are lent than a state is
-unfoldable pub wordsNumber : StreamNumbers → ℕ → ℕ
-wordsNumber x room = orElse (setUpNumber (setUpAs x)) (pick (leb stateWords room) 0 15)
+-- X8, S12: 22 for a kind that chooses no profile, 1 to 8; then 15 where fewer words are lent than a state is
+unfoldable pub wordsNumber : Stated → ℕ → ℕ
+wordsNumber x room = orElse (statedRefusal x) (pick (leb stateWords room) 0 15)
 
 -- accepted, the fresh state's words in front
-unfoldable pub setUpLeft : StreamNumbers → List ℕ → List ℕ
+unfoldable pub setUpLeft : Stated → List ℕ → List ℕ
 unfolding wordsNumber wordsOf
-setUpLeft x words = pick (eqb (wordsNumber x (length words)) 0) (sets words 0 (wordsOf (freshOf x))) words
+setUpLeft x words = pick (eqb (wordsNumber x (length words)) 0) (sets words 0 (wordsOf (freshOf (statedOf x)))) words
 
-pub record SetUpGives (x : StreamNumbers) (words : List ℕ) (number : ℕ) (after : List ℕ) : Type 0 where
+pub record SetUpGives (x : Stated) (words : List ℕ) (number : ℕ) (after : List ℕ) : Type 0 where
   pub number-is : number ≡ wordsNumber x (length words)
   pub words-are : after ≡ setUpLeft x words
 

@@ -13,8 +13,8 @@ use Rattle.frame.specs.declared.Buffer.the-variants.{None, Under, Over, Broken,
 use Rattle.frame.specs.Paper.{bufferNumber, bufferFrame, bufferPlace}
 use Rattle.timing.specs.declared.StreamNumbers.{StreamNumbers}
 use Rattle.timing.specs.declared.State.{State}
-use Rattle.limits.specs.Paper.{given}
-use Rattle.timing.specs.Step.{inEdition}
+use Rattle.limits.specs.Paper.{profileOf, given}
+use Rattle.timing.specs.Step.{streamWith}
 use Rattle.timing.specs.Range.{table}
 use Rattle.probe.specs.declared.Held.{Held}
 use Rattle.probe.specs.declared.Held.the-variants.{Known, Nothing}
@@ -32,13 +32,13 @@ verdictWords s =
     ∷ bufferPlace (s .frames .buffer)
     ∷ []
 
--- X7: the values of the state's table: a number as itself, a bool as 0 or 1, an answer as its three numbers
+-- X7: the values of the state's table: a number as itself, a bool as 0 or 1, an answer as its three numbers, a profile as its kind
 unfoldable pub wordsOf : State → List ℕ
 wordsOf s = values (table s)
 
 -- how many they are, for every state: `length-words` in proofs/RoundTrip.antt
 abbrev pub stateWords : ℕ
-stateWords = 34
+stateWords = 35
 
 -- ---- words read as a state, whatever they are: what a field has no room for is left out, and a number that no answer has counts
 -- as the last one's
@@ -59,41 +59,41 @@ module _ (w : List ℕ) where
 
   abbrev pub numbersIn : StreamNumbers
   numbersIn =
-      inEdition (word 7 % 4294967296)
+      streamWith (profileOf (word 8 % 256)) (word 7 % 4294967296)
       (given (word 0 % 256) (word 1 % 256) (word 2 % 256) (word 3 % 65536) (word 4 % 4294967296) (word 5 % 65536)
       (word 6 % 4294967296))
 
   abbrev pub bucketIn : Bucket
-  bucketIn = record { level = word 11; start = word 12; peak = word 13; network = networkIn (word 14) (word 15) (word 16) }
+  bucketIn = record { level = word 12; start = word 13; peak = word 14; network = networkIn (word 15) (word 16) (word 17) }
 
   abbrev pub openIn : Frame
   openIn = record {
-    held = word 21;
-    first = word 22;
-    stamp = word 23 % 4294967296;
-    phase = word 24;
-    differs = word 27;
-    reads = word 25;
-    wait = word 26;
-    top = word 28;
-    deficit = word 30;
-    late = word 29;
+    held = word 22;
+    first = word 23;
+    stamp = word 24 % 4294967296;
+    phase = word 25;
+    differs = word 28;
+    reads = word 26;
+    wait = word 27;
+    top = word 29;
+    deficit = word 31;
+    late = word 30;
   }
 
   abbrev pub framesIn : Frames
   framesIn = record {
-    begun = eqb (word 19) 1;
-    closed = word 18;
-    marked = word 20;
+    begun = eqb (word 20) 1;
+    closed = word 19;
+    marked = word 21;
     current = openIn;
-    buffer = bufferIn (word 31) (word 32) (word 33);
+    buffer = bufferIn (word 32) (word 33) (word 34);
   }
 
   unfoldable pub stateIn : State
   stateIn = record {
     numbers = numbersIn;
-    past = record { packets = word 8; first = word 9; last = word 10 };
-    rest = word 17;
+    past = record { packets = word 9; first = word 10; last = word 11 };
+    rest = word 18;
     bucket = bucketIn;
     frames = framesIn;
   }

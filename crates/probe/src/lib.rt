@@ -4,7 +4,6 @@
 ghost use Rattle.laws.specs.Kit.{_≡_, true, _≤_, length, take, sets};
 ghost use Rattle.laws.specs.Every.{flag as flagOf};
 ghost use Rattle.limits.specs.Paper.{given};
-ghost use Rattle.timing.specs.Step.{inEdition};
 ghost use Rattle.timing.specs.Answers.{summaryOf};
 ghost use Rattle.timing.specs.Range.{inRange};
 ghost use Rattle.probe.specs.Words.{stateWords, verdictWords, wordsOf, same as sameOf, heldBy};
@@ -25,10 +24,11 @@ use timing::Fed;
 use timing::Judged;
 use timing::SUMMARY;
 use timing::State;
+use timing::Stated;
 use timing::StreamNumbers;
 
 // How many words a state is.
-const WORDS: usize = 34;
+const WORDS: usize = 35;
 
 // What lent words hold: a state, or nothing that is one.
 enum Held {
@@ -77,7 +77,10 @@ fn words_of(s: State) -> [u64; WORDS]
     ensures { λ r. ⌜ r ≡ wordsOf s ⌝ }
 {
     let verdict = verdict_words(s);
-    let told = s.numbers.parameters;
+    let numbers = s.numbers;
+    let told = numbers.parameters;
+    let profile = numbers.profile;
+    let kind = profile.kind();
     [
         told.rate as u64,
         told.schedule as u64,
@@ -86,7 +89,8 @@ fn words_of(s: State) -> [u64; WORDS]
         told.n as u64,
         told.maxudp as u64,
         told.tro as u64,
-        s.numbers.edition as u64,
+        numbers.edition as u64,
+        kind as u64,
         s.past.packets,
         s.past.first,
         s.past.last,
@@ -132,6 +136,7 @@ fn numbers_in(words: &[u64]) -> StreamNumbers
     StreamNumbers {
         parameters: told,
         edition: (words[7] % 4294967296) as u32,
+        profile: limits::profile_of((words[8] % 256) as u8),
     }
 }
 
@@ -148,11 +153,11 @@ fn bucket_in(words: &[u64]) -> Bucket
     requires { ⌜ stateWords ≤ length (now words) ⌝ }
     ensures { λ r. ⌜ r ≡ bucketIn (now (words .entry)) ⌝ }
 {
-    let network = network_in(words[14], words[15], words[16]);
+    let network = network_in(words[15], words[16], words[17]);
     Bucket {
-        level: words[11],
-        start: words[12],
-        peak: words[13],
+        level: words[12],
+        start: words[13],
+        peak: words[14],
         network,
     }
 }
@@ -162,16 +167,16 @@ fn open_in(words: &[u64]) -> Frame
     ensures { λ r. ⌜ r ≡ openIn (now (words .entry)) ⌝ }
 {
     Frame {
-        held: words[21],
-        first: words[22],
-        stamp: (words[23] % 4294967296) as u32,
-        phase: words[24],
-        differs: words[27],
-        reads: words[25],
-        wait: words[26],
-        top: words[28],
-        deficit: words[30],
-        late: words[29],
+        held: words[22],
+        first: words[23],
+        stamp: (words[24] % 4294967296) as u32,
+        phase: words[25],
+        differs: words[28],
+        reads: words[26],
+        wait: words[27],
+        top: words[29],
+        deficit: words[31],
+        late: words[30],
     }
 }
 
@@ -199,11 +204,11 @@ fn frames_in(words: &[u64]) -> Frames
     ensures { λ r. ⌜ r ≡ framesIn (now (words .entry)) ⌝ }
 {
     let current = open_in(words);
-    let buffer = buffer_in(words[31], words[32], words[33]);
+    let buffer = buffer_in(words[32], words[33], words[34]);
     Frames {
-        begun: words[19] == 1,
-        closed: words[18],
-        marked: words[20],
+        begun: words[20] == 1,
+        closed: words[19],
+        marked: words[21],
         current,
         buffer,
     }
@@ -215,14 +220,14 @@ fn state_in(words: &[u64]) -> State
     ensures { λ r. ⌜ r ≡ stateIn (now (words .entry)) ⌝ }
 {
     let past = Past {
-        packets: words[8],
-        first: words[9],
-        last: words[10],
+        packets: words[9],
+        first: words[10],
+        last: words[11],
     };
     State {
         numbers: numbers_in(words),
         past,
-        rest: words[17],
+        rest: words[18],
         bucket: bucket_in(words),
         frames: frames_in(words),
     }
@@ -330,7 +335,7 @@ fn ask(
     }
 }
 
-// A stream set up: 1 to 8, then 15 for too few words, and nothing written; or 0, and the fresh state's words stand in front.
+// A stream set up: 22 for a kind that stands for no profile, 1 to 8, then 15 for too few words, and nothing written; or 0, and the fresh state's words stand in front.
 #[no_mangle]
 pub extern "C" fn vtiming_set_up(
     rate: u8,
@@ -340,10 +345,12 @@ pub extern "C" fn vtiming_set_up(
     n: u32,
     maxudp: u16,
     tro: u32,
+    profile: u8,
     edition: u32,
     state: &mut [u64],
 ) -> u32
-    ensures { λ r. ⌜ SetUpGives (inEdition edition (given rate schedule class height n maxudp tro)) (now (state .entry)) r (now (state .exit)) ⌝ }
+    ensures { λ r. ⌜ SetUpGives (record { kind = profile; parameters = given rate schedule class height n maxudp tro; edition = edition })
+        (now (state .entry)) r (now (state .exit)) ⌝ }
 {
     let told = Parameters {
         rate,
@@ -354,17 +361,19 @@ pub extern "C" fn vtiming_set_up(
         maxudp,
         tro,
     };
-    let numbers = StreamNumbers {
+    let stated = Stated {
+        kind: profile,
         parameters: told,
         edition: edition,
     };
-    let number = numbers.refusal();
+    let number = stated.refusal();
     if number != 0 {
         return number as u32;
     }
     if state.len() < WORDS {
         return 15;
     }
+    let numbers = stated.numbers();
     lay_words(numbers.fresh(), state);
     0
 }

@@ -4,7 +4,7 @@ use Rattle.laws.specs.Choose.{pick, orElse}
 use Rattle.laws.specs.Fold.{fold}
 use Rattle.grain.specs.Paper.{grains}
 use Rattle.limits.specs.Paper.{frameLength, senderClass, cMax, vrxFull, troGrains, readNum, readDen, setUpIn}
-use Rattle.limits.specs.Paper.{hasBuffer, profileOf, profileRefusal}
+use Rattle.limits.specs.Paper.{hasBuffer, profileKind, profileOf, profileRefusal}
 use Rattle.limits.specs.declared.Profile.{Profile}
 use Rattle.limits.specs.declared.Profile.the-variants.{Video}
 use Rattle.limits.specs.declared.Parameters.{Parameters}
@@ -40,6 +40,10 @@ setUpOf x = setUpIn (x .parameters) (x .edition)
 -- S12: the stream numbers that a caller states, whose profile is the one that its kind chooses
 abbrev pub statedOf : Stated → StreamNumbers
 statedOf t = streamWith (profileOf (t .kind)) (t .edition) (t .parameters)
+
+-- and how stream numbers are stated
+abbrev pub statedAs : StreamNumbers → Stated
+statedAs x = record { kind = profileKind (x .profile); parameters = x .parameters; edition = x .edition }
 
 -- N1, N2, S12: 22 for a kind that chooses none, before 1 to 8
 unfoldable pub statedRefusal : Stated → ℕ

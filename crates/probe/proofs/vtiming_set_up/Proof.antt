@@ -1,5 +1,6 @@
 -- Set-up's refusal, too few words, or the fresh state's words: one law each (Calls).
-use Rattle.laws.specs.Kit.{sym, _∙_, arith}
+use Rattle.laws.specs.Kit.{sym, ap, _∙_, arith}
+use Rattle.timing.specs.Step.{freshOf}
 use Rattle.probe.proofs.Calls.{not-set-up, no-room, set-up}
 use borrow.Author.Needs.{needs}
 use Rattle.probe.proofs.vtiming_set_up.Statement.{statement}
@@ -17,6 +18,9 @@ returns c = not-set-up _ _ _ (sym (c .before .refusal .ensures)) (omega arith)
 returns-2 : tie.Need-returns-2
 returns-2 c = no-room _ _ (sym (c .before .before .refusal .ensures) ∙ c .before .if1 .left) (c .if2 .taken)
 
+numbers-requires : tie.Need-numbers-requires
+numbers-requires c κs = search needs
+
 fresh-requires : tie.Need-fresh-requires
 fresh-requires c κs = search needs
 
@@ -30,9 +34,11 @@ returns-3 : tie.Need-returns-3
 returns-3 c =
     let laid = c .before .before in
     let fresh = laid .before .before in
-    let enough = fresh .before in
+    let stated = fresh .before in
+    let enough = stated .before in
     let fine = enough .before in
-    set-up _ _ (sym (fine .before .refusal .ensures) ∙ fine .if1 .left) (enough .if2 .left) (fresh .fresh .ensures)
+    set-up _ _ (sym (fine .before .refusal .ensures) ∙ fine .if1 .left) (enough .if2 .left)
+    (fresh .fresh .ensures ∙ ap freshOf (stated .numbers .ensures))
     (laid .lay-words .ensures)
 
 pub vtiming-set-up-spec : {M : Type 1} → statement M
@@ -43,6 +49,7 @@ vtiming-set-up-spec =
     cast-result
     returns
     returns-2
+    numbers-requires
     fresh-requires
     lay-words-requires
     same-length
