@@ -24,10 +24,12 @@ use Rattle.intake.proofs.Reading.{Read, checked-read, records-read, skipped-rea
 use Rattle.timing.specs.declared.StreamNumbers.{StreamNumbers}
 use Rattle.timing.specs.declared.Rules.{Rules}
 use Rattle.timing.specs.declared.State.{State}
-use Rattle.timing.specs.Step.{setUpOf, rulesOf, freshOf, rowsAfter, numbers}
+use Rattle.timing.specs.declared.Stated.{Stated}
+use Rattle.timing.specs.Step.{setUpOf, statedOf, statedRefusal, rulesOf, freshOf, rowsAfter, numbers}
 use Rattle.timing.specs.Answers.{summaryWidth, summaryOf}
 use Rattle.timing.specs.Feed.{RunAsks, RunGives}
 use Rattle.timing.specs.Range.{inRange, Sound}
+use Rattle.timing.proofs.Stating.{stated-fine}
 use Rattle.timing.proofs.InRange.{sound-fresh, of-sound}
 use Rattle.timing.proofs.Dealing.{sound-after}
 use Rattle.timing.proofs.Scanning.{scan-runs, numbers-length}
@@ -40,31 +42,35 @@ use Rattle.film.specs.Paper.{captureRoom}
 use Rattle.film.specs.Step.{elevenWidth, elevenBytes, weighedBy, weighedOf, FilmAsks, FilmGives, CaptureGives}
 use Rattle.report.proofs.Bytes.{nine, length-stored, stored-append, length-encoded, encoded-append, naturals, front-last}
 
-module _ (x : StreamNumbers) (port offset : ℕ) (b : List ℕ) where
+module _ (t : Stated) (port offset : ℕ) (b : List ℕ) where
+  -- the stream that is stated
+  abbrev x : StreamNumbers
+  x = statedOf t
+
   -- ---- the check
 
-  pub check-set-up : {n : ℕ} → n ≡ setUpOf x → (n ≡ 0 → ⊥) → Refused n 0 ≡ captureChecked x port offset b
+  pub check-set-up : {n : ℕ} → n ≡ statedRefusal t → (n ≡ 0 → ⊥) → Refused n 0 ≡ captureChecked t port offset b
   unfolding captureChecked
   check-set-up {n} e m = rw (← e, ne-eqb n 0 m)
 
-  pub check-then : setUpOf x ≡ 0 → {past : Past} {r : Checked} → past ≡ nothing → r ≡ checkedOf port offset (seenFrom past false) b
-      → r ≡ captureChecked x port offset b
+  pub check-then : statedRefusal t ≡ 0 → {past : Past} {r : Checked} → past ≡ nothing → r ≡ checkedOf port offset (seenFrom past false) b
+      → r ≡ captureChecked t port offset b
   unfolding captureChecked
-  check-then e p f = rw (eq-eqb (setUpOf x) 0 e) (rw p at f)
+  check-then e p f = rw (eq-eqb (statedRefusal t) 0 e) (rw p at f)
 
   -- a capture that is fine
   pub record Filmed (y : Seen) : Type 0 where
     pub set-up : setUpOf x ≡ 0
     pub read : Read port offset nothing false b y
 
-  pub checked-fine : (y : Seen) → captureChecked x port offset b ≡ Fine y → Filmed y
+  pub checked-fine : (y : Seen) → captureChecked t port offset b ≡ Fine y → Filmed y
   unfolding captureChecked
-  checked-fine y e = go (ℕ-discrete (setUpOf x) 0)
+  checked-fine y e = go (ℕ-discrete (statedRefusal t) 0)
     where
-      go : Dec (setUpOf x ≡ 0) → Filmed y
-      go (yes z) = record { set-up = z; read = checked-read port offset nothing false b y (rw (eq-eqb (setUpOf x) 0 z) at e) }
+      go : Dec (statedRefusal t ≡ 0) → Filmed y
+      go (yes z) = record { set-up = stated-fine t z .1; read = checked-read port offset nothing false b y (rw (eq-eqb (statedRefusal t) 0 z) at e) }
       go (no n) =
-          let f : Refused (setUpOf x) 0 ≡ Fine y = rw (ne-eqb (setUpOf x) 0 n) at e in
+          let f : Refused (statedRefusal t) 0 ≡ Fine y = rw (ne-eqb (statedRefusal t) 0 n) at e in
           let z : _≡_ {A = ℕ} 0 1 = cc in
           absurd (omega arith)
 
@@ -129,22 +135,22 @@ module _ (x : StreamNumbers) (port offset : ℕ) (b : List ℕ) where
   -- ---- what is weighed
 
   module _ (room : ℕ) where
-    pub weighed-refused : {r : Checked} {n place : ℕ} → r ≡ captureChecked x port offset b → r ≡ Refused n place
-        → weighed.Refused n place ≡ weighedOf x port offset b room
+    pub weighed-refused : {r : Checked} {n place : ℕ} → r ≡ captureChecked t port offset b → r ≡ Refused n place
+        → weighed.Refused n place ≡ weighedOf t port offset b room
     unfolding weighedOf
     weighed-refused e f = rw (← e, f)
 
-    module _ {r : Checked} {y : Seen} (e : r ≡ captureChecked x port offset b) (f : r ≡ Fine y) where
+    module _ {r : Checked} {y : Seen} (e : r ≡ captureChecked t port offset b) (f : r ≡ Fine y) where
       fine : Filmed y
       fine = checked-fine y (sym e ∙ f)
 
       pub weighed-fine : leb (neededBehind elevenWidth (y .tally .closed)) room ≡ true
-          → weighed.Fine (y .records) (y .skipped) ≡ weighedOf x port offset b room
+          → weighed.Fine (y .records) (y .skipped) ≡ weighedOf t port offset b room
       unfolding weighedOf
       weighed-fine t = rw (← e, f, film-long fine, t)
 
       pub weighed-15 : leb (neededBehind elevenWidth (y .tally .closed)) room ≡ false
-          → weighed.Refused 15 0 ≡ weighedOf x port offset b room
+          → weighed.Refused 15 0 ≡ weighedOf t port offset b room
       unfolding weighedOf
       weighed-15 t = rw (← e, f, film-long fine, t)
 
@@ -153,42 +159,42 @@ module _ (x : StreamNumbers) (port offset : ℕ) (b : List ℕ) where
     weighedAnswer (weighed.Fine records skipped) = answer 0 0
     weighedAnswer (weighed.Refused number place) = answer number place
 
-    own-answer : captureAnswer x port offset b room ≡ weighedAnswer (weighedOf x port offset b room)
+    own-answer : captureAnswer t port offset b room ≡ weighedAnswer (weighedOf t port offset b room)
     unfolding captureAnswer weighedOf
-    own-answer = go (captureChecked x port offset b)
+    own-answer = go (captureChecked t port offset b)
       where
-        go : (r : Checked) → answeredBy x port offset b room r ≡ weighedAnswer (weighedBy x port offset b room r)
+        go : (r : Checked) → answeredBy t port offset b room r ≡ weighedAnswer (weighedBy t port offset b room r)
         go (Refused n place) = refl
         go (Fine y) = by (leb (length (captureBytes x port offset b)) room)
           where
-            by : (t : Bool) → pick t (answer 0 0) (answer 15 0)
-                ≡ weighedAnswer (pick t (weighed.Fine (y .records) (y .skipped)) (weighed.Refused 15 0))
+            by : (u : Bool) → pick u (answer 0 0) (answer 15 0)
+                ≡ weighedAnswer (pick u (weighed.Fine (y .records) (y .skipped)) (weighed.Refused 15 0))
             by true = refl
             by false = refl
 
-    pub weighed-answer : {w v : Weighed} → w ≡ weighedOf x port offset b room → w ≡ v → captureAnswer x port offset b room ≡ weighedAnswer v
+    pub weighed-answer : {w v : Weighed} → w ≡ weighedOf t port offset b room → w ≡ v → captureAnswer t port offset b room ≡ weighedAnswer v
     weighed-answer e f = own-answer ∙ ap weighedAnswer (sym e ∙ f)
 
     -- fine: there is room, and every record is counted
     pub record Enough (records skipped : ℕ) : Type 0 where
       pub seen : Seen
-      pub is-fine : captureChecked x port offset b ≡ Fine seen
+      pub is-fine : captureChecked t port offset b ≡ Fine seen
       pub enough : length (captureBytes x port offset b) ≤ room
       pub all : records ≡ length (recordsOf port offset b .found)
       pub skips : skipped ≡ skippedOf port offset b
 
-    pub weighed-enough : {w : Weighed} {records skipped : ℕ} → w ≡ weighedOf x port offset b room → w ≡ weighed.Fine records skipped
+    pub weighed-enough : {w : Weighed} {records skipped : ℕ} → w ≡ weighedOf t port offset b room → w ≡ weighed.Fine records skipped
         → Enough records skipped
     unfolding weighedOf
-    weighed-enough {w} {records} {skipped} e f = go (captureChecked x port offset b) refl (sym f ∙ e)
+    weighed-enough {w} {records} {skipped} e f = go (captureChecked t port offset b) refl (sym f ∙ e)
       where
-        go : (r : Checked) → captureChecked x port offset b ≡ r → weighed.Fine records skipped ≡ weighedBy x port offset b room r
+        go : (r : Checked) → captureChecked t port offset b ≡ r → weighed.Fine records skipped ≡ weighedBy t port offset b room r
             → Enough records skipped
         go (Refused n place) k g = let z : _≡_ {A = ℕ} 0 1 = cc in absurd (omega arith)
         go (Fine y) k g = by (leb (length (captureBytes x port offset b)) room) refl g
           where
-            by : (t : Bool) → leb (length (captureBytes x port offset b)) room ≡ t
-                → weighed.Fine records skipped ≡ pick t (weighed.Fine (y .records) (y .skipped)) (weighed.Refused 15 0)
+            by : (u : Bool) → leb (length (captureBytes x port offset b)) room ≡ u
+                → weighed.Fine records skipped ≡ pick u (weighed.Fine (y .records) (y .skipped)) (weighed.Refused 15 0)
                 → Enough records skipped
             by true q g =
                 let read = checked-fine y k .read in
@@ -212,17 +218,17 @@ module _ (x : StreamNumbers) (port offset : ℕ) (b : List ℕ) where
 
   -- ---- the lent bytes
 
-  pub refused-leaves : (out : List ℕ) {w : Weighed} {n place : ℕ} → w ≡ weighedOf x port offset b (length out)
-      → w ≡ weighed.Refused n place → out ≡ captureFilled x port offset b out
+  pub refused-leaves : (out : List ℕ) {w : Weighed} {n place : ℕ} → w ≡ weighedOf t port offset b (length out)
+      → w ≡ weighed.Refused n place → out ≡ captureFilled t port offset b out
   unfolding weighedOf captureFilled
-  refused-leaves out {w} {n} {place} e f = go (captureChecked x port offset b) (sym f ∙ e)
+  refused-leaves out {w} {n} {place} e f = go (captureChecked t port offset b) (sym f ∙ e)
     where
-      go : (r : Checked) → weighed.Refused n place ≡ weighedBy x port offset b (length out) r → out ≡ filledFrom x port offset b out r
+      go : (r : Checked) → weighed.Refused n place ≡ weighedBy t port offset b (length out) r → out ≡ filledFrom t port offset b out r
       go (Refused m p) g = refl
       go (Fine y) g = by (leb (length (captureBytes x port offset b)) (length out)) g
         where
-          by : (t : Bool) → weighed.Refused n place ≡ pick t (weighed.Fine (y .records) (y .skipped)) (weighed.Refused 15 0)
-              → out ≡ pick t (captureBytes x port offset b ++ drop (length (captureBytes x port offset b)) out) out
+          by : (u : Bool) → weighed.Refused n place ≡ pick u (weighed.Fine (y .records) (y .skipped)) (weighed.Refused 15 0)
+              → out ≡ pick u (captureBytes x port offset b ++ drop (length (captureBytes x port offset b)) out) out
           by true g = let z : _≡_ {A = ℕ} 0 1 = cc in absurd (omega arith)
           by false g = refl
 
@@ -249,7 +255,7 @@ module _ (x : StreamNumbers) (port offset : ℕ) (b : List ℕ) where
   pub film-filled : (out : List ℕ) {state : State} {rows nine-in ten-in after : List ℕ} {records skipped : ℕ}
       → Enough (length out) records skipped → FilmGives x port offset b out state rows
       → nine-in ≡ sets rows 0 (inBytes (summaryOf state)) → ten-in ≡ sets nine-in 72 (bytesOf 8 records)
-      → after ≡ sets ten-in 80 (bytesOf 8 skipped) → after ≡ captureFilled x port offset b out
+      → after ≡ sets ten-in 80 (bytesOf 8 skipped) → after ≡ captureFilled t port offset b out
   unfolding captureFilled
   film-filled out {state} {rows} {nine-in} {ten-in} {after} {records} {skipped} h g e1 e2 e3 =
       let front = inBytes (elevenOf x port offset b) in
@@ -262,21 +268,30 @@ module _ (x : StreamNumbers) (port offset : ℕ) (b : List ℕ) where
       stored
       ∙ ap (λ (k : ℕ). sets (sets out k behind) 0 front) (sym front-long)
       ∙ front-last front behind out (omega (arith, h .enough))
-      ∙ sym (ap (filledFrom x port offset b out) (h .is-fine) ∙ rw (le-leb _ (length out) (h .enough), whole))
+      ∙ sym (ap (filledFrom t port offset b out) (h .is-fine) ∙ rw (le-leb _ (length out) (h .enough), whole))
 
   -- ---- the room
 
-  pub room-refused : {r : Checked} {n place : ℕ} → r ≡ captureChecked x port offset b → r ≡ Refused n place → 0 ≡ captureRoom x port offset b
+  pub room-refused : {r : Checked} {n place : ℕ} → r ≡ captureChecked t port offset b → r ≡ Refused n place → 0 ≡ captureRoom t port offset b
   unfolding captureRoom
   room-refused e f = rw (← e, f)
 
-  pub room-fine : {r : Checked} {y : Seen} → r ≡ captureChecked x port offset b → r ≡ Fine y
-      → neededBehind elevenWidth (y .tally .closed) ≡ captureRoom x port offset b
+  pub room-fine : {r : Checked} {y : Seen} → r ≡ captureChecked t port offset b → r ≡ Fine y
+      → neededBehind elevenWidth (y .tally .closed) ≡ captureRoom t port offset b
   unfolding captureRoom
   room-fine {y = y} e f = rw (← e, f) (sym (film-long (checked-fine y (sym e ∙ f))))
 
-  pub few-closed : {r : Checked} {y : Seen} → r ≡ captureChecked x port offset b → r ≡ Fine y → y .tally .closed ≤ 1000000000
+  pub few-closed : {r : Checked} {y : Seen} → r ≡ captureChecked t port offset b → r ≡ Fine y → y .tally .closed ≤ 1000000000
   few-closed {y = y} e f = film-few (checked-fine y (sym e ∙ f))
+
+-- ---- the stream as the code has it
+
+module _ (port offset : ℕ) (b : List ℕ) {x y : StreamNumbers} (e : y ≡ x) where
+  pub stated-asks : {room : ℕ} → FilmAsks x port offset b room → FilmAsks y port offset b room
+  stated-asks a = rw e a
+
+  pub stated-gives : {before after : List ℕ} {s : State} → FilmGives y port offset b before s after → FilmGives x port offset b before s after
+  stated-gives g = rw (← e) g
 
 -- ---- the loop, with the rules and the fresh state that the code has worked out
 

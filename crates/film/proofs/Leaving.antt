@@ -1,6 +1,6 @@
 -- Of a capture that is refused the C function writes nothing, whatever its number. By what is weighed.
 use Rattle.laws.specs.Kit.{_≡_, refl, sym, ap, List, ℕ, length}
-use Rattle.timing.specs.declared.StreamNumbers.{StreamNumbers}
+use Rattle.timing.specs.declared.Stated.{Stated}
 use Rattle.report.specs.Paper.{Answer}
 use Rattle.film.specs.declared.Weighed.{Weighed}
 use Rattle.film.specs.declared.Weighed.the-variants.{Fine, Refused}
@@ -8,7 +8,7 @@ use Rattle.film.specs.Paper.{captureAnswer, captureFilled}
 use Rattle.film.specs.Step.{weighedOf}
 use Rattle.film.proofs.Filming.{weighed-answer, refused-leaves}
 
-pub refused-fills-nothing : (x : StreamNumbers) (port offset : ℕ) (b out : List ℕ)
+pub refused-fills-nothing : (x : Stated) (port offset : ℕ) (b out : List ℕ)
     → (captureAnswer x port offset b (length out) .number ≡ 0 → ⊥) → captureFilled x port offset b out ≡ out
 refused-fills-nothing x port offset b out n = go (weighedOf x port offset b (length out)) refl
   where

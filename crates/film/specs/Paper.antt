@@ -8,7 +8,8 @@ use Rattle.capture.specs.declared.Checked.the-variants.{Fine, Refused}
 use Rattle.capture.specs.Paper.{seenFrom, checkedOf}
 use Rattle.intake.specs.Paper.{recordsOf, packetsOf, skippedOf}
 use Rattle.timing.specs.declared.StreamNumbers.{StreamNumbers}
-use Rattle.timing.specs.Step.{setUpOf, numbers}
+use Rattle.timing.specs.declared.Stated.{Stated}
+use Rattle.timing.specs.Step.{statedOf, statedRefusal, numbers}
 use Rattle.timing.specs.Answers.{summaryOf}
 use Rattle.report.specs.Paper.{stateOf, rowsOf, encoded, Answer, answer}
 
@@ -21,14 +22,18 @@ module _ (x : StreamNumbers) (port offset : ℕ) (b : List ℕ) where
   abbrev pub captureBytes : List ℕ
   captureBytes = encoded (map pos elevenOf ++ numbers (rowsOf x (packetsOf port offset b)))
 
-  -- R15: "1 to 7, then the order above"; "`vtiming_capture` takes it too: 8 after 7"
+module _ (t : Stated) (port offset : ℕ) (b : List ℕ) where
+  abbrev x : StreamNumbers
+  x = statedOf t
+
+  -- R15, S12: "1 to 7, then the order above"; "`vtiming_capture` takes it too: 8 after 7"; and 22 before 1 for a kind that chooses no profile
   unfoldable pub captureChecked : Checked
   captureChecked =
-      pick (eqb (setUpOf x) 0) (checkedOf port offset (seenFrom nothing false) b) (Refused (setUpOf x) 0)
+      pick (eqb (statedRefusal t) 0) (checkedOf port offset (seenFrom nothing false) b) (Refused (statedRefusal t) 0)
 
   -- R9, R15, R16: "15 last", at the place of the first packet, which is 0
   abbrev pub answeredBy : ℕ → Checked → Answer
-  answeredBy room (Fine y) = pick (leb (length captureBytes) room) (answer 0 0) (answer 15 0)
+  answeredBy room (Fine y) = pick (leb (length (captureBytes x port offset b)) room) (answer 0 0) (answer 15 0)
   answeredBy room (Refused number place) = answer number place
 
   unfoldable pub captureAnswer : ℕ → Answer
@@ -36,7 +41,7 @@ module _ (x : StreamNumbers) (port offset : ℕ) (b : List ℕ) where
 
   -- R15: "Refused, nothing is written."
   abbrev pub filledFrom : List ℕ → Checked → List ℕ
-  filledFrom out (Fine y) = pick (leb (length captureBytes) (length out)) (captureBytes ++ drop (length captureBytes) out) out
+  filledFrom out (Fine y) = pick (leb (length (captureBytes x port offset b)) (length out)) (captureBytes x port offset b ++ drop (length (captureBytes x port offset b)) out) out
   filledFrom out (Refused number place) = out
 
   unfoldable pub captureFilled : List ℕ → List ℕ
@@ -44,7 +49,7 @@ module _ (x : StreamNumbers) (port offset : ℕ) (b : List ℕ) where
 
   -- X13: how many lent bytes are enough
   abbrev pub roomBy : Checked → ℕ
-  roomBy (Fine y) = length captureBytes
+  roomBy (Fine y) = length (captureBytes x port offset b)
   roomBy (Refused number place) = 0
 
   unfoldable pub captureRoom : ℕ

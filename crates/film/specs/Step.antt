@@ -6,7 +6,8 @@ use Rattle.capture.specs.declared.Checked.the-variants.{Fine, Refused}
 use Rattle.intake.specs.Paper.{packetsOf}
 use Rattle.timing.specs.declared.StreamNumbers.{StreamNumbers}
 use Rattle.timing.specs.declared.State.{State}
-use Rattle.timing.specs.Step.{setUpOf, rulesOf, freshOf}
+use Rattle.timing.specs.declared.Stated.{Stated}
+use Rattle.timing.specs.Step.{setUpOf, statedOf, rulesOf, freshOf}
 use Rattle.timing.specs.Answers.{summaryWidth}
 use Rattle.timing.specs.Feed.{RunAsks, RunGives}
 use Rattle.report.specs.Paper.{rowBytes, numberBytes}
@@ -21,16 +22,21 @@ elevenWidth = summaryWidth + 2
 abbrev pub elevenBytes : ℕ
 elevenBytes = numberBytes * elevenWidth
 
-module _ (x : StreamNumbers) (port offset : ℕ) (b : List ℕ) where
+module _ (t : Stated) (port offset : ℕ) (b : List ℕ) where
   -- what is asked of a capture and so many lent bytes
   abbrev pub weighedBy : ℕ → Checked → Weighed
   weighedBy room (Fine y) =
-      pick (leb (length (captureBytes x port offset b)) room) (weighed.Fine (y .records) (y .skipped)) (weighed.Refused 15 0)
+      pick (leb (length (captureBytes (statedOf t) port offset b)) room) (weighed.Fine (y .records) (y .skipped)) (weighed.Refused 15 0)
   weighedBy room (Refused number place) = weighed.Refused number place
 
   unfoldable pub weighedOf : ℕ → Weighed
-  weighedOf room = weighedBy room (captureChecked x port offset b)
+  weighedOf room = weighedBy room (captureChecked t port offset b)
 
+  pub record CaptureGives (out : List ℕ) (number : ℕ) (after : List ℕ) : Type 0 where
+    pub number-is : number ≡ captureAnswer t port offset b (length out) .number
+    pub bytes-are : after ≡ captureFilled t port offset b out
+
+module _ (x : StreamNumbers) (port offset : ℕ) (b : List ℕ) where
   -- the packets of a capture that is fine, with room for their rows behind the eleven numbers
   pub record FilmAsks (room : ℕ) : Type 0 where
     pub set-up : setUpOf x ≡ 0
@@ -39,7 +45,3 @@ module _ (x : StreamNumbers) (port offset : ℕ) (b : List ℕ) where
   -- and the rows put there
   abbrev pub FilmGives : List ℕ → State → List ℕ → Type 0
   FilmGives before state after = RunGives rowBytes (rulesOf x) (freshOf x) (packetsOf port offset b) elevenBytes before state after
-
-  pub record CaptureGives (out : List ℕ) (number : ℕ) (after : List ℕ) : Type 0 where
-    pub number-is : number ≡ captureAnswer x port offset b (length out) .number
-    pub bytes-are : after ≡ captureFilled x port offset b out

@@ -8,6 +8,7 @@ use capture::Setting;
 use capture::Sought;
 use endian::write64;
 use limits::FIRST_EDITION;
+use limits::VIDEO;
 use limits::Parameters;
 use packet::Past;
 use report::NUMBER;
@@ -15,10 +16,11 @@ use report::SUMMARY_BYTES;
 use timing::Rules;
 use timing::SUMMARY;
 use timing::State;
+use timing::Stated;
 use timing::StreamNumbers;
 ghost use Rattle.laws.specs.Kit.{_≡_, length, drop};
 ghost use Rattle.timing.specs.Feed.{RunAsks, RunGives};
-ghost use Rattle.timing.specs.Step.{inEdition, ofParameters, rulesOf, freshOf};
+ghost use Rattle.timing.specs.Step.{ofParameters, statedAs, rulesOf, freshOf};
 ghost use Rattle.limits.specs.Paper.{given};
 ghost use Rattle.capture.specs.Paper.{headerBytes};
 ghost use Rattle.capture.specs.Step.{handedIn};
@@ -38,10 +40,10 @@ enum Weighed {
 }
 
 // Set-up, then one pass that checks the capture and counts its frames. It writes nothing.
-fn check_capture(numbers: StreamNumbers, port: u16, offset: u32, capture: &[u8]) -> Checked
-    ensures { λ r. ⌜ r ≡ captureChecked numbers port offset (now (capture .entry)) ⌝ }
+fn check_capture(stated: Stated, port: u16, offset: u32, capture: &[u8]) -> Checked
+    ensures { λ r. ⌜ r ≡ captureChecked stated port offset (now (capture .entry)) ⌝ }
 {
-    let number = numbers.refusal();
+    let number = stated.refusal();
     if number != 0 {
         return Checked::Refused {
             number: number,
@@ -52,10 +54,10 @@ fn check_capture(numbers: StreamNumbers, port: u16, offset: u32, capture: &[u8])
 }
 
 // The same, then the room. The first packet of a capture has place 0.
-fn weigh(numbers: StreamNumbers, port: u16, offset: u32, capture: &[u8], room: usize) -> Weighed
-    ensures { λ r. ⌜ r ≡ weighedOf numbers port offset (now (capture .entry)) room ⌝ }
+fn weigh(stated: Stated, port: u16, offset: u32, capture: &[u8], room: usize) -> Weighed
+    ensures { λ r. ⌜ r ≡ weighedOf stated port offset (now (capture .entry)) room ⌝ }
 {
-    let checked = check_capture(numbers, port, offset, capture);
+    let checked = check_capture(stated, port, offset, capture);
     match checked {
         Checked::Fine(seen) => {
             let tally = seen.tally;
@@ -130,7 +132,7 @@ fn film(numbers: StreamNumbers, port: u16, offset: u32, capture: &[u8], out: &mu
     )
 }
 
-// A whole capture, by an edition of the test plan: the refusal number and nothing written; or 0, and the eleven numbers and the rows stand in front.
+// A whole capture of a profile, by an edition of the test plan: the refusal number and nothing written; or 0, and the eleven numbers and the rows stand in front.
 #[no_mangle]
 pub extern "C" fn vtiming_capture(
     capture: &[u8],
@@ -143,11 +145,12 @@ pub extern "C" fn vtiming_capture(
     n: u32,
     maxudp: u16,
     tro: u32,
+    profile: u8,
     edition: u32,
     out: &mut [u8],
 ) -> u32
-    ensures { λ r. ⌜ CaptureGives (inEdition edition (given rate schedule class height n maxudp tro)) port offset (now (capture .entry))
-        (now (out .entry)) r (now (out .exit)) ⌝ }
+    ensures { λ r. ⌜ CaptureGives (record { kind = profile; parameters = given rate schedule class height n maxudp tro; edition = edition })
+        port offset (now (capture .entry)) (now (out .entry)) r (now (out .exit)) ⌝ }
 {
     let told = Parameters {
         rate,
@@ -158,13 +161,15 @@ pub extern "C" fn vtiming_capture(
         maxudp,
         tro,
     };
-    let numbers = StreamNumbers {
+    let stated = Stated {
+        kind: profile,
         parameters: told,
         edition: edition,
     };
-    let weighed = weigh(numbers, port, offset, capture, out.len());
+    let weighed = weigh(stated, port, offset, capture, out.len());
     match weighed {
         Weighed::Fine { records, skipped } => {
+            let numbers = stated.numbers();
             let s = film(numbers, port, offset, capture, out);
             report::put_summary(s, out);
             write64(out, SUMMARY_BYTES, records);
@@ -188,11 +193,12 @@ pub extern "C" fn vtiming_capture_place(
     n: u32,
     maxudp: u16,
     tro: u32,
+    profile: u8,
     edition: u32,
     room: usize,
 ) -> u64
-    ensures { λ r. ⌜ r ≡ captureAnswer (inEdition edition (given rate schedule class height n maxudp tro)) port offset (now (capture .entry)) room
-        .offset ⌝ }
+    ensures { λ r. ⌜ r ≡ captureAnswer (record { kind = profile; parameters = given rate schedule class height n maxudp tro; edition = edition })
+        port offset (now (capture .entry)) room .offset ⌝ }
 {
     let told = Parameters {
         rate,
@@ -203,11 +209,12 @@ pub extern "C" fn vtiming_capture_place(
         maxudp,
         tro,
     };
-    let numbers = StreamNumbers {
+    let stated = Stated {
+        kind: profile,
         parameters: told,
         edition: edition,
     };
-    let weighed = weigh(numbers, port, offset, capture, room);
+    let weighed = weigh(stated, port, offset, capture, room);
     match weighed {
         Weighed::Fine {
             records: _,
@@ -217,7 +224,7 @@ pub extern "C" fn vtiming_capture_place(
     }
 }
 
-// How many lent bytes are enough for a capture's report, whatever the edition; 0 for one that is refused.
+// How many lent bytes are enough for a capture's report, whatever the edition and the profile; 0 for one that is refused.
 #[no_mangle]
 pub extern "C" fn vtiming_capture_room(
     capture: &[u8],
@@ -231,7 +238,8 @@ pub extern "C" fn vtiming_capture_room(
     maxudp: u16,
     tro: u32,
 ) -> u64
-    ensures { λ r. ⌜ r ≡ captureRoom (ofParameters (given rate schedule class height n maxudp tro)) port offset (now (capture .entry)) ⌝ }
+    ensures { λ r. ⌜ r ≡ captureRoom (statedAs (ofParameters (given rate schedule class height n maxudp tro))) port offset
+        (now (capture .entry)) ⌝ }
 {
     let told = Parameters {
         rate,
@@ -242,11 +250,12 @@ pub extern "C" fn vtiming_capture_room(
         maxudp,
         tro,
     };
-    let numbers = StreamNumbers {
+    let plain = Stated {
+        kind: VIDEO,
         parameters: told,
         edition: FIRST_EDITION,
     };
-    let checked = check_capture(numbers, port, offset, capture);
+    let checked = check_capture(plain, port, offset, capture);
     match checked {
         Checked::Fine(seen) => {
             let tally = seen.tally;

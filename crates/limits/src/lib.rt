@@ -22,6 +22,9 @@ const LINEAR: u8 = 1;
 
 const DEFAULT_TRO: u32 = 4294967295;
 
+// The kind of parameter record whose profile is meant where none is told.
+pub const VIDEO: u8 = 1;
+
 // The edition of the test plan that is meant where none is told.
 pub const FIRST_EDITION: u32 = 1;
 

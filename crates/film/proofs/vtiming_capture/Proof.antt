@@ -2,6 +2,7 @@
 use Rattle.laws.specs.Kit.{sym, ap, arith, length, length-sets}
 use Rattle.report.specs.Paper.{Answer}
 use Rattle.film.proofs.Filming.{weighed-answer, weighed-enough, enough-asks, enough-long, filmed-in-range, refused-leaves, film-filled}
+use Rattle.film.proofs.Filming.{stated-asks, stated-gives}
 use borrow.Author.Needs.{needs}
 use Rattle.film.proofs.vtiming_capture.Statement.{statement}
 use Rattle.film.proofs.vtiming_capture.Tie as tie
@@ -12,25 +13,31 @@ weigh-requires c κs = search needs
 enum-known-weighed : tie.Need-enum-known-weighed
 enum-known-weighed c = search needs
 
+numbers-requires : tie.Need-numbers-requires
+numbers-requires c κs = search needs
+
 film-requires : tie.Need-film-requires
 film-requires c κs =
-    let told = c .before .before in
+    let numbers = c .before in
+    let told = numbers .before .before in
     let enough = weighed-enough _ _ _ _ _ (told .before .before .weigh .ensures) (told .weighed .given .1) in
-    enough-asks _ _ _ _ _ enough
+    stated-asks _ _ _ (numbers .numbers .ensures) (enough-asks _ _ _ _ _ enough)
 
 put-summary-requires : tie.Need-put-summary-requires
 put-summary-requires c κs =
     let film = c .before .before .before in
-    let told = film .before .before .before in
+    let numbers = film .before .before in
+    let told = numbers .before .before in
     let enough = weighed-enough _ _ _ _ _ (told .before .before .weigh .ensures) (told .weighed .given .1) in
     let asks = enough-asks _ _ _ _ _ enough in
-    (omega (arith, enough-long _ _ _ _ _ enough), filmed-in-range _ _ _ _ asks (film .film .ensures))
+    (omega (arith, enough-long _ _ _ _ _ enough), filmed-in-range _ _ _ _ asks (stated-gives _ _ _ (numbers .numbers .ensures) (film .film .ensures)))
 
 write64-requires : tie.Need-write64-requires
 write64-requires c κs =
     let sum = c .before .before .before in
     let film = sum .before .before .before .before in
-    let told = film .before .before .before in
+    let numbers = film .before .before in
+    let told = numbers .before .before in
     let enough = weighed-enough _ _ _ _ _ (told .before .before .weigh .ensures) (told .weighed .given .1) in
     let one = simp length-sets at (ap length (film .film .ensures .rows-are)) in
     let two = simp length-sets at (ap length (sum .put-summary .ensures)) in
@@ -44,7 +51,8 @@ write64-requires-2 c κs =
     let ten = c .before .before .before in
     let sum = ten .before .before .before .before in
     let film = sum .before .before .before .before in
-    let told = film .before .before .before in
+    let numbers = film .before .before in
+    let told = numbers .before .before in
     let enough = weighed-enough _ _ _ _ _ (told .before .before .weigh .ensures) (told .weighed .given .1) in
     let one = simp length-sets at (ap length (film .film .ensures .rows-are)) in
     let two = simp length-sets at (ap length (sum .put-summary .ensures)) in
@@ -66,11 +74,12 @@ returns c =
     let ten = eleven .before .before .before .before in
     let sum = ten .before .before .before .before in
     let film = sum .before .before .before .before in
-    let told = film .before .before .before in
+    let numbers = film .before .before in
+    let told = numbers .before .before in
     let enough = weighed-enough _ _ _ _ _ (told .before .before .weigh .ensures) (told .weighed .given .1) in
     record {
       number-is = sym (ap (λ (a : Answer). a .number) (weighed-answer _ _ _ _ _ (told .before .before .weigh .ensures) (told .weighed .given .1)));
-      bytes-are = film-filled _ _ _ _ _ enough (film .film .ensures) (sum .put-summary .ensures) (ten .write64 .ensures)
+      bytes-are = film-filled _ _ _ _ _ enough (stated-gives _ _ _ (numbers .numbers .ensures) (film .film .ensures)) (sum .put-summary .ensures) (ten .write64 .ensures)
           (eleven .write642 .ensures);
     }
 
@@ -89,6 +98,7 @@ vtiming-capture-spec =
     (tie.spec
     weigh-requires
     enum-known-weighed
+    numbers-requires
     film-requires
     put-summary-requires
     write64-requires
