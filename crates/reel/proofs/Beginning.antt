@@ -17,8 +17,9 @@ use Rattle.capture.specs.Step.{openedBy, openedOf, between, restFrom}
 use Rattle.timing.specs.declared.State.{State}
 use Rattle.timing.specs.declared.SetUp.{SetUp}
 use Rattle.timing.specs.declared.SetUp.the-variants.{Fresh, Refused as Not-Set-Up}
-use Rattle.timing.specs.Step.{setUpOf, rulesOf, freshOf}
-use Rattle.timing.specs.Answers.{setUpAs}
+use Rattle.timing.specs.Step.{statedOf, statedRefusal, rulesOf, freshOf}
+use Rattle.timing.specs.Answers.{statedUp}
+use Rattle.timing.proofs.Stating.{stated-fine}
 use Rattle.timing.proofs.InRange.{sound-fresh}
 use Rattle.reel.specs.declared.Asked.{Asked}
 use Rattle.reel.specs.declared.Threaded.{Threaded}
@@ -28,7 +29,7 @@ use Rattle.reel.specs.Step.{openBy, readyOf, setUpBy, beginOf, restBy, S
 
 -- ---- each way out of the code
 
-module _ (a : Asked) (w : List ℕ) (last : Bool) {u : SetUp} (e : u ≡ setUpAs (a .numbers)) where
+module _ (a : Asked) (w : List ℕ) (last : Bool) {u : SetUp} (e : u ≡ statedUp (a .stated)) where
   pub begins-refused : {number : ℕ} → u ≡ Not-Set-Up number → threaded.Refused number ≡ beginOf a w last
   unfolding beginOf
   begins-refused f = rw (← e, f)
@@ -75,50 +76,50 @@ Tells a w v (threaded.Refused number) = outputOf a (w ++ v) ≡ refusalLine numb
 Tells a w v (threaded.Ready reel) = Stands reel × (headerBytes ≤ length w) × (outputOf a (w ++ v) ≡ restBy reel (drop headerBytes w ++ v))
 
 module _ (a : Asked) (w v : List ℕ) (last : Bool) (l : last ≡ true → v ≡ []) where
-  module _ (fine : setUpOf (a .numbers) ≡ 0) (h : a .offset ≤ 99) where
+  module _ (fine : statedRefusal (a .stated) ≡ 0) (h : a .offset ≤ 99) where
     by-header : {k : Header} → headerOf (w ++ v) ≡ k → outputOf a (w ++ v) ≡ outputBy a k (w ++ v)
     unfolding outputOf
-    by-header e = rw (eq-eqb (setUpOf (a .numbers)) 0 fine, le-leb (a .offset) 99 h, e)
+    by-header e = rw (eq-eqb (statedRefusal (a .stated)) 0 fine, le-leb (a .offset) 99 h, e)
 
-    opens-tells : (long : headerBytes ≤ length w) (k : Header) → headerOf w ≡ k → Tells a w v (openBy a (freshOf (a .numbers)) (openedBy k))
+    opens-tells : (long : headerBytes ≤ length w) (k : Header) → headerOf w ≡ k → Tells a w v (openBy a (freshOf (statedOf (a .stated))) (openedBy k))
     unfolding restFrom
     opens-tells long (capture f) e = (
-      record { sound = sound-fresh (a .numbers) fine; records = omega arith; skipped = omega arith },
+      record { sound = sound-fresh (statedOf (a .stated)) (stated-fine (a .stated) fine .1); records = omega arith; skipped = omega arith },
       long,
       by-header (header-front w v long ∙ e)
-          ∙ ap (λ (m : List ℕ). linesOf (rulesOf (a .numbers)) (freshOf (a .numbers)) 0 0
+          ∙ ap (λ (m : List ℕ). linesOf (rulesOf (statedOf (a .stated))) (freshOf (statedOf (a .stated))) 0 0
           (recordsIn (record { format = f; port = a .port; offset = a .offset }) m)) (drop-append-le headerBytes w v long),
     )
     opens-tells long unknown e = by-header (header-front w v long ∙ e)
 
-    ready-tells : Tells a w v (readyOf a (freshOf (a .numbers)) w last)
+    ready-tells : Tells a w v (readyOf a (freshOf (statedOf (a .stated))) w last)
     unfolding readyOf openedOf
     ready-tells =
-        pick-either (λ (o : Opened). Tells a w v (openBy a (freshOf (a .numbers)) o)) (ltb (length w) headerBytes)
-        (λ e. pick-either (λ (o : Opened). Tells a w v (openBy a (freshOf (a .numbers)) o)) last
+        pick-either (λ (o : Opened). Tells a w v (openBy a (freshOf (statedOf (a .stated))) o)) (ltb (length w) headerBytes)
+        (λ e. pick-either (λ (o : Opened). Tells a w v (openBy a (freshOf (statedOf (a .stated))) o)) last
         (λ t. by-header (ap (λ (x : List ℕ). headerOf (w ++ x)) (l t) ∙ ap headerOf (append-nil w)
         ∙ header-short w (ltb-true (length w) headerBytes e)))
         (λ t. tt))
         (λ e. opens-tells (ltb-false (length w) headerBytes e) (headerOf w) refl)
 
-  offset-tells : setUpOf (a .numbers) ≡ 0 → 99 < a .offset → Tells a w v (threaded.Refused 33)
+  offset-tells : statedRefusal (a .stated) ≡ 0 → 99 < a .offset → Tells a w v (threaded.Refused 33)
   unfolding outputOf
-  offset-tells fine h = rw (eq-eqb (setUpOf (a .numbers)) 0 fine, lt-leb (a .offset) 99 h)
+  offset-tells fine h = rw (eq-eqb (statedRefusal (a .stated)) 0 fine, lt-leb (a .offset) 99 h)
 
-  set-up-tells : (setUpOf (a .numbers) ≡ 0 → ⊥) → Tells a w v (threaded.Refused (setUpOf (a .numbers)))
+  set-up-tells : (statedRefusal (a .stated) ≡ 0 → ⊥) → Tells a w v (threaded.Refused (statedRefusal (a .stated)))
   unfolding outputOf
-  set-up-tells n = rw (ne-eqb (setUpOf (a .numbers)) 0 n)
+  set-up-tells n = rw (ne-eqb (statedRefusal (a .stated)) 0 n)
 
   pub begin-tells : Tells a w v (beginOf a w last)
-  unfolding beginOf setUpAs
+  unfolding beginOf statedUp
   begin-tells =
-      pick-either (λ (u : SetUp). Tells a w v (setUpBy a w last u)) (eqb (setUpOf (a .numbers)) 0)
+      pick-either (λ (u : SetUp). Tells a w v (setUpBy a w last u)) (eqb (statedRefusal (a .stated)) 0)
       (λ e.
-      let fine = eqb-true (setUpOf (a .numbers)) 0 e in
+      let fine = eqb-true (statedRefusal (a .stated)) 0 e in
       pick-either (Tells a w v) (leb (a .offset) 99)
       (λ f. ready-tells fine (leb-true (a .offset) 99 f))
       (λ f. offset-tells fine (leb-false (a .offset) 99 f)))
-      (λ e. set-up-tells (eqb-false (setUpOf (a .numbers)) 0 e))
+      (λ e. set-up-tells (eqb-false (statedRefusal (a .stated)) 0 e))
 
 -- where no more will come, and where the header is shown, the start of a capture is answered
 abbrev pub Answered : Threaded → Type 0
@@ -128,7 +129,7 @@ Answered (threaded.Ready reel) = Unit
 
 pub begin-answered : (a : Asked) (w : List ℕ) (last : Bool) → (length w < headerBytes → last ≡ true) → Answered (beginOf a w last)
 unfolding beginOf readyOf openedOf
-begin-answered a w last h = go (setUpAs (a .numbers))
+begin-answered a w last h = go (statedUp (a .stated))
   where
     headed : (s : State) (k : Header) → Answered (openBy a s (openedBy k))
     headed s (capture f) = tt

@@ -18,7 +18,7 @@ use Rattle.capture.specs.Paper.{headerBytes, capture, headerOf, Found, packet, 
 use Rattle.capture.specs.Paper.{skippedIn, asked}
 use Rattle.timing.specs.declared.Rules.{Rules}
 use Rattle.timing.specs.declared.State.{State}
-use Rattle.timing.specs.Step.{setUpOf, rulesOf, freshOf, stepOf, rowsOf, stateAfter, rowsAfter}
+use Rattle.timing.specs.Step.{statedOf, statedRefusal, rulesOf, freshOf, stepOf, rowsOf, stateAfter, rowsAfter}
 use Rattle.timing.proofs.Running.{step-past}
 use Rattle.printer.specs.Paper.{rowLines}
 use Rattle.printer.proofs.Carrying.{rows-append}
@@ -143,11 +143,11 @@ module _ (rules : Rules) (s : State) (none : s .past .packets ≡ 0) (begun : Bo
           rw all at (lines-stopped rules (r .ending) (r .found) s begun 0 0 0 f .lines)
 
 -- R17: so of a capture whose stream, offset and header are accepted
-pub output-wholly : (a : Asked) (file : List ℕ) {f : Format} → setUpOf (a .numbers) ≡ 0 → a .offset ≤ 99 → headerOf file ≡ capture f
+pub output-wholly : (a : Asked) (file : List ℕ) {f : Format} → statedRefusal (a .stated) ≡ 0 → a .offset ≤ 99 → headerOf file ≡ capture f
     → let r = recordsIn (asked f (a .port) (a .offset)) (drop headerBytes file) in
-    outputOf a file ≡ printedBy (scanOf nothing false 0 (handedOn (r .found))) (rulesOf (a .numbers)) (freshOf (a .numbers)) r
+    outputOf a file ≡ printedBy (scanOf nothing false 0 (handedOn (r .found))) (rulesOf (statedOf (a .stated))) (freshOf (statedOf (a .stated))) r
 unfolding outputOf
 output-wholly a file {f} e h k =
-    rw (eq-eqb (setUpOf (a .numbers)) 0 e, le-leb (a .offset) 99 h, k)
-    (printed-wholly (rulesOf (a .numbers)) (freshOf (a .numbers)) refl false
+    rw (eq-eqb (statedRefusal (a .stated)) 0 e, le-leb (a .offset) 99 h, k)
+    (printed-wholly (rulesOf (statedOf (a .stated))) (freshOf (statedOf (a .stated))) refl false
     (recordsIn (asked f (a .port) (a .offset)) (drop headerBytes file)))

@@ -13,7 +13,7 @@ use Rattle.timing.specs.declared.State.{State}
 use Rattle.timing.specs.declared.Judged.{Judged}
 use Rattle.timing.specs.declared.Judged.the-variants.{Given, Refused as Not-Judged}
 use Rattle.timing.specs.Answers.{verdictOf}
-use Rattle.timing.specs.Step.{setUpOf, rulesOf, freshOf, stepOf, rowsOf, stateAfter, rowsAfter}
+use Rattle.timing.specs.Step.{statedOf, statedRefusal, rulesOf, freshOf, stepOf, rowsOf, stateAfter, rowsAfter}
 use Rattle.printer.specs.Paper.{rowLines}
 use Rattle.reel.specs.declared.Asked.{Asked}
 
@@ -46,16 +46,16 @@ linesOf rules s records skips r = linesFrom rules s records skips (r .found) (r 
 
 abbrev pub outputBy : Asked → Header → List ℕ → List ℕ
 outputBy a (capture f) file =
-    linesOf (rulesOf (a .numbers)) (freshOf (a .numbers)) 0 0
+    linesOf (rulesOf (statedOf (a .stated))) (freshOf (statedOf (a .stated))) 0 0
     (recordsIn (record { format = f; port = a .port; offset = a .offset }) (drop headerBytes file))
 outputBy a unknown file = refusalLine 30 0
 
 -- R15, R17: "1 to 7, then the order above", with 8 after 7: 33, 30, and then record by record
 unfoldable pub outputOf : Asked → List ℕ → List ℕ
 outputOf a file =
-    pick (eqb (setUpOf (a .numbers)) 0)
+    pick (eqb (statedRefusal (a .stated)) 0)
     (pick (leb (a .offset) 99) (outputBy a (headerOf file) file) (refusalLine 33 0))
-    (refusalLine (setUpOf (a .numbers)) 0)
+    (refusalLine (statedRefusal (a .stated)) 0)
 
 -- ---- the same of the whole history: what the scan says of all packets, and how the records end (proofs/Wholly.antt: the two agree)
 

@@ -17,7 +17,7 @@ use Rattle.timing.specs.declared.SetUp.{SetUp}
 use Rattle.timing.specs.declared.SetUp.the-variants.{Fresh, Refused as Not-Set-Up}
 use Rattle.timing.specs.Step.{rulesOf, stepOf, rowsOf}
 use Rattle.timing.specs.Range.{inRange, Sound}
-use Rattle.timing.specs.Answers.{setUpAs}
+use Rattle.timing.specs.Answers.{statedUp}
 use Rattle.printer.specs.Paper.{rowLines}
 use Rattle.reel.specs.declared.Asked.{Asked}
 use Rattle.reel.specs.declared.Reel.{Reel}
@@ -47,7 +47,7 @@ setUpBy a w last (Fresh s) = pick (leb (a .offset) 99) (readyOf a s w last) (thr
 setUpBy a w last (Not-Set-Up number) = threaded.Refused number
 
 unfoldable pub beginOf : Asked → List ℕ → Bool → Threaded
-beginOf a w last = setUpBy a w last (setUpAs (a .numbers))
+beginOf a w last = setUpBy a w last (statedUp (a .stated))
 
 -- ---- a piece
 

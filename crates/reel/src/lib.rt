@@ -15,11 +15,11 @@ use timing::Judged;
 use timing::Rules;
 use timing::SetUp;
 use timing::State;
-use timing::StreamNumbers;
+use timing::Stated;
 
-// What the program is asked: the stream's numbers, its port, and the offset of the capture's clock.
+// What the program is asked: the stream as it is stated, its port, and the offset of the capture's clock.
 pub struct Asked {
-    pub numbers: StreamNumbers,
+    pub stated: Stated,
     pub port: u16,
     pub offset: u32,
 }
@@ -75,8 +75,8 @@ fn ready(asked: Asked, state: State, window: &[u8], last: bool) -> Threaded
 pub fn begin(asked: Asked, window: &[u8], last: bool) -> Threaded
     ensures { λ r. ⌜ r ≡ beginOf asked (now (window .entry)) last ⌝ }
 {
-    let numbers = asked.numbers;
-    match numbers.set_up() {
+    let stated = asked.stated;
+    match stated.set_up() {
         SetUp::Fresh(state) => {
             if 99 < asked.offset {
                 return Threaded::Refused { number: 33 };

@@ -8,6 +8,7 @@ use Rattle.bucket.specs.Paper.{networkNumber, networkFirst, networkLast}
 use Rattle.frame.specs.declared.Row.{Row}
 use Rattle.frame.specs.Paper.{nextReadOf, bufferNumber, bufferFrame, bufferPlace}
 use Rattle.timing.specs.declared.StreamNumbers.{StreamNumbers}
+use Rattle.timing.specs.declared.Stated.{Stated}
 use Rattle.timing.specs.declared.State.{State}
 use Rattle.timing.specs.declared.SetUp.{SetUp}
 use Rattle.timing.specs.declared.SetUp.the-variants.{Fresh, Refused}
@@ -20,12 +21,16 @@ use Rattle.timing.specs.declared.Drawn.{Drawn}
 use Rattle.timing.specs.declared.Drawn.the-variants.{Figures, Refused as Not-Drawn}
 use Rattle.timing.specs.declared.Awaited.{Awaited}
 use Rattle.timing.specs.declared.Awaited.the-variants.{In as Awaited-In, NoneLeft as Awaited-None, Refused as Not-Awaited}
-use Rattle.timing.specs.Step.{setUpOf, rulesOf, freshOf}
+use Rattle.timing.specs.Step.{setUpOf, statedOf, statedRefusal, rulesOf, freshOf}
 use Rattle.timing.specs.Range.{inRange}
 
 -- N3: "A refused set-up returns its number and no state."
 unfoldable pub setUpAs : StreamNumbers → SetUp
 setUpAs x = pick (eqb (setUpOf x) 0) (Fresh (freshOf x)) (Refused (setUpOf x))
+
+-- N3, S12: and of what is stated
+unfoldable pub statedUp : Stated → SetUp
+statedUp t = pick (eqb (statedRefusal t) 0) (Fresh (freshOf (statedOf t))) (Refused (statedRefusal t))
 
 -- V5: "The verdict holds the network answer and the buffer answer."
 abbrev pub answersOf : State → Verdict

@@ -10,7 +10,7 @@ ghost use Rattle.timing.specs.Range.{inRange};
 ghost use Rattle.frame.specs.Range.{Planned, FramesRowAsks};
 ghost use Rattle.packet.specs.Paper.{OneLength, packets};
 ghost use lib.Ieee.{binary64, inFloat};
-ghost use Rattle.timing.specs.Answers.{setUpAs, apartNumber, nextOf, verdictOf, summaryWith, microsecondsOf, graphOf};
+ghost use Rattle.timing.specs.Answers.{setUpAs, statedUp, apartNumber, nextOf, verdictOf, summaryWith, microsecondsOf, graphOf};
 ghost use Rattle.timing.specs.Feed.{ArriveAsks, closedRow, closing, LayAsks, RunAsks, RunGives, feedOf, FeedGives};
 use bucket::Bucket;
 use bucket::Network;
@@ -119,6 +119,18 @@ impl Stated {
         let of_profile = limits::profile_refusal(self.kind);
         let of_numbers = numbers.refusal();
         laws::first_of(of_profile, of_numbers)
+    }
+
+    // The fresh state of what it states, or the refusal and no state.
+    pub fn set_up(self) -> SetUp
+        ensures { λ r. ⌜ r ≡ statedUp self ⌝ }
+    {
+        let number = self.refusal();
+        if number != 0 {
+            return SetUp::Refused(number);
+        }
+        let numbers = self.numbers();
+        SetUp::Fresh(numbers.fresh())
     }
 
     // What it states, where it is not refused.
