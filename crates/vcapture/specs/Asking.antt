@@ -1,4 +1,4 @@
--- What the program was called with: the number that stands at a place, and what the ten ask.
+-- What the program was called with: the number that stands at a place, and what the eleven ask.
 use Rattle.laws.specs.Kit.{_≡_, List, ℕ, _≤_}
 use Rattle.window.specs.Said.{Argued}
 use Rattle.words.specs.declared.Word.{Word}
@@ -14,7 +14,7 @@ pub record Stands-at (place : ℕ) (r : Word) : Type 0 where
   pub argued : Argued place word
   pub number : r ≡ wordOf word
 
--- R17: "Ten numbers are its arguments, in this order: port, offset, rate, schedule, class, height, n, MAXUDP, TRO, edition."
+-- R17: "Eleven numbers are its arguments, in this order: port, offset, rate, schedule, class, height, n, MAXUDP, TRO, profile, edition."
 pub record Numbered (x : Numbers) : Type 0 where
   pub port : Stands-at 1 (Number (x .port))
   pub offset : Stands-at 2 (Number (x .offset))
@@ -25,9 +25,10 @@ pub record Numbered (x : Numbers) : Type 0 where
   pub n : Stands-at 7 (Number (x .n))
   pub maxudp : Stands-at 8 (Number (x .maxudp))
   pub tro : Stands-at 9 (Number (x .tro))
-  pub edition : Stands-at 10 (Number (x .edition))
+  pub profile : Stands-at 10 (Number (x .profile))
+  pub edition : Stands-at 11 (Number (x .edition))
 
--- R18: "A word that is no number [..] is no call at all"; else the ten ask what they ask
+-- R18: "A word that is no number [..] is no call at all"; else the eleven ask what they ask
 pub data AskGives : Given → Type 0 where
-  no-number : (place : ℕ) → 1 ≤ place → place ≤ 10 → Stands-at place NoNumber → AskGives NoCall
+  no-number : (place : ℕ) → 1 ≤ place → place ≤ 11 → Stands-at place NoNumber → AskGives NoCall
   numbered : (x : Numbers) → Numbered x → AskGives (givenOf x)

@@ -39,13 +39,13 @@ fn number_at(place: usize) -> Word
     words::number_of(&word[0..size])
 }
 
-// The ten numbers, one by one; the first word that is none ends it.
+// The eleven numbers, one by one; the first word that is none ends it.
 fn ask() -> Given
     ensures { λ r. ⌜ AskGives r ⌝ }
 {
-    let mut numbers = [0u64; 10];
+    let mut numbers = [0u64; 11];
     let mut k = 0;
-    while k < 10 {
+    while k < 11 {
         let word = number_at(k + 1);
         let Word::Number { value } = word else {
             return Given::NoCall;
@@ -63,7 +63,8 @@ fn ask() -> Given
         n: numbers[6],
         maxudp: numbers[7],
         tro: numbers[8],
-        edition: numbers[9],
+        profile: numbers[9],
+        edition: numbers[10],
     })
 }
 

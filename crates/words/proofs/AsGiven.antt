@@ -1,6 +1,6 @@
--- Ten numbers put in their places are refused, and measured, as they are given, whatever their size: set-up, the offset's test and so the
+-- Eleven numbers put in their places are refused, and measured, as they are given, whatever their size: set-up, the offset's test and so the
 -- whole output are the same. By one law: what cannot tell a number too large from what stands instead of it cannot tell it from the number.
-use Rattle.laws.specs.Kit.{_≡_, refl, sym, ap, _∙_, _⊎_, inl, inr, Bool, true, false, and-false, List, [], _∷_, ℕ, zero, suc, _*_, _≤_}
+use Rattle.laws.specs.Kit.{_≡_, refl, sym, ap, _∙_, _⊎_, ⊎-elim, inl, inr, Bool, true, false, and-false, List, [], _∷_, ℕ, zero, suc, _*_, _≤_}
 use Rattle.laws.specs.Kit.{_<_, arith}
 use Rattle.laws.specs.Kit.{leb, eqb, leb-false, leb-true, lt-leb, le-ltb, ne-eqb, eqb-true}
 use Rattle.laws.specs.Choose.{pick}
@@ -13,7 +13,10 @@ use Rattle.limits.proofs.Laws.{past-rates, past-classes}
 use Rattle.limits.proofs.Rates.{frame-most}
 use Rattle.limits.proofs.Accepting.{accepted}
 use Rattle.limits.proofs.Editions.{in-fine}
-use Rattle.timing.specs.Step.{setUpOf}
+use Rattle.limits.specs.Paper.{isProfile, profileRefusal}
+use Rattle.limits.proofs.Profiles.{profile-kinds, no-other}
+use Rattle.timing.specs.Step.{statedRefusal}
+use Rattle.timing.proofs.Stating.{stated-fine}
 use Rattle.capture.specs.Paper.{headerOf}
 use Rattle.text.specs.Lines.{refusalLine}
 use Rattle.reel.specs.declared.Asked.{Asked}
@@ -98,11 +101,20 @@ edition-alike : (x : ℕ) → editionRefusal (placed 4294967295 4294967295 x) �
 unfolding editionRefusal
 edition-alike = alike editionRefusal 4294967295 4294967295 (λ x h. rw (← above 1 2 x (omega arith)))
 
+-- S12: no kind of a profile is as large as 255
+profile-too-large : (x : ℕ) → 255 ≤ x → false ≡ isProfile x
+profile-too-large x h = no-other x (λ e. omega arith) (λ e. omega arith)
+
+profile-alike : (x : ℕ) → profileRefusal (placed 255 255 x) ≡ profileRefusal x
+unfolding profileRefusal
+profile-alike =
+    alike profileRefusal 255 255 (λ x h. rw (← profile-too-large 255 (omega arith), ← profile-too-large x (omega arith)))
+
 -- ---- set-up, and the output
 
 module _ (x : Numbers) where
-  -- R18: "One that is too large for its place, as a height of 65,536, is refused as set-up refuses such a number (1 to 8)"
-  parameters-as-given : setUpRefusal (askedOf x .numbers .parameters) ≡ setUpRefusal (asGiven x .numbers .parameters)
+  -- R18: "One that is too large for its place, as a height of 65,536, is refused as set-up refuses such a number (1 to 8)", and a profile by 22
+  parameters-as-given : setUpRefusal (askedOf x .stated .parameters) ≡ setUpRefusal (asGiven x .stated .parameters)
   unfolding askedOf setUpRefusal
   parameters-as-given =
       ap (firstNo 1)
@@ -116,9 +128,9 @@ module _ (x : Numbers) where
       ∷ tro-fits-alike (x .rate) (x .tro) j
       ∷ [])
 
-  pub set-up-as-given : setUpOf (askedOf x .numbers) ≡ setUpOf (asGiven x .numbers)
-  unfolding askedOf setUpIn
-  set-up-as-given = rw (parameters-as-given, edition-alike (x .edition))
+  pub set-up-as-given : statedRefusal (askedOf x .stated) ≡ statedRefusal (asGiven x .stated)
+  unfolding askedOf statedRefusal setUpIn
+  set-up-as-given = rw (profile-alike (x .profile), parameters-as-given, edition-alike (x .edition))
 
   -- R18: ".. or by 33"
   pub offset-as-given : leb (askedOf x .offset) 99 ≡ leb (asGiven x .offset) 99
@@ -143,13 +155,18 @@ module _ (x : Numbers) where
   udp-small (inl e) = omega (arith, e)
   udp-small (inr e) = omega (arith, e)
 
-  all-fit : setUpOf (asGiven x .numbers) ≡ 0 → x .offset ≤ 99 → askedOf x ≡ asGiven x
+  profile-small : isProfile (x .profile) ≡ true → x .profile ≤ 255
+  profile-small e = ⊎-elim (λ z. omega arith) (λ z. omega arith) (profile-kinds (x .profile) e)
+
+  all-fit : statedRefusal (asGiven x .stated) ≡ 0 → x .offset ≤ 99 → askedOf x ≡ asGiven x
   unfolding askedOf
   all-fit e h =
-      let fine = in-fine (asGiven x .numbers .parameters) (x .edition) e in
-      let a = accepted (asGiven x .numbers .parameters) (fine .0) in
+      let stated = stated-fine (asGiven x .stated) e in
+      let fine = in-fine (asGiven x .stated .parameters) (x .edition) (stated .1) in
+      let a = accepted (asGiven x .stated .parameters) (fine .0) in
       λ j. record {
-        numbers = record {
+        stated = record {
+          kind = sym (fits 255 255 (x .profile) (profile-small (stated .0))) j;
           parameters = record {
             rate = sym (fits 255 255 (x .rate) (omega (arith, a .rate-known .1))) j;
             schedule = sym (fits 255 255 (x .schedule) (omega (arith, a .schedule-known))) j;
@@ -168,13 +185,13 @@ module _ (x : Numbers) where
   -- R18: "The program takes its numbers as they are given.": what it prints is what the rules say of the numbers themselves
   pub output-as-given : (file : List ℕ) → outputOf (askedOf x) file ≡ outputOf (asGiven x) file
   unfolding outputOf
-  output-as-given file = rw (set-up-as-given, offset-as-given) (go (eqb (setUpOf (asGiven x .numbers)) 0) (leb (x .offset) 99) refl refl)
+  output-as-given file = rw (set-up-as-given, offset-as-given) (go (eqb (statedRefusal (asGiven x .stated)) 0) (leb (x .offset) 99) refl refl)
     where
-      go : (t u : Bool) → eqb (setUpOf (asGiven x .numbers)) 0 ≡ t → leb (x .offset) 99 ≡ u
-          → pick t (pick u (outputBy (askedOf x) (headerOf file) file) (refusalLine 33 0)) (refusalLine (setUpOf (asGiven x .numbers)) 0)
-          ≡ pick t (pick u (outputBy (asGiven x) (headerOf file) file) (refusalLine 33 0)) (refusalLine (setUpOf (asGiven x .numbers)) 0)
+      go : (t u : Bool) → eqb (statedRefusal (asGiven x .stated)) 0 ≡ t → leb (x .offset) 99 ≡ u
+          → pick t (pick u (outputBy (askedOf x) (headerOf file) file) (refusalLine 33 0)) (refusalLine (statedRefusal (asGiven x .stated)) 0)
+          ≡ pick t (pick u (outputBy (asGiven x) (headerOf file) file) (refusalLine 33 0)) (refusalLine (statedRefusal (asGiven x .stated)) 0)
       go false u e f = refl
       go true false e f = refl
       go true true e f =
-          let same = all-fit (eqb-true (setUpOf (asGiven x .numbers)) 0 e) (leb-true (x .offset) 99 f) in
+          let same = all-fit (eqb-true (statedRefusal (asGiven x .stated)) 0 e) (leb-true (x .offset) 99 f) in
           ap (λ (a : Asked). outputBy a (headerOf file) file) same

@@ -2,7 +2,8 @@
 use Rattle.laws.specs.Kit.{_≡_, refl, [], ℕ}
 use Rattle.laws.specs.Fold.{fold}
 use Rattle.limits.specs.Paper.{rateOf, frameLength, classOf, troFits, firstNo, setUpRefusal, editionRefusal, setUpIn}
-use Rattle.timing.specs.Step.{setUpOf}
+use Rattle.timing.specs.Step.{statedRefusal}
+use Rattle.limits.specs.Paper.{isProfile, profileRefusal}
 use Rattle.text.specs.Decimal.{codes}
 use Rattle.words.specs.declared.Numbers.{Numbers}
 use Rattle.words.specs.declared.Word.the-variants.{NoNumber, Number}
@@ -28,9 +29,9 @@ pub a-point : wordOf (codes "1.5") ≡ NoNumber
 unfolding wordOf numberIn allDigits
 a-point = refl
 
--- 1080p50, gapped and narrow, but for its height, its TRO and the edition
-abbrev of-height : ℕ → ℕ → ℕ → Numbers
-of-height height tro edition = record {
+-- 1080p50, gapped and narrow, but for its height, its TRO, its profile and the edition
+abbrev of-height : ℕ → ℕ → ℕ → ℕ → Numbers
+of-height height tro profile edition = record {
   port = 20000;
   offset = 37;
   rate = 6;
@@ -40,23 +41,29 @@ of-height height tro edition = record {
   n = 4;
   maxudp = 1460;
   tro = tro;
+  profile = profile;
   edition = edition;
 }
 
 -- R18: "as a height of 65,536, is refused as set-up refuses such a number"
-pub too-high : setUpOf (askedOf (of-height 65536 4294967295 1) .numbers) ≡ 4
-unfolding askedOf setUpIn editionRefusal setUpRefusal firstNo classOf troFits frameLength rateOf
+pub too-high : statedRefusal (askedOf (of-height 65536 4294967295 1 1) .stated) ≡ 4
+unfolding askedOf statedRefusal profileRefusal isProfile setUpIn editionRefusal setUpRefusal firstNo classOf troFits frameLength rateOf
 too-high = refl
 
-pub too-late : setUpOf (askedOf (of-height 1080 4294967296 1) .numbers) ≡ 7
-unfolding askedOf setUpIn editionRefusal setUpRefusal firstNo classOf troFits frameLength rateOf
+pub too-late : statedRefusal (askedOf (of-height 1080 4294967296 1 1) .stated) ≡ 7
+unfolding askedOf statedRefusal profileRefusal isProfile setUpIn editionRefusal setUpRefusal firstNo classOf troFits frameLength rateOf
 too-late = refl
 
 -- R18: an edition of 2^32 + 2 is not taken for 2
-pub no-edition : setUpOf (askedOf (of-height 1080 4294967295 4294967298) .numbers) ≡ 8
-unfolding askedOf setUpIn editionRefusal setUpRefusal firstNo classOf troFits frameLength rateOf
+pub no-edition : statedRefusal (askedOf (of-height 1080 4294967295 3 4294967298) .stated) ≡ 8
+unfolding askedOf statedRefusal profileRefusal isProfile setUpIn editionRefusal setUpRefusal firstNo classOf troFits frameLength rateOf
 no-edition = refl
 
-pub measured : setUpOf (askedOf (of-height 1080 4294967295 2) .numbers) ≡ 0
-unfolding askedOf setUpIn editionRefusal setUpRefusal firstNo classOf troFits frameLength rateOf
+-- S12: nor is a profile of 256 + 3 taken for 3, and 22 comes first
+pub no-profile : statedRefusal (askedOf (of-height 65536 4294967296 259 3) .stated) ≡ 22
+unfolding askedOf statedRefusal profileRefusal isProfile setUpIn editionRefusal setUpRefusal firstNo classOf troFits frameLength rateOf
+no-profile = refl
+
+pub measured : statedRefusal (askedOf (of-height 1080 4294967295 3 2) .stated) ≡ 0
+unfolding askedOf statedRefusal profileRefusal isProfile setUpIn editionRefusal setUpRefusal firstNo classOf troFits frameLength rateOf
 measured = refl

@@ -1,8 +1,7 @@
--- The words of a call of the program for captures, as rule R18 has them: what number a word is, and what ten numbers ask.
+-- The words of a call of the program for captures, as rule R18 has them: what number a word is, and what eleven numbers ask.
 use Rattle.laws.specs.Kit.{_≡_, Bool, true, _&&_, List, [], _∷_, ℕ, _≤_, leb, length}
 use Rattle.laws.specs.Choose.{pick}
 use Rattle.limits.specs.Paper.{within, given}
-use Rattle.timing.specs.Step.{inEdition}
 use Rattle.text.specs.Decimal.{value, Digits}
 use Rattle.reel.specs.declared.Asked.{Asked}
 use Rattle.words.specs.declared.Word.{Word}
@@ -38,10 +37,14 @@ pub record Spells (w : List ℕ) (n : ℕ) : Type 0 where
   pub all-digits : Digits w
   pub number : n ≡ value w
 
--- R18: "The program takes its numbers as they are given.": ten whole numbers of any size, each where it belongs
+-- R18: "The program takes its numbers as they are given.": eleven whole numbers of any size, each where it belongs
 abbrev pub asGiven : Numbers → Asked
 asGiven x = record {
-  numbers = inEdition (x .edition) (given (x .rate) (x .schedule) (x .class) (x .height) (x .n) (x .maxudp) (x .tro));
+  stated = record {
+    kind = x .profile;
+    parameters = given (x .rate) (x .schedule) (x .class) (x .height) (x .n) (x .maxudp) (x .tro);
+    edition = x .edition;
+  };
   port = x .port;
   offset = x .offset;
 }
@@ -58,20 +61,22 @@ insteadHeight = 0
 abbrev pub insteadTro : ℕ
 insteadTro = 4294967294
 
--- R18: "One that is too large for its place, as a height of 65,536, is refused as set-up refuses such a number (1 to 8), or by 33.": instead
+-- R18: "One that is too large for its place, as a height of 65,536, is refused as set-up refuses such a number (1 to 8), or by 33.", and a profile by 22: instead
 -- of it stands a number that fits and is refused alike (output-as-given, proofs/AsGiven.antt)
 unfoldable pub askedOf : Numbers → Asked
 askedOf x = record {
-  numbers = inEdition
-      (placed 4294967295 4294967295 (x .edition))
-      (given
-      (placed 255 255 (x .rate))
-      (placed 255 255 (x .schedule))
-      (placed 255 255 (x .class))
-      (placed 65535 insteadHeight (x .height))
-      (placed 4294967295 4294967295 (x .n))
-      (placed 65535 65535 (x .maxudp))
-      (placed 4294967295 insteadTro (x .tro)));
+  stated = record {
+    kind = placed 255 255 (x .profile);
+    parameters = given
+        (placed 255 255 (x .rate))
+        (placed 255 255 (x .schedule))
+        (placed 255 255 (x .class))
+        (placed 65535 insteadHeight (x .height))
+        (placed 4294967295 4294967295 (x .n))
+        (placed 65535 65535 (x .maxudp))
+        (placed 4294967295 insteadTro (x .tro));
+    edition = placed 4294967295 4294967295 (x .edition);
+  };
   port = x .port;
   offset = placed 4294967295 4294967295 (x .offset);
 }

@@ -1,11 +1,11 @@
-// The words that the program for captures is called with: the number that a word is, and what ten numbers ask.
+// The words that the program for captures is called with: the number that a word is, and what eleven numbers ask.
 // It knows decimal digits, and from `reel` what is asked. It must never know where the words come from, nor what a number may be: of
-// each place it knows one number that is refused, and the refusal itself is set-up's and the offset's.
+// each place it knows one number that is refused, and the refusal itself is the profile's, set-up's and the offset's.
 ghost use Rattle.laws.specs.Kit.{_≡_, _-_, _≤_, length};
 ghost use Rattle.words.specs.Paper.{isDigit, placed, numberIn, mostDigits, wordOf, askedOf, givenOf};
 use limits::Parameters;
 use reel::Asked;
-use timing::StreamNumbers;
+use timing::Stated;
 
 // The number that a word is; or it is none.
 pub enum Word {
@@ -13,7 +13,7 @@ pub enum Word {
     Number { value: u64 },
 }
 
-// The ten numbers in the order of the words.
+// The eleven numbers in the order of the words.
 pub struct Numbers {
     pub port: u64,
     pub offset: u64,
@@ -24,6 +24,7 @@ pub struct Numbers {
     pub n: u64,
     pub maxudp: u64,
     pub tro: u64,
+    pub profile: u64,
     pub edition: u64,
 }
 
@@ -102,7 +103,8 @@ impl Numbers {
         ensures { λ r. ⌜ r ≡ askedOf self ⌝ }
     {
         Asked {
-            numbers: StreamNumbers {
+            stated: Stated {
+                kind: place(self.profile, MOST_8, MOST_8) as u8,
                 parameters: Parameters {
                     rate: place(self.rate, MOST_8, MOST_8) as u8,
                     schedule: place(self.schedule, MOST_8, MOST_8) as u8,

@@ -1,4 +1,4 @@
--- The words in their order: so many numbers stand at the first places, until all ten do or one is none.
+-- The words in their order: so many numbers stand at the first places, until all eleven do or one is none.
 use Rattle.laws.specs.Kit.{_≡_, refl, sym, subst, _+_, _-_, _≤_, arith, length}
 use Rattle.vcapture.specs.Asking.{Stands-at, AskGives, no-number, numbered}
 use Rattle.vcapture.proofs.Asking.{Stand, one-more}
@@ -7,10 +7,10 @@ use Rattle.vcapture.proofs.ask.Statement.{statement}
 use Rattle.vcapture.proofs.ask.Tie as tie
 
 abbrev Inv-loop : tie.InvT-loop
-Inv-loop numbers₀ k₀ numbers k = (length numbers ≡ 10) × (k ≤ 10) × Stand numbers k
+Inv-loop numbers₀ k₀ numbers k = (length numbers ≡ 11) × (k ≤ 11) × Stand numbers k
 
 abbrev μ-loop : tie.MeasureT-loop
-μ-loop numbers₀ k₀ numbers k = 10 - k
+μ-loop numbers₀ k₀ numbers k = 11 - k
 
 loop-holds : tie.Need-loop-holds Inv-loop μ-loop
 loop-holds c = (refl, omega arith, λ j h. absurd (omega arith))
@@ -83,12 +83,15 @@ array-read-t35 c = search needs
 array-read-t38 : tie.Need-array-read-t38 Inv-loop μ-loop
 array-read-t38 c = search needs
 
+array-read-t41 : tie.Need-array-read-t41 Inv-loop μ-loop
+array-read-t41 c = search needs
+
 given-by-requires : tie.Need-given-by-requires Inv-loop μ-loop
 given-by-requires c κs = search needs
 
 returns-2 : tie.Need-returns-2 Inv-loop μ-loop
 returns-2 c = let l = c .before .before .loop in
-    let all : Stand (l .numbers) 10 = λ j h. l .inv .2 j (omega (arith, h, c .before .loop-test .left)) in
+    let all : Stand (l .numbers) 11 = λ j h. l .inv .2 j (omega (arith, h, c .before .loop-test .left)) in
     subst AskGives (sym (c .given-by .ensures))
     (numbered _ (record {
       port = all 0 (omega arith);
@@ -100,7 +103,8 @@ returns-2 c = let l = c .before .before .loop in
       n = all 6 (omega arith);
       maxudp = all 7 (omega arith);
       tro = all 8 (omega arith);
-      edition = all 9 (omega arith);
+      profile = all 9 (omega arith);
+      edition = all 10 (omega arith);
     }))
 
 pub ask-spec : {M : Type 1} → statement M
@@ -130,5 +134,6 @@ ask-spec =
     array-read-t32
     array-read-t35
     array-read-t38
+    array-read-t41
     given-by-requires
     returns-2)

@@ -4,6 +4,7 @@ use denote.Ref.{now}
 use Rattle.window.specs.Run.{InLoop}
 use Rattle.window.proofs.Program.{reached-begins, reached-fits, reached-turns-over, Spoken, spoken, reached-steps, reached-ends, reached-unwritten}
 use Rattle.window.proofs.Program.{reached-wants, reached-roomy, reached-reads, reached-unread, joined}
+use Rattle.timing.specs.Step.{statedAs}
 use Rattle.reel.specs.declared.Asked.{Asked}
 use Rattle.spool.specs.declared.Stage.{Stage}
 use Rattle.spool.specs.declared.Stage.the-variants.{Leader, Rolling}
@@ -16,7 +17,7 @@ use Rattle.vcapture.proofs.run.Tie as tie
 -- what was asked where the loop began
 abbrev askedIn : Stage → Asked
 askedIn (Leader asked) = asked
-askedIn (Rolling reel) = record { numbers = reel .state .numbers; port = reel .setting .port; offset = reel .setting .offset }
+askedIn (Rolling reel) = record { stated = statedAs (reel .state .numbers); port = reel .setting .port; offset = reel .setting .offset }
 
 abbrev Inv-loop : tie.InvT-loop
 Inv-loop window₀ out₀ stage₀ span₀ turns₀ window out stage span turns =

@@ -40,29 +40,35 @@ place-requires-6 c κs = search needs
 cast-t13 : tie.Need-cast-t13
 cast-t13 c = search needs
 
-sub-place : tie.Need-sub-place
-sub-place c = search needs
-
 place-requires-7 : tie.Need-place-requires-7
 place-requires-7 c κs = search needs
 
-cast-t16 : tie.Need-cast-t16
-cast-t16 c = search needs
+cast-t15 : tie.Need-cast-t15
+cast-t15 c = search needs
+
+sub-place : tie.Need-sub-place
+sub-place c = search needs
 
 place-requires-8 : tie.Need-place-requires-8
 place-requires-8 c κs = search needs
 
-cast-t19 : tie.Need-cast-t19
-cast-t19 c = search needs
-
-cast-t21 : tie.Need-cast-t21
-cast-t21 c = search needs
+cast-t18 : tie.Need-cast-t18
+cast-t18 c = search needs
 
 place-requires-9 : tie.Need-place-requires-9
 place-requires-9 c κs = search needs
 
+cast-t21 : tie.Need-cast-t21
+cast-t21 c = search needs
+
 cast-t23 : tie.Need-cast-t23
 cast-t23 c = search needs
+
+place-requires-10 : tie.Need-place-requires-10
+place-requires-10 c κs = search needs
+
+cast-t25 : tie.Need-cast-t25
+cast-t25 c = search needs
 
 returns : tie.Need-returns
 unfolding askedOf
@@ -84,12 +90,14 @@ asked-spec =
     cast-t11
     place-requires-6
     cast-t13
-    sub-place
     place-requires-7
-    cast-t16
+    cast-t15
+    sub-place
     place-requires-8
-    cast-t19
-    cast-t21
+    cast-t18
     place-requires-9
+    cast-t21
     cast-t23
+    place-requires-10
+    cast-t25
     returns)
