@@ -2,30 +2,31 @@
 -- equations with `answerOf`, `filledBy` and `roomOf` of report's Paper, and each theorem is a sentence about these. Then the next read of a
 -- packet (`vtiming_next_read`): `nextReadNumber` and `nextReadLeft` of the same page. Then set-up and calls in a row over a state in words
 -- (`vtiming_set_up`, `vtiming_feed`): `callOf` of probe's Calls, and `Dealt` of its Dealt.
-use Rattle.laws.specs.Kit.{_≡_, ap, _∙_, List, _∷_, _++_, map, ℕ, _+_, _*_, _≤_, _<_, arith, ℤ, pos, length, take, drop, getD}
+use Rattle.laws.specs.Kit.{_≡_, ap, _∙_, true, List, _∷_, _++_, map, ℕ, _+_, _*_, _≤_, _<_, arith, ℤ, pos, length, take, drop, getD}
 use Rattle.laws.specs.Kit.{le-leb, lt-leb}
 use mir.Syntax.{w64}
 use mir.Val.{toZ}
 use Rattle.laws.specs.Choose.{AllBelow}
 use Rattle.laws.specs.Count.{count}
 use Rattle.limits.specs.declared.Parameters.{Parameters}
-use Rattle.limits.specs.Paper.{given}
+use Rattle.limits.specs.Paper.{profileOf, given}
 use Rattle.limits.specs.Accepted.{KnownEdition}
 use Rattle.limits.specs.Steps.{ParametersHeld}
 use Rattle.packet.specs.declared.Packet.{Packet}
 use Rattle.packet.specs.Paper.{packets, closesAt}
 use Rattle.endian.specs.Number.{numberOf}
 use Rattle.endian.proofs.Width.{bytes-all}
-use Rattle.record.specs.Paper.{Heading, heading, firstClass, resolved, file, refused, fileOf, fileIn}
+use Rattle.record.specs.Paper.{Heading, heading, firstClass, resolved, isParameters, file, refused, fileOf, fileIn}
 use Rattle.record.specs.Layout.{headOf}
 use Rattle.record.specs.Walk.{checkedOf, checkedNumber, checkedOffset}
 use Rattle.record.specs.Write.{fileLength}
 use Rattle.record.proofs.Editions.{known-edition, accepted-edition}
 use Rattle.record.proofs.WriteRead.{written-reads}
 use Rattle.timing.specs.declared.StreamNumbers.{StreamNumbers}
+use Rattle.timing.specs.declared.Stated.{Stated}
 use Rattle.timing.specs.declared.State.{State}
 use Rattle.timing.specs.declared.Fed.the-variants.{Accepted}
-use Rattle.timing.specs.Step.{inEdition, setUpOf, freshOf, numbers}
+use Rattle.timing.specs.Step.{streamWith, statedOf, statedAs, statedRefusal, freshOf, numbers}
 use Rattle.timing.specs.declared.Awaited.{Awaited}
 use Rattle.timing.specs.declared.Awaited.the-variants.{In, NoneLeft}
 use Rattle.timing.specs.Answers.{summaryWidth, summaryOf, fedNumber, fedPlace, nextOf, awaitedNumber}
@@ -125,7 +126,7 @@ module _ (edition : ℕ) (s : List ℕ) where
     -- F11: "version 1 files keep 0 as wide": the report of a file of version 1 is the one of its numbers with 0 read as 3
     pub version-one-measured : w .version ≡ 1 → let p = w .parameters in
         bytesFor edition w ps
-        ≡ encoded (reportOf (inEdition edition (given (p .rate) (p .schedule) (firstClass (p .class)) (p .height) (p .n) (p .maxudp) (p .tro))) ps)
+        ≡ encoded (reportOf (streamWith (profileOf (w .kind)) edition (given (p .rate) (p .schedule) (firstClass (p .class)) (p .height) (p .n) (p .maxudp) (p .tro))) ps)
     version-one-measured = file-proved.first-measured edition w ps
 
     -- C3: "Each number is 8 bytes, signed, big-endian": number k of the report is what its 8 bytes are, read as a signed number
@@ -145,9 +146,9 @@ written-measured edition k w ts ss ms out after hw ht hs h =
 
 -- F11: whatever bytes follow the head of a file of version 1, refused or not, it is answered, and its lent bytes are filled, as those of the
 -- file of version 2 whose class 0 is written as 3
-pub version-one-answered : (edition : ℕ) (p : Parameters) (l out : List ℕ) → ParametersHeld p
-    → let s = headOf (heading 1 p) ++ l in
-    let t = headOf (heading 2 (resolved (heading 1 p))) ++ l in
+pub version-one-answered : (edition kind : ℕ) (p : Parameters) (l out : List ℕ) → isParameters kind ≡ true → ParametersHeld p
+    → let s = headOf (heading 1 kind p) ++ l in
+    let t = headOf (heading 2 kind (resolved (heading 1 kind p))) ++ l in
     (answerOf edition s (length out) ≡ answerOf edition t (length out)) × (filledBy edition s out ≡ filledBy edition t out)
 version-one-answered = file-proved.first-answered
 
@@ -171,8 +172,8 @@ module _ (x : StreamNumbers) (first t : ℕ) (out : List ℕ) where
 -- ---- set-up and one call over words
 
 -- X8: the words that set-up leaves hold the fresh state
-pub set-up-holds : (x : StreamNumbers) (words : List ℕ) → ParametersHeld (x .parameters) → setUpOf x ≡ 0 → stateWords ≤ length words
-    → (wordsNumber x (length words) ≡ 0) × Holds (setUpLeft x words) (freshOf x)
+pub set-up-holds : (x : Stated) (words : List ℕ) → ParametersHeld (x .parameters) → statedRefusal x ≡ 0 → stateWords ≤ length words
+    → (wordsNumber x (length words) ≡ 0) × Holds (setUpLeft x words) (freshOf (statedOf x))
 set-up-holds = call-proved.set-up-holds
 
 module _ (words : List ℕ) (rows : List ℤ) (out ts ss ms : List ℕ) where
@@ -203,5 +204,5 @@ module _ (words : List ℕ) (rows : List ℤ) (out ts ss ms : List ℕ) where
 -- hold its state
 pub dealt-over-c-calls : (h : AcceptedHistory) → ParametersHeld (h .stream .parameters) → (words : List ℕ) → stateWords ≤ length words
     → (cs : List Lent) → AllWhole cs → allOf (map asCall cs) ≡ h .packets → Rooms (freshOf (h .stream)) (map asCall cs)
-    → (end : List ℕ) × Dealt (setUpLeft (h .stream) words) cs end (numbers (rowsOfAll h)) × Holds end (reached h)
+    → (end : List ℕ) × Dealt (setUpLeft (statedAs (h .stream)) words) cs end (numbers (rowsOfAll h)) × Holds end (reached h)
 dealt-over-c-calls = call-proved.dealt-over-c-calls

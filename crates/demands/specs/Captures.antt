@@ -3,7 +3,7 @@
 -- `captureFilled`, film's Paper), and any run of the program for captures, of which `outputOf` of reel's Paper says what it prints.
 use Rattle.laws.specs.Kit.{_≡_, refl, _∙_, Bool, true, false, List, [], ℕ, _+_, _≤_, _<_, min, ℤ, length, getD, ne-eqb}
 use Rattle.endian.specs.Number.{Bytes}
-use Rattle.limits.specs.declared.Parameters.{Parameters}
+use Rattle.limits.specs.Paper.{isProfile}
 use Rattle.limits.specs.Accepted.{KnownEdition}
 use Rattle.packet.specs.declared.Refusal.{Refusal}
 use Rattle.packet.specs.declared.Scanned.the-variants as scanned
@@ -23,9 +23,9 @@ use Rattle.capture.specs.Pieces.{Keeps}
 use Rattle.capture.proofs.Counting.{all-counted}
 use Rattle.capture.proofs.InPieces as pieces
 use Rattle.capture.proofs.Offsets as offsets
-use Rattle.timing.specs.declared.StreamNumbers.{StreamNumbers}
+use Rattle.timing.specs.declared.Stated.{Stated}
 use Rattle.timing.specs.declared.State.{State}
-use Rattle.timing.specs.Step.{inEdition, ofParameters, setUpOf, rulesOf, freshOf}
+use Rattle.timing.specs.Step.{ofParameters, statedOf, statedAs, statedRefusal, rulesOf, freshOf}
 use Rattle.timing.specs.Range.{inRange}
 use Rattle.timing.specs.Feed.{feedAll}
 use Rattle.intake.specs.declared.Taken.the-variants.{Accepted, Refused}
@@ -130,21 +130,21 @@ window-keeps p c w v last end = pieces.next-keeps p w v last end c
 
 -- ---- the C function
 
--- R15, R16: "1 to 7, then the order above", with 8 after 7: a stream that set-up refuses is refused first, at place 0, whatever the capture
--- and the room
-pub set-up-first : (x : StreamNumbers) (port offset : ℕ) (b : List ℕ) (room : ℕ) → (setUpOf x ≡ 0 → ⊥)
-    → captureAnswer x port offset b room ≡ answer (setUpOf x) 0
+-- R15, R16, S12: "1 to 7, then the order above", with 22 before 1 and 8 after 7: a stream that is refused so is refused first, at place 0, whatever
+-- the capture and the room
+pub set-up-first : (x : Stated) (port offset : ℕ) (b : List ℕ) (room : ℕ) → (statedRefusal x ≡ 0 → ⊥)
+    → captureAnswer x port offset b room ≡ answer (statedRefusal x) 0
 unfolding captureAnswer captureChecked
-set-up-first x port offset b room n = rw (ne-eqb (setUpOf x) 0 n)
+set-up-first x port offset b room n = rw (ne-eqb (statedRefusal x) 0 n)
 
 -- R15: "Refused, nothing is written."
-pub refused-fills-nothing : (x : StreamNumbers) (port offset : ℕ) (b out : List ℕ)
+pub refused-fills-nothing : (x : Stated) (port offset : ℕ) (b out : List ℕ)
     → (captureAnswer x port offset b (length out) .number ≡ 0 → ⊥) → captureFilled x port offset b out ≡ out
 refused-fills-nothing = film.refused-fills-nothing
 
--- X13: the room that is told of a capture, with no edition, is the room of each edition
-pub capture-room : (p : Parameters) (edition : ℕ) → KnownEdition edition → (port offset : ℕ) (b : List ℕ)
-    → captureRoom (inEdition edition p) port offset b ≡ captureRoom (ofParameters p) port offset b
+-- X13: the room that is told of a capture, with no edition and no profile, is the room of each
+pub capture-room : (x : Stated) → isProfile (x .kind) ≡ true → KnownEdition (x .edition) → (port offset : ℕ) (b : List ℕ)
+    → captureRoom x port offset b ≡ captureRoom (statedAs (ofParameters (x .parameters))) port offset b
 capture-room = film-editions.room-alike
 
 -- ---- the program
@@ -155,9 +155,9 @@ output-as-given = words.output-as-given
 
 -- R17, R19: "Lines as `vtiming` prints them": of the same packets and records as a capture call. The rows of those packets, all or those before
 -- the refused one, and the last line: the verdict of the state behind them, or the refusal of the scan or of the record that stops it
-pub capture-printed : (a : Asked) (file : List ℕ) (f : Format) → setUpOf (a .numbers) ≡ 0 → a .offset ≤ 99 → headerOf file ≡ capture f
+pub capture-printed : (a : Asked) (file : List ℕ) (f : Format) → statedRefusal (a .stated) ≡ 0 → a .offset ≤ 99 → headerOf file ≡ capture f
     → outputOf a file
-    ≡ printedBy (scanOf nothing false 0 (packetsOf (a .port) (a .offset) file)) (rulesOf (a .numbers)) (freshOf (a .numbers))
+    ≡ printedBy (scanOf nothing false 0 (packetsOf (a .port) (a .offset) file)) (rulesOf (statedOf (a .stated))) (freshOf (statedOf (a .stated)))
     (recordsOf (a .port) (a .offset) file)
 capture-printed a file f e h k = wholly.output-wholly a file e h k ∙ rw k refl
 

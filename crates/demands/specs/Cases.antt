@@ -7,7 +7,7 @@ use Rattle.laws.specs.Fold.{fold}
 use Rattle.grain.specs.Paper.{grains, nearest, phase, firstPacketTime, latency}
 use Rattle.limits.specs.Fraction.{int}
 use Rattle.limits.specs.Paper.{rateOf, frameLength, activeRatio, classOf, cMax, vrxFull, defaultTro, troGrains, troFits, firstNo}
-use Rattle.limits.specs.Paper.{setUpRefusal, given}
+use Rattle.limits.specs.Paper.{setUpRefusal, isProfile, profileOf, given}
 use Rattle.packet.specs.declared.Packet.{Packet}
 use Rattle.packet.specs.Step.{refusalOf}
 use Rattle.bucket.specs.Paper.{networkNumber, networkFirst, networkLast}
@@ -136,6 +136,6 @@ cases =
 pub cases-hold : map (λ c. c .got) cases ≡ map (λ c. c .want) cases
 unfolding cases setUpRefusal firstNo troFits rateOf frameLength activeRatio classOf cMax vrxFull int troGrains defaultTro nearest phase latency
     count fold rulesOf arriveOf markOf stepOf rowsAfter numbers summaryWith B.stepOf F.openedOf F.countedOf F.kindOf F.wholeRow
-    F.rowOf F.answerOf F.joined F.arriveOf F.closeOf F.rowsOf since readingOf packetsBy formatRefusal versionKnown classIn
-    isParameters kindLength numberOf refusalOf
+    F.rowOf F.judgedOf F.answerOf F.joined F.arriveOf F.closeOf F.rowsOf since readingOf packetsBy formatRefusal versionKnown classIn
+    isProfile profileOf isParameters kindLength numberOf refusalOf
 cases-hold = refl

@@ -1,9 +1,10 @@
 -- What an edition of the test plan decides, and what not. `BufferIs` of frame's Paper is one definition over the edition, and so is every
 -- promise about it in Measurement; here it is said what each edition makes of it (frame's Editions), that rows and the network answer have no
 -- edition in them, and what 8 is given for.
-use Rattle.laws.specs.Kit.{_≡_, ap, _↔_, List, ℕ, _<_, take, drop}
+use Rattle.laws.specs.Kit.{_≡_, ap, _↔_, true, List, ℕ, _<_, take, drop}
 use Rattle.limits.specs.declared.Parameters.{Parameters}
-use Rattle.limits.specs.Paper.{setUpRefusal}
+use Rattle.limits.specs.declared.Profile.{Profile}
+use Rattle.limits.specs.Paper.{setUpRefusal, hasBuffer}
 use Rattle.limits.specs.Accepted.{KnownEdition}
 use Rattle.limits.proofs.Editions as limits
 use Rattle.packet.specs.declared.Packet.{Packet}
@@ -12,7 +13,7 @@ use Rattle.frame.specs.declared.Buffer.the-variants.{None, Pass, Broken}
 use Rattle.frame.specs.declared.BrokenFrame.{BrokenFrame}
 use Rattle.frame.specs.Paper.{BrokenIs, AnswerIs, BufferIs, Fails}
 use Rattle.frame.specs.Editions.{FirstBufferIs, FrameFails, NoneClosed, AllFit}
-use Rattle.timing.specs.Step.{inEdition, setUpOf}
+use Rattle.timing.specs.Step.{streamWith, setUpOf}
 use Rattle.timing.specs.Editions.{besideBuffer}
 use Rattle.timing.specs.History.{AcceptedHistory, reached, plan, frames, size}
 use Rattle.timing.proofs.Editions as timing
@@ -26,61 +27,61 @@ use Rattle.report.proofs.Answering as report
 -- ---- set-up
 
 -- S11, N2: "Refusals: 8 for an edition other than 1 or 2, after 7.": exactly where none of 1 to 7 is given
-pub edition-refused : (p : Parameters) (edition : ℕ)
-    → (setUpOf (inEdition edition p) ≡ 8) ↔ ((setUpRefusal p ≡ 0) × (KnownEdition edition → ⊥))
-edition-refused = limits.refused-8
+pub edition-refused : (profile : Profile) (p : Parameters) (edition : ℕ)
+    → (setUpOf (streamWith profile edition p) ≡ 8) ↔ ((setUpRefusal p ≡ 0) × (KnownEdition edition → ⊥))
+edition-refused profile = limits.refused-8
 
 -- S11, N2: where one of them is, the edition is not asked
-pub edition-after : (p : Parameters) (edition : ℕ) → 0 < setUpRefusal p → setUpOf (inEdition edition p) ≡ setUpRefusal p
-edition-after = limits.in-first
+pub edition-after : (profile : Profile) (p : Parameters) (edition : ℕ) → 0 < setUpRefusal p → setUpOf (streamWith profile edition p) ≡ setUpRefusal p
+edition-after profile = limits.in-first
 
 -- S11: and editions 1 and 2 are refused for nothing that set-up did not refuse before
-pub edition-accepted : (p : Parameters) (edition : ℕ) → KnownEdition edition → setUpOf (inEdition edition p) ≡ setUpRefusal p
-edition-accepted = limits.in-known
+pub edition-accepted : (profile : Profile) (p : Parameters) (edition : ℕ) → KnownEdition edition → setUpOf (streamWith profile edition p) ≡ setUpRefusal p
+edition-accepted profile = limits.in-known
 
--- ---- the buffer answer of an accepted history
+-- ---- the buffer answer of an accepted history whose stream has a buffer
 
-module _ (h : AcceptedHistory) where
+module _ (h : AcceptedHistory) (buffered : hasBuffer (h .stream .profile) ≡ true) where
   -- V8, V12: a frame fails exactly where it is broken, if its edition has such a frame fail, or is whole and runs dry or is overfull
   pub frame-fails : (i : ℕ) → i < size h → Fails (AnswerIs (plan h) (frames h)) i ↔ FrameFails (plan h) (frames h) i
-  frame-fails = proved.fails-are h
+  frame-fails = proved.fails-are h buffered
 
   -- V12: "Earlier reports must come out as they did, under edition 1": what the buffer answer of a history is, it was
   pub edition-one : h .stream .edition ≡ 1 → (b : Buffer) → BufferIs (plan h) (frames h) b ↔ FirstBufferIs (plan h) (frames h) b
-  edition-one = proved.first-edition h
+  edition-one = proved.first-edition h buffered
 
   -- V12: so is the answer that is reached, and it is never the new case
   pub edition-one-reached : h .stream .edition ≡ 1
       → FirstBufferIs (plan h) (frames h) (reached h .frames .buffer) × ((b : BrokenFrame) → reached h .frames .buffer ≡ Broken b → ⊥)
-  edition-one-reached e = (proved.first-reached h e, proved.never-broken h e)
+  edition-one-reached e = (proved.first-reached h buffered e, proved.never-broken h e)
 
   -- V12: "Under edition 2 [..] none means no frame closed."
   pub edition-two-none : h .stream .edition ≡ 2 → (reached h .frames .buffer ≡ None) ↔ NoneClosed (plan h) (frames h)
-  edition-two-none = proved.second-none h
+  edition-two-none = proved.second-none h buffered
 
   -- V12: pass, that every closed frame is whole and fits
   pub edition-two-pass : h .stream .edition ≡ 2 → (reached h .frames .buffer ≡ Pass) ↔ AllFit (plan h) (frames h)
-  edition-two-pass = proved.second-pass h
+  edition-two-pass = proved.second-pass h buffered
 
   -- V12: "a case that names frame and kind; the first failing frame decides, broken or not": of the frame that packet i closes, where no frame
   -- before it fails
   pub edition-two-broken : (b : BrokenFrame) → (reached h .frames .buffer ≡ Broken b)
       ↔ ((i : ℕ) × (i < size h) × BrokenIs (plan h) (frames h) i b × ((k : ℕ) → k < i → Fails (AnswerIs (plan h) (frames h)) k → ⊥))
-  edition-two-broken = proved.broken-reached h
+  edition-two-broken = proved.broken-reached h buffered
 
 -- ---- what no edition changes
 
-module _ (p : Parameters) (e f : ℕ) (l : List Packet) where
+module _ (profile : Profile) (p : Parameters) (e f : ℕ) (l : List Packet) where
   -- V12, V1: the rows of a list of packets are the same in every edition
-  pub rows-by-no-edition : rowsOf (inEdition e p) l ≡ rowsOf (inEdition f p) l
-  rows-by-no-edition = timing.rows-alike p e f l
+  pub rows-by-no-edition : rowsOf (streamWith profile e p) l ≡ rowsOf (streamWith profile f p) l
+  rows-by-no-edition = timing.rows-alike profile p e f l
 
   -- V12: and so is all that the state holds but for the edition and the buffer answer
-  pub state-by-no-edition : besideBuffer (stateOf (inEdition e p) l) ≡ besideBuffer (stateOf (inEdition f p) l)
-  state-by-no-edition = timing.states-alike p e f l
+  pub state-by-no-edition : besideBuffer (stateOf (streamWith profile e p) l) ≡ besideBuffer (stateOf (streamWith profile f p) l)
+  state-by-no-edition = timing.states-alike profile p e f l
 
   -- V12, V6: so the network answer is the same
-  pub network-by-no-edition : stateOf (inEdition e p) l .bucket .network ≡ stateOf (inEdition f p) l .bucket .network
+  pub network-by-no-edition : stateOf (streamWith profile e p) l .bucket .network ≡ stateOf (streamWith profile f p) l .bucket .network
   network-by-no-edition = ap (λ s. s .bucket .network) state-by-no-edition
 
 -- V12, C2: of a file's report by two editions the first six numbers are the same, and so are all from the tenth on: the three of the buffer
@@ -96,14 +97,14 @@ report-by-no-edition = report.reports-alike
 pub edition-beside : (edition : ℕ) (s : List ℕ) → KnownEdition edition → fileIn edition s ≡ fileOf s
 edition-beside = of-file.known-edition
 
--- F13, N1: "a wrong edition is 8 at the parameter record, offset 1, where that record itself is accepted [..], before any later record is
--- looked at; a file with no parameter record never gives 8": exactly where a heading is read, whatever comes behind it
+-- F13, N1: an edition that there is not is 8 at the parameter record, at offset 1, exactly where the heading is read, whatever comes behind it: a
+-- file whose parameters are refused, or that has none, gives another number
 pub edition-of-file : (edition : ℕ) (s : List ℕ) (offset : ℕ)
     → (fileIn edition s ≡ refused 8 offset)
     ↔ ((KnownEdition edition → ⊥) × (offset ≡ 1) × (h : Heading) × (r : Packets) × (readingOf s ≡ read h r))
 edition-of-file = of-file.exactly-8
 
--- F13: "`vtiming` and the writer mean edition 1 and never give 8": of a file by itself
+-- F13: "`vtiming` and the writer mean edition 1": 8 is never given, of a file by itself
 pub never-8 : (s : List ℕ) (offset : ℕ) → fileOf s ≡ refused 8 offset → ⊥
 never-8 = of-file.never-read
 

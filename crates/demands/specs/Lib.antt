@@ -10,11 +10,13 @@ pub mod Rates
 pub mod Measurement
 -- 4. Editions: what an edition of the test plan decides, and what not.
 pub mod Editions
--- 5. RoundTrips: the record file read and written, both ways, whole and in pieces.
+-- 5. Profiles: what a profile decides, and what not.
+pub mod Profiles
+-- 6. RoundTrips: the record file read and written, both ways, whole and in pieces.
 pub mod RoundTrips
--- 6. Calls: what a host in C gets back, and what is left in the memory that it lent.
+-- 7. Calls: what a host in C gets back, and what is left in the memory that it lent.
 pub mod Calls
--- 7. Output: what the program prints of a file, however it comes.
+-- 8. Output: what the program prints of a file, however it comes.
 pub mod Output
--- 8. Captures: what is promised of a network capture: which frames count, a call on one, and what the program prints of it.
+-- 9. Captures: what is promised of a network capture: which frames count, a call on one, and what the program prints of it.
 pub mod Captures

@@ -16,7 +16,8 @@ use Rattle.grain.proofs.Onward.{known-on}
 use Rattle.grain.proofs.EncodedTime.{latency-is, latency-unique, nearest-encoded}
 use Rattle.limits.specs.declared.Parameters.{Parameters}
 use Rattle.limits.specs.Fraction.{Same}
-use Rattle.limits.specs.Paper.{senderClass, readSpacing, given}
+use Rattle.limits.specs.declared.Profile.{Profile}
+use Rattle.limits.specs.Paper.{senderClass, readSpacing, hasBuffer, given}
 use Rattle.limits.specs.Exact.{CMaxIs, VrxFullIs, TroIs}
 use Rattle.packet.specs.declared.Scanned.the-variants.{Refused as Scan-Refused}
 use Rattle.packet.specs.declared.Refusal.{Refusal}
@@ -33,7 +34,7 @@ use Rattle.timing.specs.declared.State.{State}
 use Rattle.timing.specs.declared.Fed.the-variants.{Accepted, Refused}
 use Rattle.timing.specs.declared.Judged.the-variants.{Given}
 use Rattle.timing.specs.declared.Awaited.the-variants.{In as Awaited-In}
-use Rattle.timing.specs.Step.{inEdition, setUpOf, frameOf, rulesOf, freshOf, rowsAfter, numbers}
+use Rattle.timing.specs.Step.{streamWith, setUpOf, frameOf, rulesOf, freshOf, rowsAfter, numbers}
 use Rattle.timing.specs.Range.{inRange}
 use Rattle.timing.specs.Answers.{setUpAs, answersOf, verdictOf, graphOf, graphNumber, setUpNumber, judgedNumber, drawnNumber, AllRows, Drawable}
 use Rattle.timing.specs.Answers.{nextNumber, awaited, nextOf, awaitedNumber}
@@ -88,10 +89,11 @@ slices-are-packets = feed-slices
 
 -- S2, N2: "From now on 0 means narrow on a gapped schedule and narrow linear on a linear one.": a stream set up with 0 is refused as one that
 -- is set up with that class's number, 1 on schedule 0 and 2 on schedule 1, and is measured by the same rules
-pub zero-is-strict : (edition : ℕ) (p : Parameters) → p .class ≡ 0 → p .schedule ≤ 1
+pub zero-is-strict : (profile : Profile) (edition : ℕ) (p : Parameters) → p .class ≡ 0 → p .schedule ≤ 1
     → let strict = given (p .rate) (p .schedule) (suc (p .schedule)) (p .height) (p .n) (p .maxudp) (p .tro) in
-    (setUpOf (inEdition edition p) ≡ setUpOf (inEdition edition strict)) × (rulesOf (inEdition edition p) ≡ rulesOf (inEdition edition strict))
-zero-is-strict edition p z h = (strict-refused edition p z h, strict-rules edition p z h)
+    (setUpOf (streamWith profile edition p) ≡ setUpOf (streamWith profile edition strict))
+    × (rulesOf (streamWith profile edition p) ≡ rulesOf (streamWith profile edition strict))
+zero-is-strict profile edition p z h = (strict-refused profile edition p z h, strict-rules profile edition p z h)
 
 -- N5: 9 is for no state that set-up gives, and for none that an accepted call gives: "no range is narrower than what accepted calls reach
 -- from set-up on"
@@ -198,8 +200,8 @@ module _ (h : AcceptedHistory) where
   pub rows-in-order : rowsOfAll h ≡ rowsTo (h .stream) (h .packets) (size h)
   rows-in-order = proved.rows-reached h
 
-  -- D2a, D2b, V1, V2, V3, V10, P6, P8, P9, P10, P11, P12, P13, P17, P18: and each is the row of its frame: FPT, RTP_OFFSET, VL, margin, GAP,
-  -- peak, least, kind, detail, number and the place of its first packet
+  -- D2a, D2b, V1, V2, V3, V10, P6, P8, P9, P10, P11, P12, P13, P17, P18, V13: and each is the row of its frame: FPT, RTP_OFFSET, VL, margin,
+  -- GAP, peak, least, kind, detail, number and the place of its first packet
   pub row-of-frame : (i : ℕ) → i < size h → closesAt (frames h) i ≡ true
       → (r : Row) × (rowsAt (plan h) (frames h) i ≡ r ∷ []) × RowIs (plan h) (frames h) i r
   row-of-frame = proved.row-at h
@@ -260,13 +262,13 @@ module _ (h : AcceptedHistory) where
       × (nextOf (h .stream) (frames h .time (since (frames h) i)) (frames h .time i) ≡ awaited next (plan h .reads .den))
   next-read-of-packet i b begun = proved.next-at h i b
 
-  -- P22: and the state holds it, of its last packet: the reads before it, and the wait
-  pub next-read-held : (i : ℕ) → size h ≡ suc i → frames h .marked i ≡ false → begunAt (frames h) i ≡ true
+  -- P22: and the state holds it, of its last packet, where the stream has a buffer: the reads before it, and the wait
+  pub next-read-held : hasBuffer (h .stream .profile) ≡ true → (i : ℕ) → size h ≡ suc i → frames h .marked i ≡ false → begunAt (frames h) i ≡ true
       → nextOf (h .stream) (frames h .time (since (frames h) i)) (frames h .time i)
       ≡ awaited (nextAfter (plan h .packets) (reached h .frames .current .reads) (reached h .frames .current .wait)) (plan h .reads .den)
   next-read-held = proved.next-held h
 
-  -- D2c, V7, V8, V12: the buffer answer is that of the history, by the stream's edition; what each edition makes of it: Editions
+  -- D2c, V7, V8, V12, V13: the buffer answer is that of the history, by the stream's profile and edition; what each makes of it: Profiles, Editions
   pub buffer-answer : BufferIs (plan h) (frames h) (reached h .frames .buffer)
   buffer-answer = proved.buffer-reached h
 
@@ -306,8 +308,9 @@ module _ (h : AcceptedHistory) where
   pub network-answer : NetworkIs (arrivals h) (limit h) (reached h .bucket .network)
   network-answer = proved.network-reached h
 
-  -- D3e, P19: "A whole frame runs dry exactly when one of its packets comes after its read time.": of the frame that packet i closes
-  pub dry-exactly : (i : ℕ) → i < size h → kindAt (plan h) (frames h) i ≡ 0
+  -- D3e, P19, V13: "A whole frame runs dry exactly when one of its packets comes after its read time.": of the frame that packet i closes, of a
+  -- stream that has a buffer. "Demand 3 holds without its last sentence" for any other (document 02, vii): all else here asks no profile
+  pub dry-exactly : hasBuffer (h .stream .profile) ≡ true → (i : ℕ) → i < size h → kindAt (plan h) (frames h) i ≡ 0
       → Dry (plan h) (frames h) (since (frames h) i) ↔ SomeLate (plan h) (frames h) (since (frames h) i)
   dry-exactly = proved.dry-if-late h
 

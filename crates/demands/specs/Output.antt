@@ -8,7 +8,7 @@ use Rattle.frame.specs.Step.{numbersOf}
 use Rattle.limits.specs.declared.Parameters.{Parameters}
 use Rattle.limits.specs.Steps.{ParametersHeld}
 use Rattle.record.specs.declared.Next.the-variants.{More}
-use Rattle.record.specs.Paper.{heading, resolved}
+use Rattle.record.specs.Paper.{heading, resolved, isParameters}
 use Rattle.record.specs.Layout.{headOf}
 use Rattle.record.specs.Step.{nextPiece}
 use Rattle.text.specs.Lines.{Sized, rowLine, lineRoom, summaryLine, refusalLine}
@@ -49,8 +49,8 @@ start-refused = proved.start-refused
 
 -- F11: "version 1 files keep 0 as wide": whatever bytes follow its head, a file of version 1 prints what the file of version 2 prints whose
 -- class 0 is written as 3
-pub version-one-printed : (p : Parameters) (l : List ℕ) → ParametersHeld p
-    → outputOf (headOf (heading 1 p) ++ l) ≡ outputOf (headOf (heading 2 (resolved (heading 1 p))) ++ l)
+pub version-one-printed : (kind : ℕ) (p : Parameters) (l : List ℕ) → isParameters kind ≡ true → ParametersHeld p
+    → outputOf (headOf (heading 1 kind p) ++ l) ≡ outputOf (headOf (heading 2 kind (resolved (heading 1 kind p))) ++ l)
 version-one-printed = proved.first-printed
 
 -- ---- a file in pieces, through calls

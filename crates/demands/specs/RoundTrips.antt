@@ -1,4 +1,4 @@
--- The record file both ways, whole and in pieces. A `Heading` is what a file tells before its packets, version and parameters as written.
+-- The record file both ways, whole and in pieces. A `Heading` is what a file tells before its packets, version, kind and parameters as written.
 -- `bytesIn s ps` are the bytes of a file, `fileOf` what bytes read as, `WriteGives` what the writer ensures, `allCalls` what the reader
 -- answers, call after call, and `allInPieces` what it answers to a file in pieces: record's Paper, Layout, Write and Pieces. The hypotheses
 -- bound numbers by what their types and slices always hold.
@@ -31,8 +31,8 @@ use Rattle.record.proofs.Waiting as waiting
 
 -- ---- Demand 2: "A record file written and read back gives the same records"
 
--- D2d, F12: "demand 2's round trip holds for each" version (document 02, viii): for every heading that the writer accepts, of either
--- version, and all accepted packets, reading what was written gives the same version, the same stream numbers and the same packets
+-- D2d, F12, F14: "demand 2's round trip holds for each" version (document 02, viii), and for each kind: for every heading that the writer
+-- accepts, and all accepted packets, reading what was written gives the same version and kind, the same stream numbers and the same packets
 pub reading-written : (s : Heading) (ps : List Packet) (closed : ℕ) → ParametersHeld (s .parameters) → PacketsHeld ps
     → headingRefusal s ≡ 0 → declared ps ≡ Fine closed → fileOf (bytesIn s ps) ≡ file s ps
 reading-written s ps closed hs hp e f = ap asFile (file-written s ps closed hs hp e (scan-declared ps ∙ f))
@@ -45,7 +45,7 @@ written-accepted = written-reads
 
 -- ---- "an accepted file, read and written, gives the same bytes."
 
--- D2e, F12: for every accepted file, of either version, writing what was read gives the same bytes
+-- D2e, F12, F14: for every accepted file, of either version and kind, writing what was read gives the same bytes
 pub writing-read : (bytes : List ℕ) → AllBelow 256 bytes → (s : Heading) (ps : List Packet) → fileOf bytes ≡ file s ps
     → bytesIn s ps ≡ bytes
 writing-read bytes b = file-again bytes (bytes-all bytes b)
@@ -66,7 +66,7 @@ version-first version l = (other-20 version l, lone-byte version)
 pub writer-version-first : (s : Heading) (ts ss ms : List ℕ) (room : ℕ) → versionKnown (s .version) ≡ false
     → writtenOf s ts ss ms room ≡ Write-Refused 20 0
 writer-version-first s ts ss ms room e =
-    sym (answers-set-up s ts ss ms room 20 (sym (heading-20 (s .version) (s .parameters) e)) (omega arith))
+    sym (answers-set-up s ts ss ms room 20 (sym (heading-20 (s .version) (s .kind) (s .parameters) e)) (omega arith))
 
 -- ---- What a version decides: the class that 0 stands for.
 
@@ -76,7 +76,7 @@ pub version-one-class : (class schedule : ℕ)
 version-one-class = first-classes
 
 -- F11: one of version 2 is set up with its numbers as they are
-pub version-two-kept : (p : Parameters) → resolved (heading 2 p) ≡ p
+pub version-two-kept : (kind : ℕ) (p : Parameters) → resolved (heading 2 kind p) ≡ p
 version-two-kept = second-kept
 
 -- ---- What a file reads as is what the reader gives.

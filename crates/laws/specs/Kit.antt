@@ -2,7 +2,7 @@
 pub use mathlib.Core.Path.{_∙_, _≡_, ap, refl, subst, sym}
 pub use mathlib.Core.Logic.{_↔_, _⊎_, inl, inr, ⊎-elim}
 pub use mathlib.Core.Bool.{Bool, _&&_, _||_, and-false, cond, false, not, or-false, or-true, true}
-pub use mathlib.Core.List.{List, [], _++_, _∷_, append-assoc, append-nil, map, reverse, reverse-append, reverse-cons, reverse-reverse}
+pub use mathlib.Core.List.{List, [], _++_, _∷_, append-assoc, append-nil, map, map-append, reverse, reverse-append, reverse-cons, reverse-reverse}
 unfoldable pub use mathlib.Core.List.{flatten}
 pub use Prim.Native.Nat.{_%_, _*_, _+_, _-_, _/_, _<_, _^_, _≤_, max, min, pred, suc, zero, zero-le, ℕ}
 pub use native.Mathlib.Omega.{arith}

@@ -1,5 +1,5 @@
 -- The profiles and the numbers that stand for them are the same both ways, and 22 is for every other number: by the numbers, one by one.
-use Rattle.laws.specs.Kit.{_≡_, refl, _↔_, _⊎_, inl, inr, Bool, true, false, ℕ, arith, eqb, eq-eqb, ne-eqb, eqb-true, eqb-false}
+use Rattle.laws.specs.Kit.{_≡_, refl, sym, ap, _∙_, _↔_, _⊎_, inl, inr, Bool, true, false, ℕ, arith, eqb, eq-eqb, ne-eqb, eqb-true, eqb-false}
 use Rattle.laws.proofs.Choose.{pick-either, false-true}
 use Rattle.limits.specs.declared.Profile.{Profile}
 use Rattle.limits.specs.declared.Profile.the-variants.{Video, Compressed}
@@ -33,6 +33,10 @@ kind-back kind h = go (profile-kinds kind h)
     go : (kind ≡ 1) ⊎ (kind ≡ 3) → profileKind (profileOf kind) ≡ kind
     go (inl e) = rw e
     go (inr e) = rw e
+
+-- S12: so the kinds that choose a profile are the profiles' own
+pub by-kind : (kind : ℕ) → (isProfile kind ≡ true) ↔ ((p : Profile) × (kind ≡ profileKind p) × (profileOf kind ≡ p))
+by-kind kind = (λ h. (profileOf kind, sym (kind-back kind h), refl), λ x. ap isProfile (x .1) ∙ is-chosen (x .0))
 
 -- the tests of the code
 pub first-or-third : (kind : ℕ) → (kind ≡ 1) ⊎ (kind ≡ 3) → true ≡ isProfile kind

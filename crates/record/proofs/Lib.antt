@@ -1,6 +1,7 @@
 -- The theorems of this crate, file by file, lowest first; each file says in its first line what it shows.
 pub mod Format
 pub mod Ways
+pub mod KindsRefused
 pub mod Reading
 pub mod Saying
 pub mod Standing

@@ -218,6 +218,13 @@ module _ (h : AcceptedHistory) where
   pub none-reached : hasBuffer (h .stream .profile) ≡ false → reached h .frames .buffer ≡ None
   none-reached e = buffer-reached .unjudged (plan-buffered e)
 
+  -- V13: "peak and least 0 for whole frames"
+  pub no-levels : hasBuffer (h .stream .profile) ≡ false → (i : ℕ) (r : Row) → kindAt (plan h) (frames h) i ≡ 0
+      → RowIs (plan h) (frames h) i r → (r .peak ≡ pos 0) × (r .least ≡ pos 0)
+  no-levels e i r k x =
+      let none = x .levels k .unjudged (plan-buffered e) in
+      (none .peak, none .least)
+
   -- where the stream has a buffer
   module _ (b : hasBuffer (h .stream .profile) ≡ true) where
     pub decided-reached : DecidedIs (plan h) (frames h) (reached h .frames .buffer)

@@ -1,13 +1,16 @@
--- Stream numbers and how they are stated are the same both ways; and what is stated is refused by 22, and then as set-up refuses. By the kind.
-use Rattle.laws.specs.Kit.{_≡_, ap, _∙_, _↔_, true, false, ℕ, _<_, arith, ℕ-discrete}
+-- Stream numbers and how they are stated are the same both ways; and what is stated is refused by 22, and then as set-up refuses, which asks no
+-- profile. By the kind.
+use Rattle.laws.specs.Kit.{_≡_, refl, ap, _∙_, _↔_, true, false, ℕ, _<_, arith, ℕ-discrete}
 use Rattle.laws.proofs.Choose.{neither, second, before}
+use Rattle.limits.specs.declared.Parameters.{Parameters}
 use Rattle.limits.specs.declared.Profile.{Profile}
+use Rattle.limits.specs.declared.Profile.the-variants.{Video, Compressed}
 use Rattle.limits.specs.Paper.{isProfile, profileRefusal}
 use Rattle.limits.proofs.Profiles.{chosen, is-chosen, profile-known, profile-fine, profile-22}
 use Rattle.limits.proofs.Editions.{at-most-8}
 use Rattle.timing.specs.declared.StreamNumbers.{StreamNumbers}
 use Rattle.timing.specs.declared.Stated.{Stated}
-use Rattle.timing.specs.Step.{streamWith, setUpOf, statedOf, statedAs, statedRefusal}
+use Rattle.timing.specs.Step.{streamWith, setUpOf, statedOf, statedAs, statedRefusal, rulesOf}
 
 -- S12: what was stated of stream numbers states them
 pub stated-back : (x : StreamNumbers) → statedOf (statedAs x) ≡ x
@@ -17,6 +20,17 @@ stated-back x = ap (λ (p : Profile). streamWith p (x .edition) (x .parameters))
 pub stated-as : (x : StreamNumbers) → statedRefusal (statedAs x) ≡ setUpOf x
 unfolding statedRefusal
 stated-as x = second _ _ (profile-known _ (is-chosen (x .profile)))
+
+-- S12: set-up and the limits ask no profile
+pub same-refusal : (e : ℕ) (p : Parameters) → setUpOf (streamWith Compressed e p) ≡ setUpOf (streamWith Video e p)
+same-refusal e p = refl
+
+pub same-limits : (e : ℕ) (p : Parameters) → let c = rulesOf (streamWith Compressed e p) in
+    let v = rulesOf (streamWith Video e p) in
+    (c .plan .period ≡ v .plan .period) × (c .plan .tro ≡ v .plan .tro) × (c .limit ≡ v .limit) × (c .plan .full ≡ v .plan .full)
+    × (c .drains ≡ v .drains)
+unfolding rulesOf
+same-limits e p = (refl, refl, refl, refl, refl)
 
 module _ (t : Stated) where
   -- where its kind stands for a profile, it is refused as set-up refuses

@@ -3,4 +3,5 @@ pub mod Range
 pub mod Feed
 pub mod Answers
 pub mod Editions
+pub mod Profiles
 pub mod History

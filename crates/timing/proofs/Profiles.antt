@@ -1,0 +1,151 @@
+-- A compressed stream is measured as video is, beside the buffer: its state is the video's without what is kept of reads and the buffer answer,
+-- and its rows are the video's with peak and least 0. Packet by packet: a step leads from one pair of states to the next.
+use Rattle.laws.specs.Kit.{_≡_, refl, ap, _∙_, Bool, true, false, _&&_, List, [], _∷_, _++_, map, map-append, ℕ, eqb}
+use Rattle.laws.specs.Choose.{pick}
+use Rattle.laws.specs.Fold.{fold}
+use Rattle.limits.specs.declared.Parameters.{Parameters}
+use Rattle.limits.specs.declared.Profile.the-variants.{Video, Compressed}
+use Rattle.packet.specs.declared.Packet.{Packet}
+use Rattle.packet.specs.Paper.{marked}
+use Rattle.packet.specs.Step.{nextOf}
+use Rattle.frame.specs.declared.Frame.{Frame}
+use Rattle.frame.specs.declared.Frames.{Frames}
+use Rattle.frame.specs.declared.Row.{Row}
+use Rattle.frame.specs.declared.Buffer.{Buffer}
+use Rattle.frame.specs.declared.Buffer.the-variants.{None}
+use Rattle.frame.specs.Step as F
+use Rattle.timing.specs.declared.Rules.{Rules}
+use Rattle.timing.specs.declared.State.{State}
+use Rattle.timing.specs.Step.{streamWith, rulesOf, freshOf, goneOf, arriveOf, markOf, stepOf, rowsOf, stateAfter, rowsAfter}
+use Rattle.timing.specs.Profiles.{besideReads, compressed, besideLevels}
+
+module _ (edition : ℕ) (p : Parameters) where
+  -- the rules of both
+  abbrev video : Rules
+  video = rulesOf (streamWith Video edition p)
+
+  abbrev other : Rules
+  other = rulesOf (streamWith Compressed edition p)
+
+  -- the open frame with one packet more, where the lead-in is over or not
+  abbrev pushed : Rules → Bool → State → Packet → Frame
+  pushed rules b s q = pick b (F.pushOf (rules .plan) (s .frames .current) (goneOf s (q .time)) (q .time) (q .stamp)) (s .frames .current)
+
+  push-alike : (b : Bool) (s : State) (q : Packet) → besideReads (pushed video b s q) ≡ pushed other b (compressed s) q
+  unfolding rulesOf F.openedOf F.countedOf F.tickedOf
+  push-alike true s q = refl
+  push-alike false s q = refl
+
+  -- a state with another open frame, and with another answer
+  abbrev with-open : State → Frame → State
+  with-open s f = record {
+    numbers = s .numbers;
+    past = s .past;
+    rest = s .rest;
+    bucket = s .bucket;
+    frames = record {
+      begun = s .frames .begun;
+      closed = s .frames .closed;
+      marked = s .frames .marked;
+      current = f;
+      buffer = s .frames .buffer;
+    };
+  }
+
+  abbrev with-answer : State → Buffer → State
+  with-answer s b = record {
+    numbers = s .numbers;
+    past = s .past;
+    rest = s .rest;
+    bucket = s .bucket;
+    frames = record {
+      begun = s .frames .begun;
+      closed = s .frames .closed;
+      marked = s .frames .marked;
+      current = s .frames .current;
+      buffer = b;
+    };
+  }
+
+  arrive-alike : (s : State) (q : Packet)
+      → compressed (arriveOf video s (q .time) (q .stamp)) ≡ arriveOf other (compressed s) (q .time) (q .stamp)
+  unfolding arriveOf rulesOf F.arriveOf
+  arrive-alike s q = ap (with-open (arriveOf other (compressed s) (q .time) (q .stamp))) (push-alike (s .frames .begun) s q)
+
+  -- no frame answers anything
+  still-none : (b : Bool) (n : ℕ) (f : Frame) → None ≡ pick b (F.joined None (F.answerOf (other .plan) n f)) None
+  unfolding rulesOf F.answerOf F.joined
+  still-none true n f = refl
+  still-none false n f = refl
+
+  mark-alike : (s : State) (t : ℕ) → compressed (markOf video s t) ≡ markOf other (compressed s) t
+  unfolding markOf rulesOf F.closeOf
+  mark-alike s t =
+      ap (with-answer (markOf other (compressed s) t)) (still-none (s .frames .begun) (s .frames .closed) (besideReads (s .frames .current)))
+
+  step-alike : (s : State) (q : Packet) → compressed (stepOf video s q) ≡ stepOf other (compressed s) q
+  unfolding stepOf
+  step-alike s q = go (marked q)
+    where
+      go : (m : Bool)
+          → compressed (pick m (markOf video (arriveOf video s (q .time) (q .stamp)) (q .time)) (arriveOf video s (q .time) (q .stamp)))
+          ≡ pick m (markOf other (arriveOf other (compressed s) (q .time) (q .stamp)) (q .time)) (arriveOf other (compressed s) (q .time) (q .stamp))
+      go true = mark-alike (arriveOf video s (q .time) (q .stamp)) (q .time) ∙ ap (λ (t : State). markOf other t (q .time)) (arrive-alike s q)
+      go false = arrive-alike s q
+
+  after-alike : (l : List Packet) (s : State) → compressed (stateAfter video s l) ≡ stateAfter other (compressed s) l
+  unfolding fold
+  after-alike [] s = refl
+  after-alike (q ∷ l) s = after-alike l (stepOf video s q) ∙ ap (λ (t : State). stateAfter other t l) (step-alike s q)
+
+  -- ---- the rows
+
+  abbrev row : Rules → State → Frame → ℕ → Row
+  row rules s f packets = F.rowOf (rules .plan) (s .frames .closed) (s .frames .marked) (F.beganOf f packets) f
+
+  -- of a frame and the same without what is kept of reads
+  row-alike : (s : State) (f : Frame) (packets : ℕ) → besideLevels (row video s f packets) ≡ row other (compressed s) (besideReads f) packets
+  unfolding rulesOf F.rowOf F.wholeRow F.kindOf
+  row-alike s f packets = go (eqb (F.kindOf f (p .n)) 0)
+    where
+      go : (t : Bool)
+          → besideLevels (pick t (F.wholeRow (video .plan) (s .frames .closed) (s .frames .marked) (F.beganOf f packets) f)
+          (F.brokenRow (s .frames .closed) (F.kindOf f (p .n)) (F.detailOf f (F.kindOf f (p .n))) (F.beganOf f packets)))
+          ≡ pick t (F.wholeRow (other .plan) (s .frames .closed) (s .frames .marked) (F.beganOf f packets) (besideReads f))
+          (F.brokenRow (s .frames .closed) (F.kindOf f (p .n)) (F.detailOf f (F.kindOf f (p .n))) (F.beganOf f packets))
+      go true = refl
+      go false = refl
+
+  rows-alike : (s : State) (q : Packet) → map besideLevels (rowsOf video s q) ≡ rowsOf other (compressed s) q
+  unfolding F.rowsOf F.arriveOf
+  rows-alike s q = go (marked q && s .frames .begun)
+    where
+      packets : ℕ
+      packets = nextOf (s .past) (q .time) .packets
+
+      go : (t : Bool)
+          → map besideLevels (pick t (row video s (pushed video (s .frames .begun) s q) packets ∷ []) [])
+          ≡ pick t (row other (compressed s) (pushed other (s .frames .begun) (compressed s) q) packets ∷ []) []
+      go true =
+          ap (λ (r : Row). r ∷ [])
+          (row-alike s (pushed video (s .frames .begun) s q) packets
+          ∙ ap (λ (f : Frame). row other (compressed s) f packets) (push-alike (s .frames .begun) s q))
+      go false = refl
+
+  all-rows-alike : (l : List Packet) (s : State) → map besideLevels (rowsAfter video s l) ≡ rowsAfter other (compressed s) l
+  unfolding rowsAfter
+  all-rows-alike [] s = refl
+  all-rows-alike (q ∷ l) s =
+      map-append besideLevels (rowsOf video s q) (rowsAfter video (stepOf video s q) l)
+      ∙ rw (rows-alike s q, all-rows-alike l (stepOf video s q), step-alike s q)
+
+module _ (edition : ℕ) (p : Parameters) (l : List Packet) where
+  -- V13: from set-up on, the state of a compressed stream is the video's without what is kept of reads and the buffer answer
+  pub states-beside : compressed (stateAfter (rulesOf (streamWith Video edition p)) (freshOf (streamWith Video edition p)) l)
+      ≡ stateAfter (rulesOf (streamWith Compressed edition p)) (freshOf (streamWith Compressed edition p)) l
+  states-beside = after-alike edition p l (freshOf (streamWith Video edition p))
+
+  -- V13: and its rows are the video's with peak and least 0
+  pub rows-beside : map besideLevels (rowsAfter (rulesOf (streamWith Video edition p)) (freshOf (streamWith Video edition p)) l)
+      ≡ rowsAfter (rulesOf (streamWith Compressed edition p)) (freshOf (streamWith Compressed edition p)) l
+  rows-beside = all-rows-alike edition p l (freshOf (streamWith Video edition p))
