@@ -1,4 +1,5 @@
-/* vtiming: packet timing of one progressive ST 2110-20 video stream, for a host written in C or C++.
+/* vtiming: packet timing of one progressive ST 2110-20 video stream, or of a compressed one, ST 2110-22, for a host written in C
+ * or C++.
  *
  * Link with libvtiming.a of the package (`pkg-config --cflags --libs vtiming`), or with the archives as `rt staticlib report`
  * and `rt staticlib film` make them, target/staticlib/libreport.a and libfilm.a, which has the functions of captures (x86-64
@@ -46,7 +47,8 @@
  *   20  the file is empty, or its version is neither 1 nor 2          it is no record file; to vtiming_write give 1 or 2
  *   21  a record is cut short, or its length is 0                     the file was cut off, or was damaged there
  *   22  a record is of an unknown kind, or its length is wrong        the file was damaged there, or is another format
- *   23  the parameters do not come first, or come again               one parameter record, then packets only
+ *       as an argument: the profile is neither 1 nor 3                give VTIMING_PROFILE_VIDEO or VTIMING_PROFILE_COMPRESSED
+ *   23  the parameters do not come first, or come again               one parameter record, of kind 1 or 3, then packets only
  *   24  too few bytes were lent to the writer                         lend 19 + 16 for each packet
  *   30  this is no classic pcap of Ethernet, or is below 24 bytes     save the capture as classic pcap (editcap -F nsecpcap)
  *   31  a capture record is cut short                                 the capture was cut off, or was damaged there
@@ -54,7 +56,7 @@
  *   33  the offset is above 99                                        37 for a capture clock of UTC, 0 for one of TAI
  *
  * vtiming_next_read gives 12 and 13 of a packet and the first packet of its frame. vtiming_measure and vtiming_capture alone
- * give 8.
+ * give 8. vtiming_measure gives 22 of a record, vtiming_write and vtiming_capture of the profile alone.
  *
  * Class 0 is the strict class of the schedule: narrow (1) on schedule 0, narrow linear (2) on schedule 1. So it is wherever a
  * class is given, and in a record file of version 2. A record file of version 1 alone keeps 0 as wide (3), as all did before
@@ -65,11 +67,29 @@
  * (kind 1, 2 or 3) fails the buffer too. Nothing but the buffer answer depends on it, numbers 6 to 8 of the summary. A record file
  * says nothing of an edition, and no answer does: a report should name the one that was given.
  *
- * What a program must change that was made for 3.0.0 or older: vtiming_measure, vtiming_measure_offset, vtiming_capture and
+ * The profile says what the stream is: 1 video (ST 2110-20), 3 compressed (ST 2110-22). That is the kind of the parameter record
+ * which stands for it in a record file. A third will come; what is neither 1 nor 3 is refused by 22. Of a compressed stream the
+ * network bucket is judged as of video, and the frames are told and timed alike: kind, detail, FPT, RTP_OFFSET, VL, margin, GAP and
+ * first packet. No buffer is, because the receiver buffer model does not apply to ST 2110-22 (RP 2110-25, clause 4.10.2): the buffer
+ * answer is always VTIMING_BUFFER_NONE, numbers 6 to 8 of the summary are 0, and so are numbers 8 and 9 of every row. That holds
+ * under both editions, and where frames are broken too. So none is no pass: it says that no buffer was judged. All seven numbers of
+ * the stream must be given and are refused by the same rules, though MAXUDP then decides nothing, and height nothing but a default
+ * TRO. Profile, edition, class and version are chosen each for itself.
+ *
+ * What a program must change that was made for 4.0.0 or older: vtiming_write, vtiming_write_place, vtiming_capture and
+ * vtiming_capture_place have the profile as an argument, right behind tro. Give VTIMING_PROFILE_VIDEO for the answers of before.
+ * vtiming_measure and its twins are called as before, but know record files of kind 3, which they refused by 22: a program that
+ * measures such a file must not take VTIMING_BUFFER_NONE for a pass. Then compile it again: the compiler names each call that lacks
+ * the argument. An object that is only linked again is refused in practice, and nothing is written; nothing is promised of it. Its
+ * vtiming_write hands over the address of the arrivals as the profile. They are aligned to 8, so the low byte of it is neither 1 nor
+ * 3: 22. Its vtiming_capture hands over the edition as the profile, and the address of the room as the edition. Edition 2 is no
+ * profile: 22. Edition 1 is one, but the low 32 bits of an address are neither 1 nor 2 in practice: 8.
+ *
+ * Made for 3.0.0 or older, it must change this too: vtiming_measure, vtiming_measure_offset, vtiming_capture and
  * vtiming_capture_place have the edition as an argument, in front of the room. Give VTIMING_EDITION_1 for the answers of before; a
- * program that gives VTIMING_EDITION_2 must know 4, VTIMING_BUFFER_BROKEN, in number 6. Then compile it again: the compiler names
- * each call that lacks the argument. A program that is only linked again hands over the address of its room as the edition. The
- * low 32 bits of an address are neither 1 nor 2 in practice, so it is refused by 8 and nothing is written; nothing is promised of it.
+ * program that gives VTIMING_EDITION_2 must know 4, VTIMING_BUFFER_BROKEN, in number 6. Only linked again, it too is refused in
+ * practice: vtiming_measure has the address of the room as the edition, 8; vtiming_capture has it as the profile and the room's length
+ * as the edition, 22 or 8.
  *
  * Made for 2.3.0 or older, it must change this too: vtiming_write and vtiming_write_place have the version as their first argument;
  * give them VTIMING_RECORD_VERSION. Where the program gives class 0 and means wide, give 3.
@@ -90,8 +110,8 @@ extern "C" {
 #endif
 
 /* The version of this header and of the archive that it belongs to. */
-#define VTIMING_VERSION "4.0.0"
-#define VTIMING_VERSION_MAJOR 4
+#define VTIMING_VERSION "5.0.0"
+#define VTIMING_VERSION_MAJOR 5
 #define VTIMING_VERSION_MINOR 0
 #define VTIMING_VERSION_PATCH 0
 
@@ -160,6 +180,13 @@ enum vtiming_edition {
     VTIMING_EDITION_2 = 2
 };
 
+/* The profile of a stream: what vtiming_write and vtiming_capture are told, and the kind of a record file's parameter record. Of a
+ * compressed stream no buffer is judged. The functions take uint8_t, and the names are given as they are. */
+enum vtiming_profile {
+    VTIMING_PROFILE_VIDEO = 1,
+    VTIMING_PROFILE_COMPRESSED = 3
+};
+
 /* The kind of a frame: number 1 of its row. It is also number 8 of the summary where number 6 is VTIMING_BUFFER_BROKEN. */
 enum vtiming_frame_kind {
     VTIMING_FRAME_WHOLE = 0,
@@ -174,7 +201,8 @@ enum vtiming_network_answer {
     VTIMING_NETWORK_BURST = 1
 };
 
-/* The buffer answer: number 6. VTIMING_BUFFER_BROKEN comes under edition 2 alone. */
+/* The buffer answer: number 6. VTIMING_BUFFER_BROKEN comes under edition 2 alone. Of a compressed stream it is VTIMING_BUFFER_NONE
+ * and nothing else, which is no pass. */
 enum vtiming_buffer_answer {
     VTIMING_BUFFER_NONE = 0,
     VTIMING_BUFFER_PASS = 1,
@@ -183,7 +211,8 @@ enum vtiming_buffer_answer {
     VTIMING_BUFFER_BROKEN = 4
 };
 
-/* Measures a whole record file, of version 1 or 2.
+/* Measures a whole record file, of version 1 or 2. The file itself says the profile: video where its parameter record is of kind 1,
+ * compressed where it is of kind 3.
  *
  *   file, file_len   the file's bytes, all of them
  *   edition          VTIMING_EDITION_1 or VTIMING_EDITION_2
@@ -208,7 +237,7 @@ enum vtiming_buffer_answer {
  *   2  detail        the count of packets for 1 and 2, the place of the first differing timestamp for 3, else 0
  *   3 to 7           FPT, RTP_OFFSET, VL, margin, GAP: five times in grains. Of the times that a timestamp may mean, 2^32 ticks
  *                    apart, the one nearest to the arrival is taken, so VL is less than 6 h 38 min either way
- *   8, 9             the buffer's peak; its least
+ *   8, 9             the buffer's peak; its least. Both are 0 of a compressed stream, where they say nothing
  *   10 first packet  where the frame began: the place of its first packet among all packets of the file, from 0, the lead-in
  *                    counted. Its record is at byte 19 + 16·place of the file
  *
@@ -217,7 +246,8 @@ enum vtiming_buffer_answer {
  * The first failing frame decides. Under edition 1 whole frames alone can fail, by under before over; none means that no whole
  * frame has closed, and pass that every whole frame fits. Under edition 2 a broken frame fails by broken, and a whole one as under
  * edition 1; none means that no frame has closed, and pass that every closed frame is whole and fits. The lead-in, and a frame
- * that is still open at the end, are not judged.
+ * that is still open at the end, are not judged. Of a compressed stream no frame is: it is none under both editions, however many
+ * frames have closed.
  *
  * Refuses by 20 to 23, 1 to 8 and 11 to 14 at the first record that is refused, and by 15 after all else. 8 is given at the
  * parameters, at offset 1, where these are accepted otherwise, and before any later record is looked at: so a file that has no
@@ -230,7 +260,8 @@ uint64_t vtiming_measure_offset(const uint8_t *file, size_t file_len, uint32_t e
 
 /* How many bytes vtiming_measure fills for this file, so that no host has to guess: ask, lend as many, measure. That is 72
  * and 88 for each frame that closes; one byte fewer would be refused by 15. It is 0 for a file that vtiming_measure refuses
- * whatever is lent, by 20 to 23, 1 to 7 or 11 to 14. It is told no edition, since the room is the same under both. */
+ * whatever is lent, by 20 to 23, 1 to 7 or 11 to 14. It is told no edition, since the room is the same under both; the profile, by
+ * which it is the same too, is in the file. */
 uint64_t vtiming_measure_room(const uint8_t *file, size_t file_len);
 
 /* Measures one stream of a whole network capture: classic pcap, in microseconds or nanoseconds, in either byte order, of
@@ -241,7 +272,9 @@ uint64_t vtiming_measure_room(const uint8_t *file, size_t file_len);
  *   offset           whole seconds, 0 to 99, that are added to each time of the capture so that it counts from the SMPTE
  *                    epoch: 37 for a clock that shows UTC (since 2017), 0 for one that shows TAI
  *   rate to tro      the seven numbers of the stream, as vtiming_write has them; class 0 is 1 on schedule 0, 2 on schedule 1
- *   edition          VTIMING_EDITION_1 or VTIMING_EDITION_2, as of vtiming_measure
+ *   profile          VTIMING_PROFILE_VIDEO or VTIMING_PROFILE_COMPRESSED: a capture does not say it
+ *   edition          VTIMING_EDITION_1 or VTIMING_EDITION_2, as of vtiming_measure; of a compressed stream too, though both then
+ *                    give the same answer
  *   out, out_len     room for the answer: 88 bytes and 88 for each frame that closes; vtiming_capture_room says how many
  *
  * A frame of the capture is a packet of the stream where its captured bytes hold all of these: Ethernet's header with type
@@ -259,22 +292,22 @@ uint64_t vtiming_measure_room(const uint8_t *file, size_t file_len);
  * So number j of row r is 11 + 11·r + j of all. Packets are counted among those of the stream, from 0, and not among the
  * records: a row's last number too.
  *
- * Refuses by 1 to 7, then by 8; then by 33, also where the capture is empty; by 30; record by record by 31, 32 (of skipped
- * records too) and 12 to 14; and by 15 after all else. 11 cannot come: the marker is one bit. A capture of no record, or of
- * skipped ones only, is accepted. */
+ * Refuses by 22 first of all, where the profile is neither 1 nor 3; by 1 to 7, then by 8; then by 33, also where the capture is
+ * empty; by 30; record by record by 31, 32 (of skipped records too) and 12 to 14; and by 15 after all else. 11 cannot come: the
+ * marker is one bit. A capture of no record, or of skipped ones only, is accepted. */
 uint32_t vtiming_capture(const uint8_t *capture, size_t capture_len, uint16_t port, uint32_t offset, uint8_t rate,
                          uint8_t schedule, uint8_t stream_class, uint16_t height, uint32_t packets_per_frame,
-                         uint16_t maxudp, uint32_t tro, uint32_t edition, uint8_t *out, size_t out_len);
+                         uint16_t maxudp, uint32_t tro, uint8_t profile, uint32_t edition, uint8_t *out, size_t out_len);
 
 /* The twin of vtiming_capture, given how much room there would be: for 31 and 32 the record of the capture, from 0; for 12 to
- * 14 the packet of the stream, from 0; else 0, for 8 and 15 too. */
+ * 14 the packet of the stream, from 0; else 0, for 22, 8 and 15 too. */
 uint64_t vtiming_capture_place(const uint8_t *capture, size_t capture_len, uint16_t port, uint32_t offset, uint8_t rate,
                                uint8_t schedule, uint8_t stream_class, uint16_t height, uint32_t packets_per_frame,
-                               uint16_t maxudp, uint32_t tro, uint32_t edition, size_t out_len);
+                               uint16_t maxudp, uint32_t tro, uint8_t profile, uint32_t edition, size_t out_len);
 
 /* How many bytes vtiming_capture fills for this capture and these numbers: 88 and 88 for each frame that closes; one byte
- * fewer would be refused by 15. It is 0 for a capture that vtiming_capture refuses whatever is lent, under both editions: it is
- * told none, since the room is the same. */
+ * fewer would be refused by 15. It is 0 for a capture that vtiming_capture refuses whatever is lent, under both editions and of
+ * both profiles: it is told neither, since the room is the same. */
 uint64_t vtiming_capture_room(const uint8_t *capture, size_t capture_len, uint16_t port, uint32_t offset, uint8_t rate,
                               uint8_t schedule, uint8_t stream_class, uint16_t height, uint32_t packets_per_frame,
                               uint16_t maxudp, uint32_t tro);
@@ -301,28 +334,31 @@ static inline int64_t vtiming_number(const uint8_t *answer, size_t k)
  *   packets_per_frame  1 to 20,000
  *   maxudp           1460 or 8960
  *   tro              whole microseconds, less than a frame; or VTIMING_DEFAULT_TRO
+ *   profile          VTIMING_PROFILE_VIDEO or VTIMING_PROFILE_COMPRESSED: written as the kind of the parameter record, 1 or 3
  *   arrivals         of each packet, nanoseconds since the SMPTE epoch
  *   stamps           RTP timestamps
  *   markers          0 or 1
  *   out, out_len     room for the file: 19 bytes and 16 for each packet
  *
- * Refuses by 20 first of all, then by 1 to 7, 10, then packet by packet 11 to 14, then 24. What it writes, vtiming_measure accepts
- * under either edition, given room. */
+ * Refuses by 20 first of all, then by 22 where the profile is neither 1 nor 3, then by 1 to 7, 10, then packet by packet 11 to 14,
+ * then 24. Nothing else depends on the profile: of both the file has the same length, and the same bytes but the kind. What it
+ * writes, vtiming_measure accepts under either edition, given room. */
 uint32_t vtiming_write(uint8_t version, uint8_t rate, uint8_t schedule, uint8_t stream_class, uint16_t height,
-                       uint32_t packets_per_frame, uint16_t maxudp, uint32_t tro, const uint64_t *arrivals,
+                       uint32_t packets_per_frame, uint16_t maxudp, uint32_t tro, uint8_t profile, const uint64_t *arrivals,
                        size_t arrival_count, const uint32_t *stamps, size_t stamp_count, const uint8_t *markers,
                        size_t marker_count, uint8_t *out, size_t out_len);
 
-/* The twin of vtiming_write: for 11 to 14 the place of the refused packet, from 0; else 0. */
+/* The twin of vtiming_write: for 11 to 14 the place of the refused packet, from 0; else 0, for 22 too. */
 uint64_t vtiming_write_place(uint8_t version, uint8_t rate, uint8_t schedule, uint8_t stream_class, uint16_t height,
-                             uint32_t packets_per_frame, uint16_t maxudp, uint32_t tro, const uint64_t *arrivals,
+                             uint32_t packets_per_frame, uint16_t maxudp, uint32_t tro, uint8_t profile, const uint64_t *arrivals,
                              size_t arrival_count, const uint32_t *stamps, size_t stamp_count, const uint8_t *markers,
                              size_t marker_count, size_t out_len);
 
 /* What follows from the seven numbers of a stream, which are those of vtiming_write; class 0 is 1 on schedule 0, 2 on schedule
  * 1. Fills four numbers: F, the length of a frame in grains; TRO in grains; C_MAX, the most packets that the network bucket may
- * hold; VRX_FULL, the most that the receiver's buffer holds. out_len counts numbers. Refuses by 1 to 7, then by 15 where there
- * is room for fewer than four. */
+ * hold; VRX_FULL, the most that the receiver's buffer holds. It is told no profile: the four follow from the seven alone, and of a
+ * compressed stream VRX_FULL is not used. out_len counts numbers. Refuses by 1 to 7, then by 15 where there is room for fewer than
+ * four. */
 uint32_t vtiming_limits(uint8_t rate, uint8_t schedule, uint8_t stream_class, uint16_t height, uint32_t packets_per_frame,
                         uint16_t maxudp, uint32_t tro, uint64_t *out, size_t out_len);
 
@@ -342,7 +378,8 @@ uint32_t vtiming_limits(uint8_t rate, uint8_t schedule, uint8_t stream_class, ui
  * The fraction is exact and not reduced; over 27 it is nanoseconds. Where no read is left, numbers 1 and 2 are 0, which is no
  * fraction: the next frame's reads are not meant. The numerator is at most 844,589,250,000,000, so that int64_t holds it, and from
  * the frame's first read on it is below 24·F for gapped and F for linear. The frame need not be whole, nor closed. The packets up
- * to the first marker are in no frame: for these there is nothing to ask.
+ * to the first marker are in no frame: for these there is nothing to ask. Nor is there of a compressed stream, which has no reads; so
+ * no profile is told here.
  *
  * Refuses by 1 to 7, then by 12 where the packet comes before the frame's first, by 13 where it comes more than 600 s after it,
  * and then by 15 where there is room for fewer than three. */
