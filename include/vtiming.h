@@ -68,13 +68,13 @@
  * says nothing of an edition, and no answer does: a report should name the one that was given.
  *
  * The profile says what the stream is: 1 video (ST 2110-20), 3 compressed (ST 2110-22). That is the kind of the parameter record
- * which stands for it in a record file. A third will come; what is neither 1 nor 3 is refused by 22. Of a compressed stream the
- * network bucket is judged as of video, and the frames are told and timed alike: kind, detail, FPT, RTP_OFFSET, VL, margin, GAP and
- * first packet. No buffer is, because the receiver buffer model does not apply to ST 2110-22 (RP 2110-25, clause 4.10.2): the buffer
- * answer is always VTIMING_BUFFER_NONE, numbers 6 to 8 of the summary are 0, and so are numbers 8 and 9 of every row. That holds
- * under both editions, and where frames are broken too. So none is no pass: it says that no buffer was judged. All seven numbers of
- * the stream must be given and are refused by the same rules, though MAXUDP then decides nothing, and height nothing but a default
- * TRO. Profile, edition, class and version are chosen each for itself.
+ * which stands for it in a record file; what is neither 1 nor 3 is refused by 22. Of a compressed stream the network bucket is judged
+ * as of video, and the frames are told and timed alike: kind, detail, FPT, RTP_OFFSET, VL, margin, GAP and first packet. No buffer is
+ * judged, because the receiver buffer model does not apply to ST 2110-22 (RP 2110-25, clause 4.10.2): the buffer answer is always
+ * VTIMING_BUFFER_NONE, so that numbers 6 to 8 of the summary are 0, and so are numbers 8 and 9 of every row. That holds under both
+ * editions, and where frames are broken too. So none is no pass: it says that no buffer was judged. All seven numbers of the stream
+ * must be given and are refused by the same rules, though MAXUDP then decides nothing, and height nothing but a default TRO. Profile,
+ * edition, class and version are chosen each for itself.
  *
  * What a program must change that was made for 4.0.0 or older: vtiming_write, vtiming_write_place, vtiming_capture and
  * vtiming_capture_place have the profile as an argument, right behind tro. Give VTIMING_PROFILE_VIDEO for the answers of before.
