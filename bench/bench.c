@@ -18,6 +18,8 @@
 #define RECORD_VERSION 2 /* of a record file, the last */
 #define EDITIONS 2       /* of the test plan */
 #define TIMED 1          /* the edition by which everything is timed */
+#define VIDEO 1          /* the profile that is timed, and the kind of its parameters in a record file */
+#define COMPRESSED 3     /* the other */
 #define RATE 6 /* 50 frames a second */
 #define FRAME_NS 20000000ull
 #define TICKS_PER_FRAME 1800u
@@ -41,7 +43,9 @@ struct stream {
     uint16_t height;
     uint32_t n;
     uint16_t maxudp;
-    uint32_t tro, edition;
+    uint32_t tro;
+    uint8_t profile;
+    uint32_t edition;
 };
 
 /* splitmix64: small, and the same numbers on every machine. */
@@ -54,6 +58,9 @@ static uint64_t any(void)
     return x ^ (x >> 31);
 }
 static uint64_t below(uint64_t m) { return any() % m; }
+
+static uint8_t any_profile(void) { return below(4) ? VIDEO : COMPRESSED; }
+static uint8_t no_profile(void) { return (uint8_t)(below(2) ? 2 * below(3) : any() | 4); }
 
 static void *room(size_t bytes)
 {
@@ -97,12 +104,12 @@ static struct list jittered(size_t count, uint32_t n)
 
 /* Set up and fed in one, as the twin does it. */
 static uint32_t proved_feed(uint8_t rate, uint8_t schedule, uint8_t class, uint16_t height, uint32_t n, uint16_t maxudp, uint32_t tro,
-                            uint32_t edition, const uint64_t *arrivals, size_t arrival_count, const uint32_t *stamps, size_t stamp_count,
-                            const uint8_t *markers, size_t marker_count, int64_t *rows, size_t row_count, uint64_t *out,
-                            size_t out_count)
+                            uint8_t profile, uint32_t edition, const uint64_t *arrivals, size_t arrival_count, const uint32_t *stamps,
+                            size_t stamp_count, const uint8_t *markers, size_t marker_count, int64_t *rows, size_t row_count,
+                            uint64_t *out, size_t out_count)
 {
     uint64_t state[STATE_WORDS];
-    uint32_t refused = vtiming_set_up(rate, schedule, class, height, n, maxudp, tro, edition, state, STATE_WORDS);
+    uint32_t refused = vtiming_set_up(rate, schedule, class, height, n, maxudp, tro, profile, edition, state, STATE_WORDS);
     if (refused) return refused;
     return vtiming_feed(state, STATE_WORDS, arrivals, arrival_count, stamps, stamp_count, markers, marker_count, rows, row_count, out,
                         out_count);
@@ -110,15 +117,15 @@ static uint32_t proved_feed(uint8_t rate, uint8_t schedule, uint8_t class, uint1
 
 static uint32_t fed(feed_function *feed, struct stream s, struct list l, int64_t *rows, size_t row_count, uint64_t *out)
 {
-    return feed(s.rate, s.schedule, s.class, s.height, s.n, s.maxudp, s.tro, s.edition, l.arrivals, l.count, l.stamps, l.count,
-                l.markers, l.count, rows, row_count, out, SUMMARY);
+    return feed(s.rate, s.schedule, s.class, s.height, s.n, s.maxudp, s.tro, s.profile, s.edition, l.arrivals, l.count, l.stamps,
+                l.count, l.markers, l.count, rows, row_count, out, SUMMARY);
 }
 
 static void differ(const char *what, struct stream s, size_t count, size_t place, int64_t proved, int64_t twin)
 {
     printf("DIFFERENT: %s %zu: proved %" PRId64 ", twin %" PRId64
-           "; rate %u schedule %u class %u height %u n %u maxudp %u tro %u edition %u, %zu packets\n",
-           what, place, proved, twin, s.rate, s.schedule, s.class, s.height, s.n, s.maxudp, s.tro, s.edition, count);
+           "; rate %u schedule %u class %u height %u n %u maxudp %u tro %u profile %u edition %u, %zu packets\n",
+           what, place, proved, twin, s.rate, s.schedule, s.class, s.height, s.n, s.maxudp, s.tro, s.profile, s.edition, count);
     exit(1);
 }
 
@@ -165,11 +172,11 @@ static uint64_t buffer_by_edition_2(struct stream s, struct list l)
 }
 
 /* Short lists of every sort: all rates and classes, frames short, long and of two timestamps, first packets half a wrap from two
-   encoded times, bursts, long pauses, refusals. Those that are accepted are measured by both editions, and are files as well, of both
-   versions, by both editions. */
+   encoded times, bursts, long pauses, refusals, a quarter of them compressed. Those that are accepted are measured by both editions, and
+   are files as well, of both versions, by both editions. */
 static void agree_on_short_lists(unsigned lists)
 {
-    unsigned by_answer[256] = {0}, broken = 0;
+    unsigned by_answer[256] = {0}, broken = 0, compressed = 0;
     for (unsigned k = 0; k < lists; k++) {
         struct stream s;
         s.rate = (uint8_t)(1 + below(8));
@@ -179,8 +186,9 @@ static void agree_on_short_lists(unsigned lists)
         s.n = (uint32_t)(below(4) ? 1 + below(8) : 1 + below(20000));
         s.maxudp = below(2) ? 1460 : 8960;
         s.tro = below(2) ? DEFAULT_TRO : (uint32_t)below(16000);
+        s.profile = any_profile();
         s.edition = (uint32_t)(1 + below(EDITIONS));
-        if (below(20) == 0) switch (below(8)) { /* one number that set-up refuses */
+        if (below(20) == 0) switch (below(9)) { /* one number that set-up refuses */
             case 0: s.rate = 9; break;
             case 1: s.schedule = 2; break;
             case 2: s.class = 4; break;
@@ -188,6 +196,7 @@ static void agree_on_short_lists(unsigned lists)
             case 4: s.n = 20001; break;
             case 5: s.maxudp = 1500; break;
             case 6: s.edition = (uint32_t)(below(2) ? 3 * below(2) : any() | 4); break;
+            case 7: s.profile = no_profile(); break;
             default: s.tro = 50000; break;
         }
         struct list l = new_list(below(200));
@@ -223,10 +232,14 @@ static void agree_on_short_lists(unsigned lists)
         s.edition = other_edition(s.edition);
         uint32_t by_other = agree(s, l, row_count);
         if (by_other != answer) differ("answer by the other edition", s, l.count, 0, by_other, answer);
-        if (answer == 0) agree_in_both_versions(s, l), broken += buffer_by_edition_2(s, l) == BROKEN;
+        if (answer == 0) {
+            agree_in_both_versions(s, l);
+            broken += buffer_by_edition_2(s, l) == BROKEN;
+            compressed += s.profile == COMPRESSED;
+        }
         free_list(l);
     }
-    printf("%u short lists: the two agree; by edition 2 broken: %u;", lists, broken);
+    printf("%u short lists: the two agree; by edition 2 broken: %u; compressed: %u;", lists, broken, compressed);
     for (int i = 0; i < 256; i++)
         if (by_answer[i]) printf(" %s%d: %u", i ? "refused by " : "answer ", i, by_answer[i]);
     printf("\n");
@@ -267,7 +280,7 @@ static double timed(feed_function *feed, size_t calls, struct stream s, struct l
 
 static struct stream stream_of(uint32_t n)
 {
-    struct stream s = {RATE, 0, 1, 1080, n, 1460, DEFAULT_TRO, TIMED};
+    struct stream s = {RATE, 0, 1, 1080, n, 1460, DEFAULT_TRO, VIDEO, TIMED};
     return s;
 }
 
@@ -338,7 +351,7 @@ static struct file file_of(uint8_t version, struct stream s, struct list l)
 {
     struct file f = {19 + 16 * l.count, room(19 + 16 * l.count)};
     uint8_t *b = f.bytes;
-    b[0] = version, put(b + 1, 2, 16), b[3] = 1, b[4] = s.rate, b[5] = s.schedule, b[6] = s.class;
+    b[0] = version, put(b + 1, 2, 16), b[3] = s.profile, b[4] = s.rate, b[5] = s.schedule, b[6] = s.class;
     put(b + 7, 2, s.height), put(b + 9, 4, s.n), put(b + 13, 2, s.maxudp), put(b + 15, 4, s.tro);
     b += 19;
     for (size_t i = 0; i < l.count; i++, b += 16)
@@ -434,6 +447,7 @@ static void time_file(uint32_t n, size_t wanted)
 #define PORT 20000
 #define OFFSET 37
 #define HEADERS 54 /* bytes of a frame up to the RTP header's end */
+#define WORDS 11   /* of a call of vcapture */
 
 static void put_little(uint8_t *b, uint32_t x)
 {
@@ -460,12 +474,14 @@ static struct file capture_of(struct list l, size_t captured)
 
 static uint32_t captured_by(capture_function *measure, struct stream s, struct file f, uint8_t *out, size_t size)
 {
-    return measure(f.bytes, f.size, PORT, OFFSET, s.rate, s.schedule, s.class, s.height, s.n, s.maxudp, s.tro, s.edition, out, size);
+    return measure(f.bytes, f.size, PORT, OFFSET, s.rate, s.schedule, s.class, s.height, s.n, s.maxudp, s.tro, s.profile, s.edition, out,
+                   size);
 }
 
 static uint32_t captured_by_libpcap(const char *name, struct stream s, uint8_t *out, size_t size)
 {
-    return libpcap_capture(name, PORT, OFFSET, s.rate, s.schedule, s.class, s.height, s.n, s.maxudp, s.tro, s.edition, out, size);
+    return libpcap_capture(name, PORT, OFFSET, s.rate, s.schedule, s.class, s.height, s.n, s.maxudp, s.tro, s.profile, s.edition, out,
+                           size);
 }
 
 static void must_accept(const char *what, uint32_t refused)
@@ -511,8 +527,8 @@ static void save(struct file f, const char *name)
     }
 }
 
-/* The two on captures that are refused too: a short one with any bit turned, cut anywhere or whole, by either edition, now and then by
-   one that there is not. */
+/* The two on captures that are refused too: a short one with any bit turned, cut anywhere or whole, of either profile, by either edition,
+   now and then of a profile or by an edition that there is not. */
 static void agree_on_damaged(unsigned captures)
 {
     unsigned by_answer[256] = {0};
@@ -530,12 +546,13 @@ static void agree_on_damaged(unsigned captures)
         memset(out, 0x55, sizeof out);
         memset(walked, 0x55, sizeof walked);
         s.edition = (uint32_t)(below(50) ? 1 + below(EDITIONS) : 3 * below(2));
+        s.profile = below(50) ? any_profile() : no_profile();
         uint32_t proved = captured_by(vtiming_capture, s, damaged, out, lent);
         uint32_t plain = captured_by(walker_capture, s, damaged, walked, lent);
         f.bytes[at] ^= bit;
         if (proved != plain) {
-            printf("DIFFERENT: byte %zu, bit %u, %zu bytes, edition %" PRIu32 ": proved %" PRIu32 ", walker %" PRIu32 "\n", at, bit,
-                   damaged.size, s.edition, proved, plain);
+            printf("DIFFERENT: byte %zu, bit %u, %zu bytes, profile %u, edition %" PRIu32 ": proved %" PRIu32 ", walker %" PRIu32 "\n",
+                   at, bit, damaged.size, s.profile, s.edition, proved, plain);
             exit(1);
         }
         same_bytes("the walker, damaged", out, walked, sizeof out);
@@ -651,16 +668,16 @@ static int64_t number(const uint8_t *out, size_t k)
     return (int64_t)x;
 }
 
-/* What vcapture prints of the file, called with the ten words that follow it, by libpcap; status 3 where there is no libpcap. */
+/* What vcapture prints of the file, called with the eleven words that follow it, by libpcap; status 3 where there is no libpcap. */
 static int print_by_libpcap(char **words)
 {
     static const char *const buffers[] = {"none", "pass", "under", "over", "broken"};
-    uint32_t x[10];
-    for (int k = 0; k < 10; k++) x[k] = (uint32_t)strtoul(words[k + 1], NULL, 10);
+    uint32_t x[WORDS];
+    for (int k = 0; k < WORDS; k++) x[k] = (uint32_t)strtoul(words[k + 1], NULL, 10);
     size_t size = 64 << 20;
     uint8_t *out = room(size);
     uint32_t refused = libpcap_capture(words[0], (uint16_t)x[0], x[1], (uint8_t)x[2], (uint8_t)x[3], (uint8_t)x[4], (uint16_t)x[5], x[6],
-                                       (uint16_t)x[7], x[8], x[9], out, size);
+                                       (uint16_t)x[7], x[8], (uint8_t)x[9], x[10], out, size);
     if (refused) return refused == NO_LIBPCAP ? 3 : 1;
     for (int64_t frame = 0; frame < number(out, 1); frame++) {
         printf("frame");
@@ -716,8 +733,8 @@ int main(int argc, char **argv)
     if (argc == 5 && strcmp(what, "once") == 0) return call_once(argv[2], (uint32_t)x[1], x[2]);
     if (argc == 5 && strcmp(what, "file") == 0) return write_file(jittered_file((uint32_t)x[0], x[1]), argv[4]);
     if (argc == 6 && strcmp(what, "capture") == 0) return write_file(jittered_capture((uint32_t)x[0], x[1], x[2]), argv[5]);
-    if (argc == 13 && strcmp(what, "libpcap") == 0) return print_by_libpcap(argv + 2);
+    if (argc == 3 + WORDS && strcmp(what, "libpcap") == 0) return print_by_libpcap(argv + 2);
     fprintf(stderr, "usage: bench agree; bench time SCRATCH; bench once FUNCTION N PACKETS; bench file N PACKETS FILE;\n"
-                    "bench capture N PACKETS CAPTURED FILE; bench libpcap FILE and the ten words of vcapture\n");
+                    "bench capture N PACKETS CAPTURED FILE; bench libpcap FILE and the eleven words of vcapture\n");
     return 2;
 }

@@ -6,13 +6,14 @@
 #include <stddef.h>
 #include <stdint.h>
 
-/* The proved code, from libprobe.a. A state is 34 words, one for each number of docs/STATE.md in its order, a flag as 0 or 1
+/* The proved code, from libprobe.a. A state is 35 words, one for each number of docs/STATE.md in its order, a flag as 0 or 1
    and an answer as document 01's three numbers for it. Whoever calls keeps them between the calls. */
-#define STATE_WORDS 34
+#define STATE_WORDS 35
 
-/* A stream set up: 1 to 7, 8, then 15 for fewer words than a state is, and nothing written; or 0, and the fresh state's words. */
+/* A stream set up: 22 for a profile other than 1 or 3, 1 to 7, 8, then 15 for fewer words than a state is, and nothing written; or 0,
+   and the fresh state's words. */
 uint32_t vtiming_set_up(uint8_t rate, uint8_t schedule, uint8_t class, uint16_t height, uint32_t n, uint16_t maxudp, uint32_t tro,
-                        uint32_t edition, uint64_t *state, size_t state_count);
+                        uint8_t profile, uint32_t edition, uint64_t *state, size_t state_count);
 
 /* A call's packets: 9 (too few words too), 10, 11 to 14, then 15 for fewer than eleven row numbers a frame closed or fewer than
    nine of `out`, and nothing written; or 0, the state's words after the call, the rows, and packets, frames, peak, network
@@ -29,8 +30,8 @@ uint64_t vtiming_feed_place(const uint64_t *state, size_t state_count, const uin
 /* One stream set up and one list fed: the answer, the rows and the numbers of vtiming_set_up and then vtiming_feed. The twins ask
    for no room in `out`; bench.c always lends nine numbers. */
 typedef uint32_t feed_function(uint8_t rate, uint8_t schedule, uint8_t class, uint16_t height, uint32_t n, uint16_t maxudp,
-                               uint32_t tro, uint32_t edition, const uint64_t *arrivals, size_t arrival_count, const uint32_t *stamps,
-                               size_t stamp_count, const uint8_t *markers, size_t marker_count, int64_t *rows,
+                               uint32_t tro, uint8_t profile, uint32_t edition, const uint64_t *arrivals, size_t arrival_count,
+                               const uint32_t *stamps, size_t stamp_count, const uint8_t *markers, size_t marker_count, int64_t *rows,
                                size_t row_count, uint64_t *out, size_t out_count);
 
 extern feed_function twin_feed;     /* twin.c, by the system's compiler */
@@ -45,8 +46,8 @@ extern measure_function kit_twin_measure; /* twin.c, by the compiler that made l
 
 /* A whole capture into bytes: include/vtiming.h. */
 typedef uint32_t capture_function(const uint8_t *capture, size_t size, uint16_t port, uint32_t offset, uint8_t rate, uint8_t schedule,
-                                  uint8_t class, uint16_t height, uint32_t n, uint16_t maxudp, uint32_t tro, uint32_t edition,
-                                  uint8_t *out, size_t room);
+                                  uint8_t class, uint16_t height, uint32_t n, uint16_t maxudp, uint32_t tro, uint8_t profile,
+                                  uint32_t edition, uint8_t *out, size_t room);
 
 extern capture_function vtiming_capture;    /* the proved code, from libfilm.a */
 extern capture_function walker_capture;     /* walker.c, by the system's compiler */
@@ -56,6 +57,6 @@ extern capture_function kit_walker_capture; /* walker.c, by the compiler that ma
    NO_LIBPCAP where the bench was compiled without. */
 #define NO_LIBPCAP 1000
 uint32_t libpcap_capture(const char *name, uint16_t port, uint32_t offset, uint8_t rate, uint8_t schedule, uint8_t class, uint16_t height,
-                         uint32_t n, uint16_t maxudp, uint32_t tro, uint32_t edition, uint8_t *out, size_t room);
+                         uint32_t n, uint16_t maxudp, uint32_t tro, uint8_t profile, uint32_t edition, uint8_t *out, size_t room);
 
 #endif

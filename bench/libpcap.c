@@ -39,13 +39,13 @@ static void take(u_char *to, const struct pcap_pkthdr *record, const u_char *fra
 }
 
 uint32_t libpcap_capture(const char *name, uint16_t port, uint32_t offset, uint8_t rate, uint8_t schedule, uint8_t class, uint16_t height,
-                         uint32_t n, uint16_t maxudp, uint32_t tro, uint32_t edition, uint8_t *out, size_t room)
+                         uint32_t n, uint16_t maxudp, uint32_t tro, uint8_t profile, uint32_t edition, uint8_t *out, size_t room)
 {
     char why[PCAP_ERRBUF_SIZE];
     struct walk walk = {.offset = offset, .port = port, .out = out, .room = room};
-    uint32_t refused = set_up_refusal(rate, schedule, class, height, n, maxudp, tro, edition);
+    uint32_t refused = set_up_refusal(rate, schedule, class, height, n, maxudp, tro, profile, edition);
     if (refused) return refused;
-    walk.rules = rules_of(rate, schedule, class, height, n, maxudp, tro, edition);
+    walk.rules = rules_of(rate, schedule, class, height, n, maxudp, tro, profile, edition);
     pcap_t *capture = pcap_open_offline_with_tstamp_precision(name, PCAP_TSTAMP_PRECISION_NANO, why);
     if (!capture) return 30;
     if (pcap_datalink(capture) != DLT_EN10MB) walk.refused = 30;
@@ -57,10 +57,10 @@ uint32_t libpcap_capture(const char *name, uint16_t port, uint32_t offset, uint8
 }
 #else
 uint32_t libpcap_capture(const char *name, uint16_t port, uint32_t offset, uint8_t rate, uint8_t schedule, uint8_t class, uint16_t height,
-                         uint32_t n, uint16_t maxudp, uint32_t tro, uint32_t edition, uint8_t *out, size_t room)
+                         uint32_t n, uint16_t maxudp, uint32_t tro, uint8_t profile, uint32_t edition, uint8_t *out, size_t room)
 {
     (void)name, (void)port, (void)offset, (void)rate, (void)schedule, (void)class, (void)height, (void)n, (void)maxudp, (void)tro;
-    (void)edition, (void)out, (void)room;
+    (void)profile, (void)edition, (void)out, (void)room;
     return NO_LIBPCAP;
 }
 #endif

@@ -126,7 +126,7 @@ on_captures() {
     cells n packets bytes vcapture plain plain/sys libpcap count RATIO RATIO/sys PCAP FLOOR
     while read -r n packets captured; do
         $runner "$made/bench-0" capture "$n" "$packets" "$captured" "$made/stream.pcap"
-        turns "$made/stream.pcap" vcapture walk "$libpcap" 20000 37 6 0 1 1080 "$n" 1460 4294967295 1
+        turns "$made/stream.pcap" vcapture walk "$libpcap" 20000 37 6 0 1 1080 "$n" 1460 4294967295 1 1
         proved=${best[vcapture]}
         cells "$n" "$packets" "$captured" "$(seconds "$proved")" "$(seconds "${best[kit-walk]}")" "$(seconds "${best[walk]}")" \
             "$(seconds "${best[bench]:-}")" "$(seconds "${best[count]}")" "$(ratio "$proved" "${best[kit-walk]}")" \

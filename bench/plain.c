@@ -19,10 +19,10 @@ int main(void)
         held += (size_t)got;
         const uint8_t *b = window, *end = window + held;
         if (!began && held >= HEAD) {
-            uint8_t class = class_in(b[0], b[6]);
+            uint8_t class = class_in(b[0], b[6]), profile = b[3];
             if (b[0] < 1 || b[0] > 2) return 1;
-            if (set_up_refusal(b[4], b[5], class, big16(b + 7), big32(b + 9), big16(b + 13), big32(b + 15), EDITION_1)) return 1;
-            r = rules_of(b[4], b[5], class, big16(b + 7), big32(b + 9), big16(b + 13), big32(b + 15), EDITION_1);
+            if (set_up_refusal(b[4], b[5], class, big16(b + 7), big32(b + 9), big16(b + 13), big32(b + 15), profile, EDITION_1)) return 1;
+            r = rules_of(b[4], b[5], class, big16(b + 7), big32(b + 9), big16(b + 13), big32(b + 15), profile, EDITION_1);
             began = 1;
             b += HEAD;
         }

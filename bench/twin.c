@@ -18,11 +18,11 @@ static uint8_t first_refusal(const uint64_t *arrivals, const uint8_t *markers, s
 }
 
 uint32_t twin_feed(uint8_t rate, uint8_t schedule, uint8_t class, uint16_t height, uint32_t n, uint16_t maxudp, uint32_t tro,
-                   uint32_t edition, const uint64_t *restrict arrivals, size_t count, const uint32_t *restrict stamps, size_t stamp_count,
-                   const uint8_t *restrict markers, size_t marker_count, int64_t *restrict rows, size_t row_count,
+                   uint8_t profile, uint32_t edition, const uint64_t *restrict arrivals, size_t count, const uint32_t *restrict stamps,
+                   size_t stamp_count, const uint8_t *restrict markers, size_t marker_count, int64_t *restrict rows, size_t row_count,
                    uint64_t *restrict out, size_t out_count)
 {
-    uint8_t refused = set_up_refusal(rate, schedule, class, height, n, maxudp, tro, edition);
+    uint8_t refused = set_up_refusal(rate, schedule, class, height, n, maxudp, tro, profile, edition);
     if (refused) return refused;
     if (stamp_count != count || marker_count != count) return 10;
 
@@ -39,7 +39,7 @@ uint32_t twin_feed(uint8_t rate, uint8_t schedule, uint8_t class, uint16_t heigh
     size_t closing = marked_count > 0 ? marked_count - 1 : 0; /* the first marker ends the lead-in */
     if (row_count / ROW < closing) return 15;
 
-    const struct rules r = rules_of(rate, schedule, class, height, n, maxudp, tro, edition);
+    const struct rules r = rules_of(rate, schedule, class, height, n, maxudp, tro, profile, edition);
     struct twin w = {0};
     for (size_t i = 0; i < count; i++) {
         arrives(&w, &r, arrivals[i], stamps[i]);
@@ -53,13 +53,13 @@ uint32_t twin_feed(uint8_t rate, uint8_t schedule, uint8_t class, uint16_t heigh
 }
 
 /* A whole file: one pass that checks and counts, one that measures and writes. Damaged files are answered 21, whatever
-   is wrong: the twin is timed on sound ones. */
+   is wrong but the kind of the parameters: the twin is timed on sound ones. */
 uint32_t twin_measure(const uint8_t *restrict file, size_t size, uint32_t edition, uint8_t *restrict out, size_t room)
 {
-    if (size < HEAD || file[0] < 1 || file[0] > 2 || big16(file + 1) != 16 || file[3] != 1 || (size - HEAD) % RECORD != 0) return 21;
-    uint8_t class = class_in(file[0], file[6]);
+    if (size < HEAD || file[0] < 1 || file[0] > 2 || big16(file + 1) != 16 || (size - HEAD) % RECORD != 0) return 21;
+    uint8_t class = class_in(file[0], file[6]), profile = file[3];
     uint8_t refused =
-        set_up_refusal(file[4], file[5], class, big16(file + 7), big32(file + 9), big16(file + 13), big32(file + 15), edition);
+        set_up_refusal(file[4], file[5], class, big16(file + 7), big32(file + 9), big16(file + 13), big32(file + 15), profile, edition);
     if (refused) return refused;
 
     const uint8_t *packets = file + HEAD, *end = file + size;
@@ -77,7 +77,7 @@ uint32_t twin_measure(const uint8_t *restrict file, size_t size, uint32_t editio
     if (room / 8 < SUMMARY + ROW * closing) return 15;
 
     const struct rules r =
-        rules_of(file[4], file[5], class, big16(file + 7), big32(file + 9), big16(file + 13), big32(file + 15), edition);
+        rules_of(file[4], file[5], class, big16(file + 7), big32(file + 9), big16(file + 13), big32(file + 15), profile, edition);
     struct twin w = {0};
     for (const uint8_t *b = packets; b < end; b += RECORD) {
         uint64_t t = big64(b + 3);

@@ -20,6 +20,7 @@
 enum { STRICT = 0, NARROW = 1, NARROW_LINEAR = 2, WIDE = 3 }; /* STRICT is NARROW on schedule 0, NARROW_LINEAR on 1 */
 enum { NONE, PASS, UNDER, OVER, BROKEN };
 enum { EDITION_1 = 1, EDITION_2 = 2 }; /* of the test plan: by the second a broken frame fails its buffer */
+enum { VIDEO = 1, COMPRESSED = 3 };    /* the profile, as the kind of a file's parameters: of a compressed stream no buffer is judged */
 
 #define FRAME(num, den) (SECOND * (den) / (num)) /* grains in a frame, at num/den frames a second */
 static const uint64_t frame_lengths[9] = {
@@ -28,8 +29,9 @@ static const uint64_t frame_lengths[9] = {
 static uint64_t larger(uint64_t a, uint64_t b) { return a < b ? b : a; }
 
 static uint8_t set_up_refusal(uint8_t rate, uint8_t schedule, uint8_t class, uint16_t height, uint32_t n, uint16_t maxudp, uint32_t tro,
-                              uint32_t edition)
+                              uint8_t profile, uint32_t edition)
 {
+    if (profile != VIDEO && profile != COMPRESSED) return 22;
     if (rate < 1 || rate > 8) return 1;
     if (schedule > 1) return 2;
     if (class > 3 || (class == NARROW && schedule != 0) || (class == NARROW_LINEAR && schedule != 1)) return 3;
@@ -82,13 +84,15 @@ struct rules {
     uint64_t n, frame, tro, read_den, c_max, vrx_full, spacing, drain_step, read_step;
     int64_t read_num;
     uint32_t edition;
+    int judged; /* whether a buffer is */
 };
 
 static struct rules rules_of(uint8_t rate, uint8_t schedule, uint8_t class, uint16_t height, uint32_t n, uint16_t maxudp, uint32_t tro,
-                             uint32_t edition)
+                             uint8_t profile, uint32_t edition)
 {
     struct rules r;
     r.edition = edition;
+    r.judged = profile == VIDEO;
     r.n = n;
     r.frame = frame_lengths[rate];
     r.tro = tro != DEFAULT_TRO ? 27000ull * tro : height >= 1080 ? 43 * r.frame / 1125 : 28 * r.frame / 750;
@@ -169,6 +173,10 @@ INLINE void arrives(struct twin *w, const struct rules *r, uint64_t t, uint32_t 
         w->ahead -= (int64_t)(passed * r->read_step);
         if (stamp != w->stamp && w->differs < 0) w->differs = (int64_t)w->held;
     }
+    if (!r->judged) { /* there are no reads */
+        w->held++;
+        return;
+    }
     if (w->ahead < 0) {
         w->ahead += r->read_num;
         w->reads++;
@@ -211,7 +219,7 @@ INLINE void row_of(struct twin *w, const struct rules *r, int64_t *row)
     row[10] = (int64_t)(w->packets - w->held); /* all packets up to the marker, less the frame's own */
     if (kind != 0) {
         row[2] = kind == 3 ? w->differs : (int64_t)w->held;
-        if (r->edition == EDITION_2 && (w->buffer == NONE || w->buffer == PASS)) {
+        if (r->judged && r->edition == EDITION_2 && (w->buffer == NONE || w->buffer == PASS)) {
             w->buffer = BROKEN;
             w->buffer_frame = w->closed;
             w->buffer_place = (uint64_t)kind;
@@ -220,13 +228,14 @@ INLINE void row_of(struct twin *w, const struct rules *r, int64_t *row)
     }
     int64_t fpt = (int64_t)w->phase - (int64_t)r->frame;
     int64_t latency = latency_of(w->first, w->stamp);
-    int64_t top = w->least < 1 ? 1 - w->least : 0;
-    int64_t lack = w->most > 0 ? w->most : 0;
     row[3] = fpt;
     row[4] = fpt - latency;
     row[5] = latency;
     row[6] = (int64_t)r->tro - fpt;
     row[7] = (int64_t)(GRAINS * (w->first - w->marked));
+    if (!r->judged) return;
+    int64_t top = w->least < 1 ? 1 - w->least : 0;
+    int64_t lack = w->most > 0 ? w->most : 0;
     row[8] = top;
     row[9] = -lack;
     if (w->buffer != NONE && w->buffer != PASS) return;

@@ -1,10 +1,12 @@
 /* The capture program in C, written for speed and proved by nothing: a capture on standard input, its lines on standard output, one
-   read and one write at a time, called with the ten words of vcapture. It takes sound captures only, of frames that fit in its
+   read and one write at a time, called with the eleven words of vcapture. It takes sound captures only, of frames that fit in its
    window; bench/run times it beside vcapture on the same file and compares what the two print. */
 #include "lines.h"
 #include "walker.h"
 
 #include <stdlib.h>
+
+#define WORDS 11
 
 static uint8_t window[WINDOW];
 
@@ -17,15 +19,15 @@ struct stream {
 /* The words of the call: 0, or why the stream cannot be measured. */
 static uint32_t stream_of(char **words, struct stream *s)
 {
-    uint32_t x[10];
-    for (int k = 0; k < 10; k++) x[k] = (uint32_t)strtoul(words[k], NULL, 10);
-    uint8_t rate = (uint8_t)x[2], schedule = (uint8_t)x[3], class = (uint8_t)x[4];
+    uint32_t x[WORDS];
+    for (int k = 0; k < WORDS; k++) x[k] = (uint32_t)strtoul(words[k], NULL, 10);
+    uint8_t rate = (uint8_t)x[2], schedule = (uint8_t)x[3], class = (uint8_t)x[4], profile = (uint8_t)x[9];
     uint16_t height = (uint16_t)x[5], maxudp = (uint16_t)x[7];
     s->port = (uint16_t)x[0];
     s->offset = x[1];
-    uint32_t refused = set_up_refusal(rate, schedule, class, height, x[6], maxudp, x[8], x[9]);
+    uint32_t refused = set_up_refusal(rate, schedule, class, height, x[6], maxudp, x[8], profile, x[10]);
     if (refused) return refused;
-    s->rules = rules_of(rate, schedule, class, height, x[6], maxudp, x[8], x[9]);
+    s->rules = rules_of(rate, schedule, class, height, x[6], maxudp, x[8], profile, x[10]);
     return s->offset > GREATEST_OFFSET ? 33 : 0;
 }
 
@@ -52,7 +54,7 @@ int main(int argc, char **argv)
     struct twin w = {0};
     uint64_t records = 0;
     size_t held = 0;
-    if (argc != 11 || stream_of(argv + 1, &s)) return 1;
+    if (argc != 1 + WORDS || stream_of(argv + 1, &s)) return 1;
     for (;;) {
         ssize_t got = read(0, window + held, WINDOW - held);
         if (got < 0) return 1;

@@ -33,12 +33,12 @@ static uint32_t scanned(const uint8_t *capture, size_t size, const struct format
 }
 
 uint32_t walker_capture(const uint8_t *restrict capture, size_t size, uint16_t port, uint32_t offset, uint8_t rate, uint8_t schedule,
-                        uint8_t class, uint16_t height, uint32_t n, uint16_t maxudp, uint32_t tro, uint32_t edition,
+                        uint8_t class, uint16_t height, uint32_t n, uint16_t maxudp, uint32_t tro, uint8_t profile, uint32_t edition,
                         uint8_t *restrict out, size_t room)
 {
     struct format format;
     uint64_t records, markers;
-    uint32_t refused = set_up_refusal(rate, schedule, class, height, n, maxudp, tro, edition);
+    uint32_t refused = set_up_refusal(rate, schedule, class, height, n, maxudp, tro, profile, edition);
     if (refused) return refused;
     if (offset > GREATEST_OFFSET) return 33;
     if ((refused = open_capture(capture, size, &format))) return refused;
@@ -46,7 +46,7 @@ uint32_t walker_capture(const uint8_t *restrict capture, size_t size, uint16_t p
     uint64_t closing = markers > 0 ? markers - 1 : 0; /* the first marker ends the lead-in */
     if (room / 8 < CAPTURE_SUMMARY + ROW * closing) return 15;
 
-    const struct rules r = rules_of(rate, schedule, class, height, n, maxudp, tro, edition);
+    const struct rules r = rules_of(rate, schedule, class, height, n, maxudp, tro, profile, edition);
     struct twin w = {0};
     uint32_t captured;
     for (const uint8_t *at = capture + CAPTURE_HEAD, *end = capture + size; at < end; at += RECORD_HEAD + (size_t)captured) {
