@@ -1,7 +1,8 @@
 /* Tries what the package installs, as somebody else's program would use it: prints of each record file that is named what
  * `vtiming` prints of it, and of each capture (NAME.pcap) what `vcapture --port 20000 --rate 50 --packets 8` does, by the C functions and
- * the names of the header alone, all under edition 1; before that, the header's version. tools/package compiles it as C and as C++ and
- * compares what it prints. No file here closes a frame before it is refused, which the program would print and the C call does not tell. */
+ * the names of the header alone, all under edition 1; before that, the header's version. Each is tried under edition 2 and of the other
+ * profile too. tools/package compiles it as C and as C++ and compares what it prints. No file here closes a frame before it is refused,
+ * which the program would print and the C call does not tell. */
 #include <vtiming.h>
 #include <inttypes.h>
 #include <stdio.h>
@@ -12,6 +13,13 @@ enum { LONGEST = 65536 };
 /* What is no edition. */
 static const uint32_t no_editions[] = {0, VTIMING_EDITION_2 + 1, UINT32_MAX};
 enum { NO_EDITIONS = sizeof no_editions / sizeof no_editions[0] };
+
+/* The profiles, and what is none: 2 is the kind of a packet's record. */
+static const uint8_t profiles[] = {VTIMING_PROFILE_VIDEO, VTIMING_PROFILE_COMPRESSED}, no_profiles[] = {0, 2, 4, UINT8_MAX};
+enum { PROFILES = sizeof profiles, NO_PROFILES = sizeof no_profiles };
+
+/* Where in a record file the kind of its parameters stands, which is the profile. */
+enum { KIND_AT = 3 };
 
 #define TRY(what)                                                   \
     do {                                                            \
@@ -109,62 +117,114 @@ static int try_both(const uint8_t *one, const uint8_t *two, size_t numbers)
     return 0;
 }
 
-static int put_file(const uint8_t *file, size_t size)
+/* The answers to the same packets as video and as a compressed stream, under the same edition. They differ in what is told of the buffer
+ * alone: of the compressed one that is none and zeros. */
+static int try_profiles(const uint8_t *video, const uint8_t *compressed, size_t numbers)
 {
-    static uint8_t answer[VTIMING_ENOUGH_BYTES(LONGEST)], second[VTIMING_ENOUGH_BYTES(LONGEST)];
+    size_t all = numbers + VTIMING_ROW_NUMBERS * (size_t)vtiming_number(video, 1);
+    TRY(vtiming_number(compressed, 6) == VTIMING_BUFFER_NONE);
+    for (size_t k = 0; k < all; k++) {
+        size_t of_row = k < numbers ? 0 : (k - numbers) % VTIMING_ROW_NUMBERS;
+        int of_buffer = (k >= 6 && k <= 8) || of_row == 8 || of_row == 9;
+        TRY(vtiming_number(compressed, k) == (of_buffer ? 0 : vtiming_number(video, k)));
+    }
+    return 0;
+}
+
+/* The four answers to the same packets, by profile and edition. */
+static int try_all(const uint8_t *video, const uint8_t *video_2, const uint8_t *compressed, const uint8_t *compressed_2, size_t numbers)
+{
+    if (try_both(video, video_2, numbers)) return 1;
+    return try_profiles(video, compressed, numbers) || try_profiles(video_2, compressed_2, numbers);
+}
+
+/* A file that has parameters, measured of either profile under either edition: all are refused alike, or none is. */
+static int try_kinds(uint8_t *file, size_t size, size_t room)
+{
+    static uint8_t answers[PROFILES][2][VTIMING_ENOUGH_BYTES(LONGEST)];
+    uint8_t kind = file[KIND_AT];
+    uint32_t refused = vtiming_measure(file, size, VTIMING_EDITION_1, answers[0][0], room);
+    uint64_t offset = vtiming_measure_offset(file, size, VTIMING_EDITION_1, room);
+    for (size_t k = 0; k < PROFILES; k++) {
+        file[KIND_AT] = profiles[k];
+        TRY(vtiming_measure_room(file, size) == room);
+        for (uint32_t edition = VTIMING_EDITION_1; edition <= VTIMING_EDITION_2; edition++) {
+            TRY(vtiming_measure(file, size, edition, answers[k][edition - 1], room) == refused);
+            TRY(vtiming_measure_offset(file, size, edition, room) == offset);
+        }
+    }
+    file[KIND_AT] = kind;
+    if (refused != VTIMING_ACCEPTED) return 0;
+    return try_all(answers[0][0], answers[0][1], answers[1][0], answers[1][1], VTIMING_SUMMARY_NUMBERS);
+}
+
+static int put_file(uint8_t *file, size_t size)
+{
+    static uint8_t answer[VTIMING_ENOUGH_BYTES(LONGEST)];
     size_t room = (size_t)vtiming_measure_room(file, size);
     TRY(room <= sizeof answer);
     uint32_t refused = vtiming_measure(file, size, VTIMING_EDITION_1, answer, room);
     TRY((room == 0) == (refused != VTIMING_ACCEPTED));
     if (refused != VTIMING_ACCEPTED) {
         uint64_t offset = vtiming_measure_offset(file, size, VTIMING_EDITION_1, room);
-        TRY(vtiming_measure(file, size, VTIMING_EDITION_2, second, room) == refused);
+        TRY(vtiming_measure(file, size, VTIMING_EDITION_2, answer, room) == refused);
         TRY(vtiming_measure_offset(file, size, VTIMING_EDITION_2, room) == offset);
         printf("refused %s %" PRIu64 "\n", refusal(refused), offset);
-        return 0;
+    } else {
+        put_answer(answer, VTIMING_SUMMARY_NUMBERS);
+        printf("\n");
     }
-    put_answer(answer, VTIMING_SUMMARY_NUMBERS);
-    printf("\n");
-    TRY(vtiming_measure(file, size, VTIMING_EDITION_2, second, room) == VTIMING_ACCEPTED);
-    return try_both(answer, second, VTIMING_SUMMARY_NUMBERS);
+    int has_parameters = size > KIND_AT && (file[KIND_AT] == VTIMING_PROFILE_VIDEO || file[KIND_AT] == VTIMING_PROFILE_COMPRESSED);
+    return has_parameters && try_kinds(file, size, room);
 }
 
 /* The stream of the example captures: 1080p50, gapped, narrow, eight packets a frame, captured by a clock that shows UTC. */
 static int put_capture(const uint8_t *capture, size_t size)
 {
     enum { PORT = 20000, OFFSET = 37, ROOM = VTIMING_CAPTURE_SUMMARY_BYTES + 8 * VTIMING_ROW_BYTES };
-    static uint8_t answer[ROOM], second[ROOM];
-#define CAPTURE(offset, tro, edition, out, room) \
-    vtiming_capture(capture, size, PORT, offset, 6, 0, 1, 1080, 8, 1460, tro, edition, out, room)
-#define PLACE(edition, room) \
-    vtiming_capture_place(capture, size, PORT, OFFSET, 6, 0, 1, 1080, 8, 1460, VTIMING_DEFAULT_TRO, edition, room)
-    uint32_t refused = CAPTURE(OFFSET, VTIMING_DEFAULT_TRO, VTIMING_EDITION_1, answer, ROOM);
-    TRY(CAPTURE(OFFSET, VTIMING_DEFAULT_TRO, VTIMING_EDITION_2, second, ROOM) == refused);
-    TRY(PLACE(VTIMING_EDITION_1, ROOM) == PLACE(VTIMING_EDITION_2, ROOM));
+    static uint8_t answers[PROFILES][2][ROOM], unused[ROOM];
+    const uint8_t *answer = answers[0][0]; /* of the first profile, video, under edition 1 */
+#define CAPTURE(offset, tro, profile, edition, out, room) \
+    vtiming_capture(capture, size, PORT, offset, 6, 0, 1, 1080, 8, 1460, tro, profile, edition, out, room)
+#define PLACE(profile, edition) \
+    vtiming_capture_place(capture, size, PORT, OFFSET, 6, 0, 1, 1080, 8, 1460, VTIMING_DEFAULT_TRO, profile, edition, ROOM)
+    uint32_t refused = CAPTURE(OFFSET, VTIMING_DEFAULT_TRO, VTIMING_PROFILE_VIDEO, VTIMING_EDITION_1, unused, ROOM);
+    uint64_t place = PLACE(VTIMING_PROFILE_VIDEO, VTIMING_EDITION_1);
     size_t room = (size_t)vtiming_capture_room(capture, size, PORT, OFFSET, 6, 0, 1, 1080, 8, 1460, VTIMING_DEFAULT_TRO);
-    /* Of any capture a TRO of a whole frame comes first, then the edition, then an offset above 99, and the room last. */
-    for (size_t k = 0; k < NO_EDITIONS; k++) {
-        TRY(CAPTURE(100, 20000, no_editions[k], second, 0) == VTIMING_REFUSED_TRO);
-        TRY(CAPTURE(100, VTIMING_DEFAULT_TRO, no_editions[k], second, 0) == VTIMING_REFUSED_EDITION);
-        TRY(CAPTURE(OFFSET, VTIMING_DEFAULT_TRO, no_editions[k], second, ROOM) == VTIMING_REFUSED_EDITION);
-        TRY(PLACE(no_editions[k], ROOM) == 0);
+    /* Of any capture the profile comes first, then a TRO of a whole frame, then the edition, then an offset above 99, and the room last. */
+    for (size_t p = 0; p < NO_PROFILES; p++) {
+        TRY(CAPTURE(100, 20000, no_profiles[p], no_editions[0], unused, 0) == VTIMING_REFUSED_KIND);
+        TRY(CAPTURE(OFFSET, VTIMING_DEFAULT_TRO, no_profiles[p], VTIMING_EDITION_1, unused, ROOM) == VTIMING_REFUSED_KIND);
+        TRY(PLACE(no_profiles[p], VTIMING_EDITION_1) == 0);
     }
-    for (uint32_t edition = VTIMING_EDITION_1; edition <= VTIMING_EDITION_2; edition++)
-        TRY(CAPTURE(100, VTIMING_DEFAULT_TRO, edition, second, ROOM) == VTIMING_REFUSED_OFFSET);
+    for (size_t p = 0; p < PROFILES; p++) {
+        for (size_t k = 0; k < NO_EDITIONS; k++) {
+            TRY(CAPTURE(100, 20000, profiles[p], no_editions[k], unused, 0) == VTIMING_REFUSED_TRO);
+            TRY(CAPTURE(100, VTIMING_DEFAULT_TRO, profiles[p], no_editions[k], unused, 0) == VTIMING_REFUSED_EDITION);
+            TRY(CAPTURE(OFFSET, VTIMING_DEFAULT_TRO, profiles[p], no_editions[k], unused, ROOM) == VTIMING_REFUSED_EDITION);
+            TRY(PLACE(profiles[p], no_editions[k]) == 0);
+        }
+        for (uint32_t edition = VTIMING_EDITION_1; edition <= VTIMING_EDITION_2; edition++) {
+            TRY(CAPTURE(100, VTIMING_DEFAULT_TRO, profiles[p], edition, unused, ROOM) == VTIMING_REFUSED_OFFSET);
+            TRY(CAPTURE(OFFSET, VTIMING_DEFAULT_TRO, profiles[p], edition, answers[p][edition - 1], ROOM) == refused);
+            TRY(PLACE(profiles[p], edition) == place);
+        }
+    }
     if (refused != VTIMING_ACCEPTED) {
         TRY(room == 0);
-        printf("refused %s %" PRIu64 "\n", refusal(refused), PLACE(VTIMING_EDITION_1, ROOM));
+        printf("refused %s %" PRIu64 "\n", refusal(refused), place);
         return 0;
     }
     /* One byte less than the answer is too little. */
     TRY(room == VTIMING_CAPTURE_SUMMARY_BYTES + VTIMING_ROW_BYTES * (size_t)vtiming_number(answer, 1));
-    TRY(CAPTURE(OFFSET, VTIMING_DEFAULT_TRO, VTIMING_EDITION_1, answer, room - 1) == VTIMING_REFUSED_ROOM);
+    for (size_t p = 0; p < PROFILES; p++)
+        TRY(CAPTURE(OFFSET, VTIMING_DEFAULT_TRO, profiles[p], VTIMING_EDITION_1, unused, room - 1) == VTIMING_REFUSED_ROOM);
     TRY(vtiming_number(answer, 0) + vtiming_number(answer, 10) == vtiming_number(answer, 9));
     put_answer(answer, VTIMING_CAPTURE_SUMMARY_NUMBERS);
     printf(" records %" PRId64 " skipped %" PRId64 "\n", vtiming_number(answer, 9), vtiming_number(answer, 10));
 #undef CAPTURE
 #undef PLACE
-    return try_both(answer, second, VTIMING_CAPTURE_SUMMARY_NUMBERS);
+    return try_all(answers[0][0], answers[0][1], answers[1][0], answers[1][1], VTIMING_CAPTURE_SUMMARY_NUMBERS);
 }
 
 /* By its name. */
@@ -187,29 +247,39 @@ static int try_decoder(void)
 }
 
 /* A lead-in packet and then one frame of `count` packets, where `n` are wanted: `step` ns apart from `first` on, with another
- * timestamp at place `odd`. Written, and then measured into `answer` under that edition. */
+ * timestamp at place `odd`. Written, and then measured into `answer` under that edition; and the same of a compressed stream, of which the
+ * file differs in the kind of its parameters alone. */
 static int measured(uint32_t edition, uint32_t n, size_t count, uint64_t first, uint64_t step, size_t odd, uint8_t *answer)
 {
     uint64_t arrivals[11] = {19000000};
     uint32_t stamps[11] = {0};
     uint8_t markers[11] = {1};
-    uint8_t file[VTIMING_HEAD_BYTES + 11 * VTIMING_PACKET_BYTES];
+    enum { ROOM = VTIMING_SUMMARY_BYTES + VTIMING_ROW_BYTES };
+    uint8_t file[VTIMING_HEAD_BYTES + 11 * VTIMING_PACKET_BYTES], video[sizeof file], compressed[ROOM];
     size_t packets = count + 1, size = VTIMING_HEAD_BYTES + packets * VTIMING_PACKET_BYTES;
     for (size_t k = 0; k < count; k++) {
         arrivals[k + 1] = first + k * step;
         stamps[k + 1] = k == odd ? 1801 : 1800;
         markers[k + 1] = k + 1 == count;
     }
-    TRY(vtiming_write(VTIMING_RECORD_VERSION, 6, 0, 1, 1080, n, 1460, VTIMING_DEFAULT_TRO, arrivals, packets, stamps, count, markers,
-                      packets, file, size) == VTIMING_REFUSED_LENGTHS);
-    TRY(vtiming_write(VTIMING_RECORD_VERSION, 6, 0, 1, 1080, n, 1460, VTIMING_DEFAULT_TRO, arrivals, packets, stamps, packets, markers,
-                      packets, file, size - 1) == VTIMING_REFUSED_WRITE_ROOM);
-    TRY(vtiming_write(VTIMING_RECORD_VERSION, 6, 0, 1, 1080, n, 1460, VTIMING_DEFAULT_TRO, arrivals, packets, stamps, packets, markers,
-                      packets, file, size) == VTIMING_ACCEPTED);
-    TRY(vtiming_measure_room(file, size) == VTIMING_SUMMARY_BYTES + VTIMING_ROW_BYTES);
-    TRY(vtiming_measure(file, size, edition, answer, VTIMING_SUMMARY_BYTES + VTIMING_ROW_BYTES - 1) == VTIMING_REFUSED_ROOM);
-    TRY(vtiming_measure(file, size, edition, answer, VTIMING_SUMMARY_BYTES + VTIMING_ROW_BYTES) == VTIMING_ACCEPTED);
-    return 0;
+#define WRITE(profile, stamp_count, room)                                                                                              \
+    vtiming_write(VTIMING_RECORD_VERSION, 6, 0, 1, 1080, n, 1460, VTIMING_DEFAULT_TRO, profile, arrivals, packets, stamps, stamp_count, \
+                  markers, packets, file, room)
+    for (size_t k = 0; k < PROFILES; k++) {
+        TRY(WRITE(profiles[k], count, size) == VTIMING_REFUSED_LENGTHS);
+        TRY(WRITE(profiles[k], packets, size - 1) == VTIMING_REFUSED_WRITE_ROOM);
+    }
+    TRY(WRITE(VTIMING_PROFILE_VIDEO, packets, size) == VTIMING_ACCEPTED && file[KIND_AT] == VTIMING_PROFILE_VIDEO);
+    TRY(vtiming_measure_room(file, size) == ROOM);
+    TRY(vtiming_measure(file, size, edition, answer, ROOM - 1) == VTIMING_REFUSED_ROOM);
+    TRY(vtiming_measure(file, size, edition, answer, ROOM) == VTIMING_ACCEPTED);
+    memcpy(video, file, size);
+    TRY(WRITE(VTIMING_PROFILE_COMPRESSED, packets, size) == VTIMING_ACCEPTED && file[KIND_AT] == VTIMING_PROFILE_COMPRESSED);
+    TRY(vtiming_measure(file, size, edition, compressed, ROOM) == VTIMING_ACCEPTED);
+    file[KIND_AT] = VTIMING_PROFILE_VIDEO;
+    TRY(memcmp(file, video, size) == 0);
+#undef WRITE
+    return try_profiles(answer, compressed, VTIMING_SUMMARY_NUMBERS);
 }
 
 /* The one frame of an answer is broken, of that kind: under edition 1 there is no whole frame, and under edition 2 it fails. */
@@ -262,8 +332,8 @@ static int try_room(void)
     uint32_t gigabyte = UINT32_C(1000000000); /* a host may keep a length in fewer bits than the product needs */
     TRY(VTIMING_ENOUGH_BYTES(gigabyte) == UINT64_C(6000000000));
     for (size_t k = 0; k < PACKETS; k++) markers[k] = 1;
-    TRY(vtiming_write(VTIMING_RECORD_VERSION, 6, 0, 1, 1080, 1, 1460, VTIMING_DEFAULT_TRO, arrivals, PACKETS, stamps, PACKETS, markers,
-                      PACKETS, file, SIZE) == VTIMING_ACCEPTED);
+    TRY(vtiming_write(VTIMING_RECORD_VERSION, 6, 0, 1, 1080, 1, 1460, VTIMING_DEFAULT_TRO, VTIMING_PROFILE_VIDEO, arrivals, PACKETS, stamps,
+                      PACKETS, markers, PACKETS, file, SIZE) == VTIMING_ACCEPTED);
     TRY(vtiming_measure_room(file, SIZE) == VTIMING_SUMMARY_BYTES + (PACKETS - 1) * VTIMING_ROW_BYTES);
     TRY(vtiming_measure(file, SIZE, VTIMING_EDITION_1, answer, 5 * SIZE) == VTIMING_REFUSED_ROOM);
     TRY(vtiming_measure(file, SIZE, VTIMING_EDITION_1, answer, VTIMING_ENOUGH_BYTES(SIZE)) == VTIMING_ACCEPTED);
@@ -283,9 +353,9 @@ static int try_editions(void)
     static const uint8_t late_markers[PACKETS] = {1, 1, 0, 1}, broken_markers[PACKETS] = {1, 0, 1, 1};
     static const uint32_t stamps[PACKETS] = {0};
     uint8_t file[SIZE], answer[ROOM], untouched[ROOM];
-#define WRITE(arrivals, markers)                                                                                                    \
-    vtiming_write(VTIMING_RECORD_VERSION, 6, 0, 1, 1080, 1, 1460, VTIMING_DEFAULT_TRO, arrivals, PACKETS, stamps, PACKETS, markers, PACKETS, \
-                  file, SIZE)
+#define WRITE(arrivals, markers)                                                                                                   \
+    vtiming_write(VTIMING_RECORD_VERSION, 6, 0, 1, 1080, 1, 1460, VTIMING_DEFAULT_TRO, VTIMING_PROFILE_VIDEO, arrivals, PACKETS, stamps, \
+                  PACKETS, markers, PACKETS, file, SIZE)
 #define BUFFER(edition, number, frame, detail)                                                                     \
     (vtiming_measure(file, SIZE, edition, answer, ROOM) == VTIMING_ACCEPTED && vtiming_number(answer, 6) == number && \
      vtiming_number(answer, 7) == frame && vtiming_number(answer, 8) == detail)
@@ -322,23 +392,65 @@ static int try_editions(void)
     return 0;
 }
 
-/* Five packets at once with class 0: a burst in version 2, where 0 is narrow and C_MAX 4, and none in version 1, where it is wide. */
+/* Both kinds of parameters, a file that has them twice, and what is no profile: the writer refuses that after the version and before all
+ * else, and as the kind of a record it is refused there. */
+static int try_no_profiles(void)
+{
+    enum { HEAD_RECORD = VTIMING_HEAD_BYTES - 1, SIZE = VTIMING_HEAD_BYTES + VTIMING_PACKET_BYTES,
+           TWICE = VTIMING_HEAD_BYTES + HEAD_RECORD };
+    static const uint64_t arrivals[1] = {0};
+    static const uint32_t stamps[1] = {0};
+    static const uint8_t markers[1] = {1}, wrong_markers[1] = {2};
+    uint8_t file[SIZE], untouched[SIZE], twice[TWICE], answer[VTIMING_SUMMARY_BYTES];
+    memset(file, 0xA5, SIZE);
+    memcpy(untouched, file, SIZE);
+#define OF(version, rate, profile, markers) \
+    version, rate, 0, 1, 1080, 4, 1460, VTIMING_DEFAULT_TRO, profile, arrivals, 1, stamps, 1, markers, 1
+    for (size_t k = 0; k < NO_PROFILES; k++) {
+        uint8_t none = no_profiles[k];
+        TRY(vtiming_write(OF(0, 0, none, wrong_markers), file, 0) == VTIMING_REFUSED_VERSION);
+        TRY(vtiming_write(OF(VTIMING_RECORD_VERSION, 0, none, wrong_markers), file, 0) == VTIMING_REFUSED_KIND);
+        TRY(vtiming_write(OF(VTIMING_RECORD_VERSION, 6, none, markers), file, SIZE) == VTIMING_REFUSED_KIND);
+        TRY(vtiming_write_place(OF(VTIMING_RECORD_VERSION, 6, none, wrong_markers), SIZE) == 0 && memcmp(file, untouched, SIZE) == 0);
+    }
+    TRY(vtiming_write(OF(VTIMING_RECORD_VERSION, 6, VTIMING_PROFILE_COMPRESSED, markers), file, SIZE) == VTIMING_ACCEPTED);
+#undef OF
+    for (size_t k = 0; k < PROFILES * PROFILES; k++) {
+        memcpy(twice, file, VTIMING_HEAD_BYTES);
+        memcpy(twice + VTIMING_HEAD_BYTES, file + 1, HEAD_RECORD);
+        twice[KIND_AT] = profiles[k / PROFILES];
+        twice[HEAD_RECORD + KIND_AT] = profiles[k % PROFILES];
+        TRY(vtiming_measure(twice, TWICE, VTIMING_EDITION_1, answer, sizeof answer) == VTIMING_REFUSED_PARAMETERS);
+        TRY(vtiming_measure_offset(twice, TWICE, VTIMING_EDITION_1, sizeof answer) == VTIMING_HEAD_BYTES);
+    }
+    for (size_t k = 0; k < NO_PROFILES; k++) {
+        file[KIND_AT] = no_profiles[k];
+        TRY(vtiming_measure(file, SIZE, VTIMING_EDITION_1, answer, sizeof answer) == VTIMING_REFUSED_KIND);
+        TRY(vtiming_measure_offset(file, SIZE, VTIMING_EDITION_1, sizeof answer) == 1 && vtiming_measure_room(file, SIZE) == 0);
+    }
+    return 0;
+}
+
+/* Five packets at once with class 0, of either profile: a burst in version 2, where 0 is narrow and C_MAX 4, and none in version 1, where
+ * it is wide. */
 static int try_versions(void)
 {
     enum { PACKETS = 5, SIZE = VTIMING_HEAD_BYTES + PACKETS * VTIMING_PACKET_BYTES };
     uint64_t arrivals[PACKETS] = {0}, limits[4];
     uint32_t stamps[PACKETS] = {0};
     uint8_t markers[PACKETS] = {0}, file[SIZE], answer[VTIMING_SUMMARY_BYTES];
-#define WRITE(version, rate, count)                                                                                                \
-    vtiming_write(version, rate, 0, 0, 1080, 4, 1460, VTIMING_DEFAULT_TRO, arrivals, PACKETS, stamps, PACKETS, markers, count, file, SIZE)
-    for (uint8_t version = 1; version <= VTIMING_RECORD_VERSION; version++) {
-        TRY(WRITE(version, 6, PACKETS) == VTIMING_ACCEPTED && file[0] == version && file[6] == 0);
-        TRY(vtiming_measure(file, SIZE, VTIMING_EDITION_1, answer, sizeof answer) == VTIMING_ACCEPTED);
-        TRY(vtiming_number(answer, 3) == (version == 1 ? VTIMING_NETWORK_PASS : VTIMING_NETWORK_BURST));
-    }
+#define WRITE(version, rate, profile, count)                                                                                       \
+    vtiming_write(version, rate, 0, 0, 1080, 4, 1460, VTIMING_DEFAULT_TRO, profile, arrivals, PACKETS, stamps, PACKETS, markers, count, \
+                  file, SIZE)
+    for (size_t k = 0; k < PROFILES; k++)
+        for (uint8_t version = 1; version <= VTIMING_RECORD_VERSION; version++) {
+            TRY(WRITE(version, 6, profiles[k], PACKETS) == VTIMING_ACCEPTED && file[0] == version && file[6] == 0);
+            TRY(vtiming_measure(file, SIZE, VTIMING_EDITION_1, answer, sizeof answer) == VTIMING_ACCEPTED);
+            TRY(vtiming_number(answer, 3) == (version == 1 ? VTIMING_NETWORK_PASS : VTIMING_NETWORK_BURST));
+        }
     /* The version is asked first: the rate is wrong too, and a marker is missing. */
-    TRY(WRITE(VTIMING_RECORD_VERSION + 1, 0, PACKETS - 1) == VTIMING_REFUSED_VERSION);
-    TRY(WRITE(0, 6, PACKETS) == VTIMING_REFUSED_VERSION && file[0] == VTIMING_RECORD_VERSION);
+    TRY(WRITE(VTIMING_RECORD_VERSION + 1, 0, VTIMING_PROFILE_VIDEO, PACKETS - 1) == VTIMING_REFUSED_VERSION);
+    TRY(WRITE(0, 6, VTIMING_PROFILE_VIDEO, PACKETS) == VTIMING_REFUSED_VERSION && file[0] == VTIMING_RECORD_VERSION);
 #undef WRITE
     file[0] = VTIMING_RECORD_VERSION + 1;
     TRY(vtiming_measure(file, SIZE, VTIMING_EDITION_1, answer, sizeof answer) == VTIMING_REFUSED_VERSION);
@@ -382,7 +494,7 @@ int main(int count, char **names)
 {
     static uint8_t file[LONGEST];
     if (try_decoder() || try_answers(VTIMING_EDITION_1) || try_answers(VTIMING_EDITION_2) || try_editions()) return 1;
-    if (try_room() || try_versions() || try_next_read() || try_limits_and_graph()) return 1;
+    if (try_no_profiles() || try_room() || try_versions() || try_next_read() || try_limits_and_graph()) return 1;
     printf("%s %d.%d.%d\n", VTIMING_VERSION, VTIMING_VERSION_MAJOR, VTIMING_VERSION_MINOR, VTIMING_VERSION_PATCH);
     for (int k = 1; k < count; k++) {
         FILE *from = fopen(names[k], "rb");
