@@ -80,10 +80,10 @@
  * vtiming_capture_place have the profile as an argument, right behind tro. Give VTIMING_PROFILE_VIDEO for the answers of before.
  * vtiming_measure and its twins are called as before, but know record files of kind 3, which they refused by 22: a program that
  * measures such a file must not take VTIMING_BUFFER_NONE for a pass. Then compile it again: the compiler names each call that lacks
- * the argument. An object that is only linked again is refused in practice, and nothing is written; nothing is promised of it. Its
- * vtiming_write hands over the address of the arrivals as the profile. They are aligned to 8, so the low byte of it is neither 1 nor
- * 3: 22. Its vtiming_capture hands over the edition as the profile, and the address of the room as the edition. Edition 2 is no
- * profile: 22. Edition 1 is one, but the low 32 bits of an address are neither 1 nor 2 in practice: 8.
+ * the argument. In an object that is only linked again these calls are refused in practice, and nothing is written; nothing is
+ * promised of them. Its vtiming_write hands over the address of the arrivals as the profile. They are aligned to 8, so the low byte of
+ * it is neither 1 nor 3: 22. Its vtiming_capture hands over the edition as the profile, and the address of the room as the edition.
+ * Edition 2 is no profile: 22. Edition 1 is one, but the low 32 bits of an address are neither 1 nor 2 in practice: 8.
  *
  * Made for 3.0.0 or older, it must change this too: vtiming_measure, vtiming_measure_offset, vtiming_capture and
  * vtiming_capture_place have the edition as an argument, in front of the room. Give VTIMING_EDITION_1 for the answers of before; a
