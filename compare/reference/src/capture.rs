@@ -29,7 +29,8 @@ const SECOND: u64 = 1_000_000_000;
 
 /// All that a caller gives beside the capture's bytes: "UDP to a given port",
 /// "the offset from the capture clock to the SMPTE epoch" in whole seconds, the
-/// seven stream numbers, and by request (vi) the test plan's edition.
+/// seven stream numbers with the profile of request (vii), and by request (vi) the
+/// test plan's edition.
 #[derive(Clone, Copy, Debug, PartialEq, Eq)]
 pub struct Asked {
     pub port: u16,
@@ -44,7 +45,13 @@ impl Asked {
         Asked { edition, ..*self }
     }
 
-    /// The ten words that the program is called with.
+    /// The same as another profile.
+    pub fn of(&self, profile: u64) -> Asked {
+        let numbers = self.numbers.of(profile);
+        Asked { numbers, ..*self }
+    }
+
+    /// The eleven words that the program is called with.
     pub fn words(&self) -> Vec<String> {
         let numbers = &self.numbers;
         [
@@ -57,6 +64,7 @@ impl Asked {
             numbers.packets_per_frame,
             numbers.maxudp,
             tro_field(numbers.tro),
+            numbers.profile,
             u64::from(self.edition),
         ]
         .map(|number| number.to_string())
@@ -363,9 +371,10 @@ impl Reading {
     }
 }
 
-/// Set-up and a whole capture: 1 to 7, 8, then 33, 30, then record by record 31,
-/// 32 and 12 to 14 of the packet handed on. A packet is refused at its own
-/// record, so before any record that comes later in the file.
+/// Set-up and a whole capture: 22 of a profile that there is not, 1 to 7, 8, then
+/// 33, 30, then record by record 31, 32 and 12 to 14 of the packet handed on. A
+/// packet is refused at its own record, so before any record that comes later in
+/// the file.
 pub fn read(asked: &Asked, bytes: &[u8]) -> Reading {
     let limits = match set_up(asked.edition, &asked.numbers) {
         Ok(limits) => limits,

@@ -2,27 +2,31 @@
 //!
 //! First those of the fixed inputs, which are document 01's own and reach every
 //! outcome; then those of as many generated inputs as are asked for. An input is
-//! one case, or several. A file is measured in version 1 and in version 2, in each
-//! by edition 1 and by edition 2; then in other versions and by other editions,
-//! which are refused. A file that is of no version stays as it is. Lists are
-//! written in version 1, in 2 and in others. Captures are measured, and stream
-//! numbers set up, by edition 1, by 2 and by others; lists are fed by edition 1 and
-//! by 2, and set-up refuses their numbers by others. A case is handed over as
-//! bytes, big-endian throughout:
+//! one case, or several. A file is measured as video in version 1 and in version 2,
+//! in each by edition 1 and by edition 2, and as compressed in each version; then in
+//! other versions and by other editions, which are refused. A file that is of no
+//! version stays as it is, and so does the first record of one that is no
+//! parameters. Lists are written as video in version 1 and in 2, and as compressed;
+//! then in other versions and as other profiles. Captures are measured, and stream
+//! numbers set up, as video by edition 1 and by 2, and as compressed; then by other
+//! editions and as other profiles. Lists are fed likewise, and set-up refuses their
+//! numbers by others. As compressed a fixed input comes in each version and by each
+//! edition, a generated one in each version of a file by one edition, and else once:
+//! which it is takes turns. A case is handed over as bytes, big-endian throughout:
 //!
 //!   size of what follows (4), index (8), call (1), the call's input, rooms
 //!
 //! with the index of its input, and the input by call
 //!
 //!   1 measure: edition (4), length (4), file
-//!   2 write:   version (1), seven numbers (15), three counts (4 each), arrivals
-//!              (8 each), timestamps (4 each), markers (1 each)
+//!   2 write:   version (1), seven numbers (15), profile (1), three counts (4
+//!              each), arrivals (8 each), timestamps (4 each), markers (1 each)
 //!   3 limits:  seven numbers (15)
 //!   4 graph:   three figures (8 each)
-//!   5 set-up:  seven numbers (15), edition (4)
-//!   7 capture: seven numbers (15), edition (4), port (2), offset (4), length
-//!              (4), capture, and which parts the frames have that it hands on (1): 1 a tag,
-//!              2 options, 4 contributors, 8 an extension
+//!   5 set-up:  seven numbers (15), profile (1), edition (4)
+//!   7 capture: seven numbers (15), profile (1), edition (4), port (2), offset (4),
+//!              length (4), capture, and which parts the frames have that it hands on (1):
+//!              1 a tag, 2 options, 4 contributors, 8 an extension
 //!   8 next read: seven numbers (15), arrival of the frame's first packet (8),
 //!              arrival of the packet that waits (8)
 //!
@@ -33,8 +37,8 @@
 //!
 //! A case of `feed` is a row of calls and has no rooms:
 //!
-//!   6 feed:    seven numbers (15), edition (4), count (4), and for each call
-//!              whether the stream is set up before it (1), words lent (1),
+//!   6 feed:    seven numbers (15), profile (1), edition (4), count (4), and for each
+//!              call whether the stream is set up before it (1), words lent (1),
 //!              words changed (1) with place (1) and value (8) of each, three
 //!              counts (4 each), arrivals, timestamps and markers, row numbers
 //!              lent (4), summary numbers lent (1), number (1), place (8); and
@@ -44,11 +48,14 @@
 use crate::capture::{expected_capture_call, parts_seen, Asked};
 use crate::feed::{cut_everywhere, dealt, ranges_after, Feed, Lists};
 use crate::fixed_captures::fixed_captures;
-use crate::generate::{damaged, file, front, other_edition, other_version, random_bytes, under};
-use crate::generate::{LOOKALIKES, OTHER_EDITIONS, OTHER_VERSIONS};
+use crate::generate::{as_profiles, damaged, file, front, random_bytes, under};
+use crate::generate::{other_edition, other_profile, other_version};
+use crate::generate::{
+    LOOKALIKES, OTHER_EDITIONS, OTHER_PROFILES, OTHER_VERSIONS, PROFILE_LOOKALIKES,
+};
 use crate::graph::graph;
 use crate::next_read::{next_read, three_numbers, Wait};
-use crate::numbers::{set_up, Numbers, EDITIONS, EDITION_1};
+use crate::numbers::{set_up, Numbers, COMPRESSED, EDITIONS, EDITION_1, PROFILES, VIDEO};
 use crate::output::expected_c_call;
 use crate::packet::{Packet, LONGEST_HISTORY};
 use crate::random::Random;
@@ -116,23 +123,32 @@ pub struct Case {
 /// In so many inputs in a row each kind of call has its share.
 pub const ROUND: u64 = 31;
 
-/// What an input is tried with beside versions 1 and 2 and editions 1 and 2:
-/// those that there are not. Which version goes with which edition takes turns.
+/// What an input is tried with beside versions 1 and 2, editions 1 and 2 and the two
+/// profiles: those that there are not. Which goes with which takes turns.
 struct Others {
     versions: Vec<u8>,
     editions: Vec<u32>,
+    profiles: Vec<u64>,
     turn: usize,
+    /// Whether what is compressed comes with all that there is, or with one by turns.
+    with_all: bool,
 }
 
+/// An edition and a profile.
+type By = (u32, u64);
+
 impl Others {
-    /// All that are worth a look, for a fixed input; of the editions that look like
-    /// 1 or 2 one, by turns.
+    /// All that are worth a look, for a fixed input; of the editions and profiles that
+    /// look like good ones one each, by turns.
     fn fixed(turn: usize) -> Others {
         let lookalike = LOOKALIKES[turn % LOOKALIKES.len()];
+        let profile = PROFILE_LOOKALIKES[turn % PROFILE_LOOKALIKES.len()];
         Others {
             versions: OTHER_VERSIONS.to_vec(),
             editions: [&OTHER_EDITIONS[..], &[lookalike]].concat(),
+            profiles: [&OTHER_PROFILES[..], &[profile]].concat(),
             turn,
+            with_all: true,
         }
     }
 
@@ -141,13 +157,51 @@ impl Others {
         Others {
             versions: vec![other_version(random)],
             editions: vec![other_edition(random)],
+            profiles: vec![other_profile(random)],
             turn,
+            with_all: false,
         }
     }
 
     /// Each edition that there is, and each of the others.
     fn all_editions(&self) -> Vec<u32> {
         [&EDITIONS[..], &self.editions].concat()
+    }
+
+    fn all_profiles(&self) -> Vec<u64> {
+        [&PROFILES[..], &self.profiles].concat()
+    }
+
+    /// These again and again, beginning with one or another.
+    fn by_turns<'a, T>(&self, all: &'a [T]) -> impl Iterator<Item = &'a T> {
+        all.iter().cycle().skip(self.turn % all.len())
+    }
+
+    /// What a compressed input comes with: all of it, or one of it for each place that
+    /// there is.
+    fn with_compressed<'a, T>(&self, place: usize, all: &'a [T]) -> impl Iterator<Item = &'a T> {
+        let count = if self.with_all { all.len() } else { 1 };
+        self.by_turns(all).skip(place).take(count)
+    }
+
+    /// By which edition and as which profile that there are an input is tried.
+    fn accepted(&self) -> Vec<By> {
+        let mut all: Vec<By> = EDITIONS.map(|edition| (edition, VIDEO)).to_vec();
+        let compressed = self.with_compressed(0, &EDITIONS);
+        all.extend(compressed.map(|edition| (*edition, COMPRESSED)));
+        all
+    }
+
+    /// And by which that there are not: editions as either profile, which are refused
+    /// by 8, and profiles by any edition, since 22 comes before 8.
+    fn refused(&self) -> Vec<By> {
+        let (editions, profiles) = (self.editions.iter(), self.profiles.iter());
+        let all_editions = self.all_editions();
+        let by_8 = editions.zip(self.by_turns(&PROFILES));
+        let by_22 = self.by_turns(&all_editions).zip(profiles);
+        by_8.chain(by_22)
+            .map(|(edition, profile)| (*edition, *profile))
+            .collect()
     }
 }
 
@@ -176,84 +230,113 @@ fn answered_all(random: &mut Random, calls: Vec<Call>) -> Vec<Case> {
     calls.map(|call| answered(random, call)).collect()
 }
 
-/// The same file in each version by each edition. Then in versions that there are
-/// not, by any edition, and by editions that there are not, in any version.
-fn measured(others: &Others, file: &[u8]) -> Vec<Call> {
-    let call = |file: &[u8], edition: u32| Call::Measure {
+fn measure_call(file: &[u8], edition: u32) -> Call {
+    Call::Measure {
         file: file.to_vec(),
         edition,
+    }
+}
+
+/// The same file as video in each version by each edition, and as compressed. Then in
+/// versions that there are not, by any edition and as either profile, and by editions
+/// that there are not, in either version and as either profile.
+fn measured(others: &Others, file: &[u8]) -> Vec<Call> {
+    // One that is of no version has none to change, and is not looked at further.
+    let known = under(&VERSIONS, file).len() > 1;
+    let twins = if known {
+        as_profiles(&PROFILES, file)
+    } else {
+        vec![file.to_vec()]
     };
+    let in_versions: Vec<Vec<Vec<u8>>> = twins.iter().map(|twin| under(&VERSIONS, twin)).collect();
     let mut calls = vec![];
-    let good = under(&VERSIONS, file);
-    for file in &good {
-        calls.extend(EDITIONS.map(|edition| call(file, edition)));
+    for file in &in_versions[0] {
+        calls.extend(EDITIONS.map(|edition| measure_call(file, edition)));
     }
-    // One that is of no version has none to change.
-    if good.len() > 1 {
+    for (place, file) in in_versions[1..].iter().flatten().enumerate() {
+        let editions = others.with_compressed(place, &EDITIONS);
+        calls.extend(editions.map(|edition| measure_call(file, *edition)));
+    }
+    if known {
         let editions = others.all_editions();
-        let turns = editions.iter().cycle().skip(others.turn);
-        let files = under(&others.versions, file);
-        calls.extend(
-            files
-                .iter()
-                .zip(turns)
-                .map(|(file, edition)| call(file, *edition)),
-        );
+        let turns = others.by_turns(&editions).zip(others.by_turns(&twins));
+        for (version, (edition, twin)) in others.versions.iter().zip(turns) {
+            let file = [&[*version], &twin[1..]].concat();
+            calls.push(measure_call(&file, *edition));
+        }
     }
-    let turns = good.iter().cycle().skip(others.turn);
-    let editions = others.editions.iter();
-    calls.extend(
-        editions
-            .zip(turns)
-            .map(|(edition, file)| call(file, *edition)),
-    );
+    let good = in_versions.concat();
+    let turns = others.editions.iter().zip(others.by_turns(&good));
+    calls.extend(turns.map(|(edition, file)| measure_call(file, *edition)));
     calls
 }
 
-/// The same lists, to be written in each version and in others.
+/// The same lists, to be written as video in each version and as compressed. Then in
+/// versions that there are not as any profile, since 20 comes before 22, and as
+/// profiles that there are not.
 fn written(others: &Others, (numbers, lists): (Numbers, Lists)) -> Vec<Call> {
-    let versions = [&VERSIONS[..], &others.versions].concat();
-    let call = |version: u8| Call::Write {
+    let mut asked: Vec<(u8, u64)> = VERSIONS.map(|version| (version, VIDEO)).to_vec();
+    let compressed = others.with_compressed(0, &VERSIONS);
+    asked.extend(compressed.map(|version| (*version, COMPRESSED)));
+    let profiles = others.all_profiles();
+    let by_20 = others.versions.iter().zip(others.by_turns(&profiles));
+    let by_22 = others.by_turns(&VERSIONS).zip(&others.profiles);
+    asked.extend(
+        by_20
+            .chain(by_22)
+            .map(|(version, profile)| (*version, *profile)),
+    );
+    let call = |(version, profile): (u8, u64)| Call::Write {
         version,
-        numbers,
+        numbers: numbers.of(profile),
         lists: lists.clone(),
     };
-    versions.into_iter().map(call).collect()
+    asked.into_iter().map(call).collect()
 }
 
-/// The same capture by each edition and by others.
+/// The same capture by each edition as each profile, and by others.
 fn captured(others: &Others, (asked, bytes): (Asked, Vec<u8>)) -> Vec<Call> {
-    let call = |edition: u32| Call::Capture {
-        asked: asked.by(edition),
+    let call = |(edition, profile): By| Call::Capture {
+        asked: asked.by(edition).of(profile),
         bytes: bytes.clone(),
     };
-    others.all_editions().into_iter().map(call).collect()
+    let all = [others.accepted(), others.refused()].concat();
+    all.into_iter().map(call).collect()
 }
 
-/// The same numbers by each edition and by others.
+fn set_up_call(numbers: &Numbers, (edition, profile): By) -> Call {
+    Call::SetUp {
+        numbers: numbers.of(profile),
+        edition,
+    }
+}
+
+/// The same numbers by each edition as each profile, and by others.
 fn set_ups(others: &Others, numbers: Numbers) -> Vec<Call> {
-    let editions = others.all_editions().into_iter();
-    let call = |edition: u32| Call::SetUp { numbers, edition };
-    editions.map(call).collect()
+    let all = [others.accepted(), others.refused()].concat();
+    all.into_iter()
+        .map(|by| set_up_call(&numbers, by))
+        .collect()
 }
 
-/// A list fed by each edition; and as no stream is set up by any other, its
-/// numbers are set up by those alone.
+/// A list fed by each edition as each profile; and as no stream is set up by any
+/// other, its numbers are set up by those alone.
 fn fed_by_each(
     others: &Others,
     numbers: Numbers,
-    mut calls: impl FnMut(u32) -> Vec<Feed>,
+    mut calls: impl FnMut(u32, &Numbers) -> Vec<Feed>,
 ) -> Vec<Call> {
     let mut all = vec![];
-    for edition in EDITIONS {
+    for (edition, profile) in others.accepted() {
+        let numbers = numbers.of(profile);
         all.push(Call::Feed {
             numbers,
             edition,
-            calls: calls(edition),
+            calls: calls(edition, &numbers),
         });
     }
-    let editions = others.editions.iter();
-    all.extend(editions.map(|&edition| Call::SetUp { numbers, edition }));
+    let refused = others.refused().into_iter();
+    all.extend(refused.map(|by| set_up_call(&numbers, by)));
     all
 }
 
@@ -420,8 +503,8 @@ fn lists(random: &mut Random) -> (Numbers, Lists) {
 }
 
 /// A stream dealt out over calls; a short one cut everywhere, now and then. By
-/// each edition it is dealt out anew, and a quarter are such as the editions often
-/// answer differently.
+/// each edition and as each profile it is dealt out anew, and a quarter are such as
+/// the editions often answer differently.
 fn fed(random: &mut Random, others: &Others) -> Vec<Call> {
     let (numbers, mut packets) = if random.chance(25) {
         any_sent(random)
@@ -430,11 +513,11 @@ fn fed(random: &mut Random, others: &Others) -> Vec<Call> {
     };
     packets.truncate(random.pick(&[2, 12, 12, 60, 60, 200, 200, 400, 2000]));
     let everywhere = packets.len() <= 12 && random.chance(30);
-    fed_by_each(others, numbers, |edition| {
+    fed_by_each(others, numbers, |edition, numbers| {
         if everywhere {
-            cut_everywhere(edition, &numbers, &packets, 4)
+            cut_everywhere(edition, numbers, &packets, 4)
         } else {
-            dealt(random, edition, &numbers, &packets)
+            dealt(random, edition, numbers, &packets)
         }
     })
 }
@@ -462,6 +545,7 @@ fn random_numbers(random: &mut Random) -> Numbers {
         packets_per_frame: random.pick(&[within, wide]),
         maxudp: random.pick(&[1460, 8960, any >> 48]),
         tro: if tro == 0xffff_ffff { None } else { Some(tro) },
+        profile: VIDEO,
     }
 }
 
@@ -892,17 +976,28 @@ fn fixed_files(random: &mut Random) -> Vec<Vec<u8>> {
 }
 
 /// Records that are cut, of an unknown kind, of a wrong length, out of their
-/// order or refused: first of all, after parameters, and after a packet too.
+/// order or refused: first of all, after parameters, and after a packet too. The
+/// first record of each file is tried as either kind of parameters, and so are those
+/// that come again.
 fn wrong_records(version: u8) -> Vec<Vec<u8>> {
     let parameters = record(&parameters_body(&NARROW));
     let packet = record(&packet_body(&Packet::new(5, 0, 1)));
     let mut records = vec![vec![0], vec![0, 0], vec![0, 2, 1]];
-    for (kind, length) in [(0, 1), (1, 1), (2, 1), (3, 16), (255, 14), (1, 15), (2, 15)] {
+    for (kind, length) in [(0, 1), (2, 1), (4, 1), (255, 14), (4, 14), (2, 15)] {
         records.push(record(&vec![kind; length]));
     }
     let refused = Numbers { rate: 0, ..NARROW };
-    records.push(record(&parameters_body(&refused)));
-    records.push(parameters.clone());
+    for kind in PROFILES {
+        for length in [1, 14, 15, 17] {
+            records.push(record(&vec![kind as u8; length]));
+        }
+        records.push(record(&parameters_body(&refused.of(kind))));
+        records.push(record(&parameters_body(&NARROW.of(kind))));
+    }
+    // Good but for their kind, which is no parameters'.
+    for kind in OTHER_PROFILES {
+        records.push(record(&parameters_body(&NARROW.of(kind))));
+    }
     for (arrival, marker) in [(5, 1), (4, 1), (5, 2)] {
         let packet = Packet::new(arrival, 0, marker);
         records.push(record(&packet_body(&packet)));
@@ -948,7 +1043,7 @@ fn fixed_figures() -> Vec<Call> {
 
 /// Every list of document 01 cut everywhere, those of request (vi) in two, and both
 /// sides of every range of a state, in the lead-in, at a frame's end and within a
-/// frame; all by each edition.
+/// frame; all by each edition and as each profile.
 fn fixed_feeds() -> Vec<Vec<Call>> {
     let numbers = [fixed_numbers(), mended_numbers()].concat();
     let set_up = |(turn, numbers)| set_ups(&Others::fixed(turn), numbers);
@@ -956,9 +1051,11 @@ fn fixed_feeds() -> Vec<Vec<Call>> {
     let everywhere = streams().into_iter().map(|stream| (stream, usize::MAX));
     let in_two = edition_streams().into_iter().map(|stream| (stream, 0));
     for ((numbers, packets), in_three) in everywhere.chain(in_two) {
-        inputs.push(fed_by_each(&Others::fixed(0), numbers, |edition| {
-            cut_everywhere(edition, &numbers, &packets, in_three)
-        }));
+        inputs.push(fed_by_each(
+            &Others::fixed(0),
+            numbers,
+            |edition, numbers| cut_everywhere(edition, numbers, &packets, in_three),
+        ));
     }
     let late = packets(&[
         (700_000_000_000, 0, 0),
@@ -978,9 +1075,11 @@ fn fixed_feeds() -> Vec<Vec<Call>> {
         (NARROW, late, vec![0, 1, 3, 5, 7, 8]),
         (numbers, broken, vec![5, 7, 9]),
     ] {
-        inputs.push(fed_by_each(&Others::fixed(0), numbers, |edition| {
-            ranges_after(edition, &numbers, &packets, &ends)
-        }));
+        inputs.push(fed_by_each(
+            &Others::fixed(0),
+            numbers,
+            |edition, numbers| ranges_after(edition, numbers, &packets, &ends),
+        ));
     }
     inputs
 }
@@ -990,7 +1089,7 @@ pub fn waits() -> Vec<Wait> {
     fixed_waits(&fixed_numbers())
 }
 
-/// The fixed captures, with what is asked of each, by edition 1.
+/// The fixed captures, with what is asked of each, as video by edition 1.
 pub fn captures() -> Vec<(Asked, Vec<u8>)> {
     let streams = [streams(), edition_streams()].concat();
     fixed_captures(&streams, &fixed_numbers())
@@ -1034,6 +1133,7 @@ fn push_call(body: &mut Vec<u8>, call: &Call) {
         } => {
             body.extend([2, *version]);
             body.extend(seven(numbers));
+            body.push(numbers.profile as u8);
             push_lists(body, lists.lent());
         }
         Call::Limits(numbers) => push_seven(body, 3, numbers),
@@ -1048,7 +1148,7 @@ fn push_call(body: &mut Vec<u8>, call: &Call) {
         }
         Call::SetUp { numbers, edition } => {
             push_seven(body, 5, numbers);
-            body.extend(edition.to_be_bytes());
+            push_by(body, numbers, *edition);
         }
         Call::Feed {
             numbers,
@@ -1056,7 +1156,7 @@ fn push_call(body: &mut Vec<u8>, call: &Call) {
             calls,
         } => {
             push_seven(body, 6, numbers);
-            body.extend(edition.to_be_bytes());
+            push_by(body, numbers, *edition);
             body.extend((calls.len() as u32).to_be_bytes());
             calls.iter().for_each(|feed| push_feed(body, feed));
         }
@@ -1074,9 +1174,14 @@ fn push_seven(body: &mut Vec<u8>, call: u8, numbers: &Numbers) {
     body.extend(seven(numbers));
 }
 
+fn push_by(body: &mut Vec<u8>, numbers: &Numbers, edition: u32) {
+    body.push(numbers.profile as u8);
+    body.extend(edition.to_be_bytes());
+}
+
 fn push_capture(body: &mut Vec<u8>, asked: &Asked, bytes: &[u8]) {
     push_seven(body, 7, &asked.numbers);
-    body.extend(asked.edition.to_be_bytes());
+    push_by(body, &asked.numbers, asked.edition);
     body.extend(asked.port.to_be_bytes());
     body.extend(asked.offset.to_be_bytes());
     push_counted(body, bytes);
@@ -1124,7 +1229,7 @@ fn push_counted(body: &mut Vec<u8>, bytes: &[u8]) {
 }
 
 /// The seven numbers as in a parameter record, where they have the widths that
-/// they have at the border; its kind is left out.
+/// they have at the border; its kind, which is the profile, is left out.
 fn seven(numbers: &Numbers) -> Vec<u8> {
     parameters_body(numbers)[1..].to_vec()
 }

@@ -1,9 +1,10 @@
-//! Test files: record files of streams, whole and damaged, of both versions.
+//! Test files: record files of streams, whole and damaged, of both versions and
+//! of both kinds of parameters.
 
 use std::io;
 use std::path::Path;
 
-use crate::numbers::Numbers;
+use crate::numbers::{Numbers, PROFILES};
 use crate::packet::Packet;
 use crate::random::Random;
 use crate::record::{packet_body, parameters_body, record, write, VERSIONS};
@@ -34,19 +35,54 @@ pub(crate) fn other_edition(random: &mut Random) -> u32 {
     random.pick(&[zero, three, byte, last, any, lookalike])
 }
 
+/// Profiles that are refused by 22: those beside 1 and 3, of which 2 is the kind of
+/// a packet's record and 4 may become a profile, and the last of a byte.
+pub const OTHER_PROFILES: [u64; 4] = [0, 2, 4, 255];
+
+/// Others that are 1 or 3 in fewer bits than a byte has.
+pub const PROFILE_LOOKALIKES: [u64; 4] = [129, 131, 17, 7];
+
+/// Others that have no room in a byte, and are 1 or 3 in the byte that is left of
+/// them: no C call takes one, and a program may be given one.
+pub const WIDE_PROFILES: [u64; 4] = [257, 259, 65_537, (1 << 32) + 3];
+
+/// One of those that have room in a byte, or any that is neither 1 nor 3.
+pub(crate) fn other_profile(random: &mut Random) -> u64 {
+    let any = random.between(4, 255) as u64;
+    let lookalike = random.pick(&PROFILE_LOOKALIKES);
+    let [zero, packets, next, last] = OTHER_PROFILES;
+    random.pick(&[zero, packets, next, last, any, lookalike])
+}
+
 /// The file with each of these version bytes, everything else the same, if it is
 /// of version 1 or 2. Any other is refused by 20 as it is, and stays alone.
 pub fn under(versions: &[u8], file: &[u8]) -> Vec<Vec<u8>> {
-    match file.split_first() {
-        Some((own, rest)) if VERSIONS.contains(own) => versions
-            .iter()
-            .map(|version| [&[*version], rest].concat())
-            .collect(),
+    with_each(0, &VERSIONS, versions, file)
+}
+
+/// Where the kind of a file's first record stands: after the version and two bytes
+/// of length.
+pub const FIRST_KIND: usize = 3;
+
+/// The file with its first record as each of these kinds of parameters, everything
+/// else the same, if its kind is one of them, whatever its length. Any other stays
+/// alone.
+pub fn as_profiles(profiles: &[u64], file: &[u8]) -> Vec<Vec<u8>> {
+    let kinds: Vec<u8> = profiles.iter().map(|profile| *profile as u8).collect();
+    with_each(FIRST_KIND, &PROFILES.map(|kind| kind as u8), &kinds, file)
+}
+
+/// The file with each of these bytes at a place, if one of the known ones is there.
+fn with_each(place: usize, known: &[u8], bytes: &[u8], file: &[u8]) -> Vec<Vec<u8>> {
+    let with = |byte: &u8| [&file[..place], &[*byte], &file[place + 1..]].concat();
+    match file.get(place) {
+        Some(own) if known.contains(own) => bytes.iter().map(with).collect(),
         _ => vec![file.to_vec()],
     }
 }
 
-/// File `index` of a seed, of one version or the other.
+/// File `index` of a seed, of one version or the other and of one profile or the
+/// other.
 pub fn file(seed: u64, index: u64) -> Vec<u8> {
     let mut random = Random::new(seed, index);
     match random.below(100) {
@@ -57,13 +93,23 @@ pub fn file(seed: u64, index: u64) -> Vec<u8> {
         13..=38 => damaged(&mut random),
         _ => {
             let (numbers, packets) = stream(&mut random);
-            write(version(&mut random), &numbers, &packets)
+            written(&mut random, &numbers, &packets)
         }
     }
 }
 
 fn version(random: &mut Random) -> u8 {
     random.pick(&VERSIONS)
+}
+
+/// The same stream as either profile.
+fn either(random: &mut Random, numbers: &Numbers) -> Numbers {
+    numbers.of(random.pick(&PROFILES))
+}
+
+fn written(random: &mut Random, numbers: &Numbers, packets: &[Packet]) -> Vec<u8> {
+    let numbers = either(random, numbers);
+    write(version(random), &numbers, packets)
 }
 
 /// Writes `count` files `NNNNNN.rec`.
@@ -79,7 +125,7 @@ pub fn generate(seed: u64, count: u64, directory: &Path) -> io::Result<()> {
 /// A file cut off within its first bytes; the version byte alone is one.
 pub(crate) fn front(random: &mut Random) -> Vec<u8> {
     let (numbers, packets) = stream(random);
-    let mut bytes = write(version(random), &numbers, &packets);
+    let mut bytes = written(random, &numbers, &packets);
     bytes.truncate(random.pick(&[1, 1, 2, 3, 4, 18, 19]));
     bytes
 }
@@ -101,7 +147,7 @@ fn refused_set_up(random: &mut Random) -> Vec<u8> {
     } else {
         vec![]
     };
-    write(version(random), &numbers, &packets)
+    written(random, &numbers, &packets)
 }
 
 /// A file as its records, so that damage can be aimed at one of them.
@@ -137,6 +183,7 @@ impl Pieces {
 pub(crate) fn damaged(random: &mut Random) -> Vec<u8> {
     let (numbers, mut packets) = stream(random);
     packets.truncate(600);
+    let numbers = either(random, &numbers);
     let mut pieces = Pieces::of(version(random), &numbers, &packets);
     match random.below(14) {
         0 => zero_length(random, &mut pieces),
@@ -186,23 +233,30 @@ fn resized_body(random: &mut Random, pieces: &mut Pieces) {
 
 fn other_kind(random: &mut Random, pieces: &mut Pieces) {
     let place = pieces.any(random);
-    pieces.records[place][2] = random.pick(&[0, 3, 4, 5, 255]);
+    pieces.records[place][2] = random.pick(&[0, 4, 5, 255]);
 }
 
-/// A kind that is known, on a body of the other's length.
+/// A kind that is known, on a body of another's length.
 fn swapped_kind(random: &mut Random, pieces: &mut Pieces) {
     let place = pieces.any(random);
-    pieces.records[place][2] = 3 - pieces.records[place][2];
+    let kind = &mut pieces.records[place][2];
+    *kind = match *kind {
+        2 => random.pick(&PROFILES) as u8,
+        _ => 2,
+    };
 }
 
-/// Parameters again: the same ones, or ones that set-up would refuse.
+/// Parameters again, at once or later: the same ones, or ones that set-up would
+/// refuse; of the same kind or of the other.
 fn second_parameters(random: &mut Random, pieces: &mut Pieces, numbers: &Numbers) {
     let again = if random.chance(50) {
         *numbers
     } else {
         refused_numbers(random)
     };
-    let place = 1 + random.place(pieces.records.len());
+    let again = either(random, &again);
+    let later = 1 + random.place(pieces.records.len());
+    let place = random.pick(&[1, later]);
     pieces
         .records
         .insert(place, record(&parameters_body(&again)));

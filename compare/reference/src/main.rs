@@ -11,7 +11,7 @@ use vtiming_reference::program::{capture_inputs, inputs, run_all, Told, OF_CAPTU
 use vtiming_reference::traffic;
 use vtiming_reference::{expected_c_call, expected_output, graph, next_read, set_up};
 use vtiming_reference::{expected_capture_call, expected_capture_output, expected_packets, Asked};
-use vtiming_reference::{Numbers, Wait, EDITION_1};
+use vtiming_reference::{Numbers, Wait, EDITION_1, VIDEO};
 
 const USAGE: &str = "usage:
   reference print FILE|-          what vtiming prints for the file
@@ -21,9 +21,9 @@ const USAGE: &str = "usage:
   reference next-read RATE SCHEDULE CLASS HEIGHT N MAXUDP TRO|default FIRST ARRIVAL
                                   how long a packet waits for the next read of its frame
   reference graph FPT MARGIN VL   the graph's doubles for figures in grains
-  reference capture PORT OFFSET RATE SCHEDULE CLASS HEIGHT N MAXUDP TRO|default EDITION FILE|-
+  reference capture PORT OFFSET RATE SCHEDULE CLASS HEIGHT N MAXUDP TRO|default PROFILE EDITION FILE|-
                                   what vcapture prints for the capture
-  reference capturecall ROOM PORT OFFSET RATE SCHEDULE CLASS HEIGHT N MAXUDP TRO|default EDITION FILE|-
+  reference capturecall ROOM PORT OFFSET RATE SCHEDULE CLASS HEIGHT N MAXUDP TRO|default PROFILE EDITION FILE|-
                                   number, place and bytes of the C call on a capture
   reference packets PORT OFFSET FILE|-
                                   each record of the capture: skipped, or the packet it hands on
@@ -40,7 +40,7 @@ const USAGE: &str = "usage:
                                   that differs is copied to KEEP
   reference captures SEED COUNT DIR[:DIR..] KEEP COMMAND..
                                   the same of vcapture, on COUNT generated captures, on fixed ones and on
-                                  the .pcap files of each DIR; the ten words follow those of COMMAND";
+                                  the .pcap files of each DIR; the eleven words follow those of COMMAND";
 
 fn main() {
     let arguments: Vec<String> = std::env::args().skip(1).collect();
@@ -53,8 +53,8 @@ fn main() {
             wait(numbers, first, arrival)
         }
         ["graph", fpt, margin, vl] => figures(fpt, margin, vl),
-        ["capture", asked @ .., file] if asked.len() == 10 => capture(asked, file),
-        ["capturecall", room, asked @ .., file] if asked.len() == 10 => {
+        ["capture", asked @ .., file] if asked.len() == 11 => capture(asked, file),
+        ["capturecall", room, asked @ .., file] if asked.len() == 11 => {
             capture_call(room, asked, file)
         }
         ["packets", port, offset, file] => packets(port, offset, file),
@@ -132,16 +132,17 @@ fn packets(port: &str, offset: &str, file: &str) -> io::Result<()> {
     say(&expected_packets(&contents(file)?, port, offset))
 }
 
-/// Port and offset, then the seven numbers, and the edition.
+/// Port and offset, then the seven numbers, the profile and the edition.
 fn asked(words: &[&str]) -> io::Result<Asked> {
     Ok(Asked {
         port: number(words[0])?,
         offset: number(words[1])?,
-        numbers: seven(&words[2..9])?,
-        edition: number(words[9])?,
+        numbers: seven(&words[2..9])?.of(number(words[9])?),
+        edition: number(words[10])?,
     })
 }
 
+/// As video, where nothing else is said.
 fn seven(words: &[&str]) -> io::Result<Numbers> {
     Ok(Numbers {
         rate: number(words[0])?,
@@ -151,6 +152,7 @@ fn seven(words: &[&str]) -> io::Result<Numbers> {
         packets_per_frame: number(words[4])?,
         maxudp: number(words[5])?,
         tro: tro(words[6])?,
+        profile: VIDEO,
     })
 }
 

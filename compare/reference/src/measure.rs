@@ -1,8 +1,8 @@
 //! The measurement of a whole list: rows and verdict.
 
 use crate::bucket::{bucket, Run};
-use crate::frame::{closed_frames, times, Frame, Kind};
-use crate::numbers::{set_up, Edition, Limits, Numbers};
+use crate::frame::{closed_frames, times, Frame, Kind, Times};
+use crate::numbers::{set_up, Edition, Limits, Numbers, Profile};
 use crate::packet::{first_refused, Packet, Past};
 use crate::reads::reading;
 use crate::Refusal;
@@ -23,7 +23,8 @@ pub enum Network {
 /// and the lowest j whose packet arrives after read j; over (VRX peak above
 /// VRX_FULL) with frame and peak." Request (vi): "Under edition 2 the buffer
 /// answer gains a case that names frame and kind; [...] and none means no frame
-/// closed."
+/// closed." Request (vii): of a compressed stream it "is always none, in test plan
+/// edition 2 as well".
 #[derive(Clone, Copy, Debug, PartialEq, Eq)]
 pub enum Buffer {
     None,
@@ -57,22 +58,52 @@ pub fn measure(
     }
 }
 
-/// The measurement of packets that are known to be accepted.
+/// The measurement of packets that are known to be accepted. Either profile "runs
+/// the bucket and the frame times".
 pub fn measure_accepted(limits: &Limits, packets: &[Packet]) -> Measurement {
     let bucket = bucket(limits, packets);
-    let judged: Vec<Judged> = closed_frames(packets)
+    let frames = closed_frames(packets);
+    let (buffer, rows) = match limits.profile {
+        Profile::Video => video(limits, &frames),
+        Profile::Compressed => compressed(limits, &frames),
+    };
+    Measurement {
+        packets: packets.len() as u64,
+        frames: rows.len() as u64,
+        peak: bucket.peak,
+        network: bucket.burst.map_or(Network::Pass, Network::Burst),
+        buffer,
+        rows,
+    }
+}
+
+/// The buffer answer and the rows, with all that the reads say.
+fn video(limits: &Limits, frames: &[Frame]) -> (Buffer, Vec<Row>) {
+    let judged: Vec<Judged> = frames
         .iter()
         .enumerate()
         .map(|(number, frame)| judge(limits, number, frame))
         .collect();
-    Measurement {
-        packets: packets.len() as u64,
-        frames: judged.len() as u64,
-        peak: bucket.peak,
-        network: bucket.burst.map_or(Network::Pass, Network::Burst),
-        buffer: buffer_answer(limits, &judged),
-        rows: judged.iter().map(|frame| frame.row).collect(),
+    let rows = judged.iter().map(|frame| frame.row).collect();
+    (buffer_answer(limits, &judged), rows)
+}
+
+/// The same without any reads: "rows with peak and least 0 for whole frames", and
+/// no frame is judged. Those of the stream taken for video must be these, once all
+/// is left out of them that comes of reads.
+fn compressed(limits: &Limits, frames: &[Frame]) -> (Buffer, Vec<Row>) {
+    let of_frame = |(number, frame): (usize, &Frame)| match frame.kind(limits.n) {
+        Kind::Whole => timed_row(&times(limits, frame), number, frame),
+        kind => broken_row(number, kind, frame.place),
+    };
+    let rows: Vec<Row> = frames.iter().enumerate().map(of_frame).collect();
+    let mut as_video = video(limits, frames).1;
+    for row in &mut as_video {
+        row[PEAK] = 0;
+        row[LEAST] = 0;
     }
+    assert_eq!(rows, as_video);
+    (Buffer::None, rows)
 }
 
 /// A frame's row, and "the lowest j whose packet arrives after read j" of a whole
@@ -116,7 +147,18 @@ fn broken_row(number: usize, kind: Kind, place: usize) -> Row {
 fn judge_whole(limits: &Limits, number: usize, frame: &Frame) -> Judged {
     let times = times(limits, frame);
     let reading = reading(limits, times.t_cf, frame.packets);
-    let row = [
+    let mut row = timed_row(&times, number, frame);
+    row[PEAK] = narrow(reading.peak);
+    row[LEAST] = narrow(reading.least);
+    Judged {
+        row,
+        first_late: reading.first_late,
+    }
+}
+
+/// A whole frame's row where no read is asked: VRX peak and VRX least are 0.
+fn timed_row(times: &Times, number: usize, frame: &Frame) -> Row {
+    [
         number as i64,
         0,
         0,
@@ -125,14 +167,10 @@ fn judge_whole(limits: &Limits, number: usize, frame: &Frame) -> Judged {
         narrow(times.latency),
         narrow(times.margin),
         narrow(times.gap),
-        narrow(reading.peak),
-        narrow(reading.least),
+        0,
+        0,
         frame.place as i64,
-    ];
-    Judged {
-        row,
-        first_late: reading.first_late,
-    }
+    ]
 }
 
 fn narrow(value: i128) -> i64 {

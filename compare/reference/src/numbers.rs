@@ -1,5 +1,5 @@
-//! The grain, the seven stream numbers and the test plan's edition, and what
-//! set-up derives from them.
+//! The grain, the seven stream numbers, the profile and the test plan's edition,
+//! and what set-up derives from them.
 
 use crate::fraction::Fraction;
 
@@ -12,9 +12,10 @@ pub const GRAINS_PER_SECOND: i128 = 1_000_000_000 * GRAINS_PER_NANOSECOND;
 /// "P = 1,288,490,188,800,000 grains (2^32 ticks)."
 pub const WRAP: i128 = 1_288_490_188_800_000;
 
-/// The seven numbers as the caller gives them. `tro` is in whole microseconds;
-/// `None` is the default. "Records keep class 0 and a default TRO as written",
-/// so nothing is worked out here; what class 0 means in a file is `record`'s.
+/// The seven numbers and the profile as the caller gives them. `tro` is in whole
+/// microseconds; `None` is the default. "Records keep class 0 and a default TRO as
+/// written", so nothing is worked out here; what class 0 means in a file is
+/// `record`'s. What takes no profile (the limits, the next read) means video.
 #[derive(Clone, Copy, Debug, PartialEq, Eq)]
 pub struct Numbers {
     pub rate: u64,
@@ -24,11 +25,13 @@ pub struct Numbers {
     pub packets_per_frame: u64,
     pub maxudp: u64,
     pub tro: Option<u64>,
+    /// As the kind of the parameter record that chooses it.
+    pub profile: u64,
 }
 
 impl Numbers {
     /// 1080 lines at 50 frames a second, gapped, narrow, with so many packets a
-    /// frame: what most tests begin with.
+    /// frame, as video: what most tests begin with.
     pub const fn narrow(packets_per_frame: u64) -> Numbers {
         Numbers {
             rate: 6,
@@ -38,7 +41,36 @@ impl Numbers {
             packets_per_frame,
             maxudp: 1460,
             tro: None,
+            profile: VIDEO,
         }
+    }
+
+    /// The same stream as another profile: "Stream numbers are as in the base."
+    pub fn of(&self, profile: u64) -> Numbers {
+        Numbers { profile, ..*self }
+    }
+}
+
+/// Request (vii): "Add a profile". It has no number but its record's: "a parameter
+/// record of kind 3, laid out as kind 1, chooses it".
+pub const VIDEO: u64 = 1;
+pub const COMPRESSED: u64 = 3;
+pub const PROFILES: [u64; 2] = [VIDEO, COMPRESSED];
+
+/// What is measured of a stream.
+#[derive(Clone, Copy, Debug, PartialEq, Eq)]
+pub enum Profile {
+    Video,
+    /// "ST 2110-22 senders, to which the receiver buffer model does not apply".
+    Compressed,
+}
+
+/// Any other is an "unknown kind".
+pub(crate) fn profile_of(number: u64) -> Option<Profile> {
+    match number {
+        VIDEO => Some(Profile::Video),
+        COMPRESSED => Some(Profile::Compressed),
+        _ => None,
     }
 }
 
@@ -69,6 +101,8 @@ fn edition_of(number: u32) -> Option<Edition> {
 pub struct Limits {
     /// The test plan by which the buffer is judged. No limit depends on it.
     pub edition: Edition,
+    /// Whether there is a buffer to be judged. No limit depends on it either.
+    pub profile: Profile,
     /// F, in grains.
     pub frame: i128,
     /// R of the schedule.
@@ -186,8 +220,11 @@ fn vrx_full(class: Class, n: i128, maxudp: i128, frame: i128) -> i128 {
 
 /// Set-up. "1..7: set-up, in this order: rate, schedule, class (unknown or
 /// against the schedule), height, n, MAXUDP, TRO." Request (vi): "8 for an
-/// edition other than 1 or 2, after 7."
+/// edition other than 1 or 2, after 7." Request (vii) has no number of its own: a
+/// profile that there is not is an "unknown kind", 22, which in a file comes before
+/// set-up and so comes before 1 without one.
 pub fn set_up(edition: u32, numbers: &Numbers) -> Result<Limits, u8> {
+    let profile = profile_of(numbers.profile).ok_or(22)?;
     let frame = frame_length(numbers.rate).ok_or(1)?;
     let r = schedule_ratio(numbers.schedule).ok_or(2)?;
     let class = class_of(numbers.class, numbers.schedule).ok_or(3)?;
@@ -199,6 +236,7 @@ pub fn set_up(edition: u32, numbers: &Numbers) -> Result<Limits, u8> {
     let n = i128::from(numbers.packets_per_frame);
     Ok(Limits {
         edition,
+        profile,
         frame,
         r,
         n,

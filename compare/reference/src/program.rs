@@ -13,8 +13,10 @@ use std::time::{Duration, Instant};
 
 use crate::capture::{self, expected_capture_output, Asked};
 use crate::cases::{captures, class_0_streams, edition_streams};
-use crate::generate::{file, under, OTHER_EDITIONS};
+use crate::generate::{as_profiles, file, under};
+use crate::generate::{OTHER_EDITIONS, OTHER_PROFILES, WIDE_PROFILES};
 use crate::numbers::{Numbers, EDITIONS, EDITION_1, EDITION_2};
+use crate::numbers::{COMPRESSED, PROFILES, VIDEO};
 use crate::output::{expected_output, output_by};
 use crate::record::{packet_body, parameters_body, read, record, write, VERSIONS};
 use crate::traffic;
@@ -55,11 +57,15 @@ impl Input {
         }
     }
 
-    /// What its last line says, and whether that shows what class 0 means, and by
-    /// which edition it was measured.
+    /// What its last line says, and whether that shows what class 0 means, by which
+    /// edition it was measured and as which profile.
     fn outcomes(&self) -> Vec<String> {
         let own = outcomes(&self.wanted());
-        let others = [self.class_0_meant_otherwise(), self.by_the_other_edition()];
+        let others = [
+            self.class_0_meant_otherwise(),
+            self.by_the_other_edition(),
+            self.as_the_other_profile(),
+        ];
         let shown = others.into_iter().flatten();
         let shown = shown.filter(|(_, text)| outcomes(text) != own);
         let names: Vec<String> = shown.map(|(name, _)| name.to_string()).collect();
@@ -81,6 +87,25 @@ impl Input {
                 Some((name, text))
             }
         }
+    }
+
+    /// The profile as which it is measured, and the text that would come as the
+    /// other one.
+    fn as_the_other_profile(&self) -> Option<(&'static str, String)> {
+        let own = match &self.what {
+            What::RecordFile => read(EDITION_1, &self.bytes).numbers?.profile,
+            What::Capture(asked) => asked.numbers.profile,
+        };
+        let (name, other) = match own {
+            VIDEO => ("as video", COMPRESSED),
+            COMPRESSED => ("as compressed", VIDEO),
+            _ => return None,
+        };
+        let text = match &self.what {
+            What::RecordFile => expected_output(&as_profiles(&[other], &self.bytes)[0]),
+            What::Capture(asked) => expected_capture_output(&asked.of(other), &self.bytes),
+        };
+        Some((name, text))
     }
 
     /// Of an input of class 0, what that means there, and the text that would
@@ -164,26 +189,30 @@ pub struct Told {
     pub same: bool,
 }
 
-/// Generated files of the seed and some fixed ones, in both versions, and every
-/// `.rec` file of the directory as it is.
+/// Generated files of the seed and some fixed ones, in both versions and as both
+/// profiles, and every `.rec` file of the directory as it is.
 pub fn inputs(seed: u64, count: u64, directory: &Path) -> io::Result<Vec<Input>> {
     let mut inputs = vec![];
     for index in 0..count {
         let name = format!("file {} of seed {}", index, seed);
-        inputs.extend(in_both_versions(&name, &file(seed, index)));
+        inputs.extend(in_both_versions(index, &name, &file(seed, index)));
     }
     // So that what class 0 means shows, whatever the seed.
     for (place, (numbers, packets)) in class_0_streams().iter().enumerate() {
         let file = write(VERSIONS[0], numbers, packets);
-        inputs.extend(in_both_versions(&format!("fixed file {}", place), &file));
+        // As video in each version, and as compressed.
+        for turn in 0..2 {
+            let name = format!("fixed file {}", place);
+            inputs.extend(in_both_versions(turn, &name, &file));
+        }
     }
-    // So that it shows that edition 1 is meant.
+    // So that it shows that edition 1 is meant, and as compressed nothing of it.
     for (place, (numbers, packets)) in edition_streams().iter().enumerate() {
-        inputs.push(Input {
-            name: format!("fixed file {} of the editions", place),
-            bytes: write(VERSIONS[1], numbers, packets),
+        inputs.extend(PROFILES.map(|profile| Input {
+            name: format!("fixed file {} of the editions, kind {}", place, profile),
+            bytes: write(VERSIONS[1], &numbers.of(profile), packets),
             what: What::RecordFile,
-        });
+        }));
     }
     for path in files_of(directory, "rec")? {
         inputs.push(Input {
@@ -195,16 +224,24 @@ pub fn inputs(seed: u64, count: u64, directory: &Path) -> io::Result<Vec<Input>>
     Ok(inputs)
 }
 
-fn in_both_versions(name: &str, file: &[u8]) -> Vec<Input> {
-    let named = |version: Option<&u8>| match version {
-        Some(version) => format!("{}, version {}", name, version),
-        None => name.to_string(),
+/// One version as video and the other as compressed; which, takes turns.
+fn in_both_versions(turn: u64, name: &str, file: &[u8]) -> Vec<Input> {
+    let named = |bytes: &[u8]| match bytes {
+        [version, _, _, kind, ..] => format!("{}, version {}, kind {}", name, version, kind),
+        _ => name.to_string(),
     };
-    let inputs = under(&VERSIONS, file).into_iter().map(|bytes| Input {
-        name: named(bytes.first()),
-        bytes,
-        what: What::RecordFile,
-    });
+    let profiles = PROFILES.into_iter().cycle().skip(turn as usize % 2);
+    let inputs = under(&VERSIONS, file)
+        .into_iter()
+        .zip(profiles)
+        .map(|(file, profile)| {
+            let bytes = as_profiles(&[profile], &file).concat();
+            Input {
+                name: named(&bytes),
+                bytes,
+                what: What::RecordFile,
+            }
+        });
     inputs.collect()
 }
 
@@ -235,25 +272,40 @@ pub fn capture_inputs(seed: u64, count: u64, directories: &[&Path]) -> io::Resul
     Ok(inputs)
 }
 
-/// Of the fixed captures, by each edition, those that reach an outcome which none
-/// before them reached by that edition, so that no outcome depends on the seed;
-/// and those with a frame that no pipe holds at once.
+/// Each edition as each profile, others as video, and profiles that there are not by
+/// edition 1.
+fn by_all() -> Vec<(u32, u64)> {
+    let editions = [&EDITIONS[..], &OTHER_EDITIONS].concat();
+    let mut all: Vec<(u32, u64)> = editions.into_iter().map(|e| (e, VIDEO)).collect();
+    all.extend(EDITIONS.map(|edition| (edition, COMPRESSED)));
+    let profiles = [OTHER_PROFILES, WIDE_PROFILES].concat();
+    all.extend(profiles.into_iter().map(|profile| (EDITION_1, profile)));
+    all
+}
+
+/// Of the fixed captures, by each edition and as each profile, those that reach an
+/// outcome which none before them reached by that edition as that profile, so that no
+/// outcome depends on the seed; and those with a frame that no pipe holds at once.
 fn worth_running() -> Vec<Input> {
     let mut reached = BTreeMap::new();
     let mut kept = vec![];
     for (place, (asked, bytes)) in captures().into_iter().enumerate() {
-        for edition in [&EDITIONS[..], &OTHER_EDITIONS].concat() {
+        for by in by_all() {
+            let (edition, profile) = by;
             let input = Input {
-                name: format!("fixed capture {} by edition {}", place, edition),
+                name: format!(
+                    "fixed capture {} by edition {}, kind {}",
+                    place, edition, profile
+                ),
                 bytes: bytes.clone(),
-                what: What::Capture(asked.by(edition)),
+                what: What::Capture(asked.by(edition).of(profile)),
             };
             let outcomes = input.outcomes().into_iter();
-            let outcomes: Vec<_> = outcomes.map(|outcome| (edition, outcome)).collect();
+            let outcomes: Vec<_> = outcomes.map(|outcome| (by, outcome)).collect();
             let new = outcomes
                 .iter()
                 .any(|outcome| !reached.contains_key(outcome));
-            if new || (edition == EDITION_1 && bytes.len() > 1 << 17) {
+            if new || (by == (EDITION_1, VIDEO) && bytes.len() > 1 << 17) {
                 reached.extend(outcomes.into_iter().map(|outcome| (outcome, place)));
                 kept.push(input);
             }
@@ -273,18 +325,21 @@ fn files_of(directory: &Path, suffix: &str) -> io::Result<Vec<PathBuf>> {
 
 /// A file does not say what is to be asked of it: the ports to which it has the
 /// most packets, and one to which it has none, each with so many packets a frame
-/// as the last frame has that closes there, and by each edition once.
+/// as the last frame has that closes there, by each edition once and as each profile
+/// once; which goes with which takes turns.
 fn asked_of(bytes: &[u8]) -> Vec<Asked> {
     let ports = capture::ports(bytes);
     let silent = (1..=u16::MAX).find(|port| !ports.contains(port));
     let mut all = vec![];
-    for port in ports.into_iter().take(3).chain(silent) {
+    for (turn, port) in ports.into_iter().take(3).chain(silent).enumerate() {
         let packets = capture::packets_of(&capture::records(bytes, port, 0).records);
         let frames = packets.split_inclusive(|packet| packet.marker == 1);
         let counts: Vec<usize> = frames.map(|frame| frame.len()).collect();
         let last = counts.iter().rev().nth(1).copied().unwrap_or(4);
-        for (edition, (offset, rate, schedule, class)) in
-            EDITIONS.into_iter().zip([(37, 6, 0, 1), (0, 3, 1, 3)])
+        let profiles = PROFILES.into_iter().cycle().skip(turn);
+        let by = EDITIONS.into_iter().zip(profiles);
+        for ((edition, profile), (offset, rate, schedule, class)) in
+            by.zip([(37, 6, 0, 1), (0, 3, 1, 3)])
         {
             let numbers = Numbers {
                 rate,
@@ -294,6 +349,7 @@ fn asked_of(bytes: &[u8]) -> Vec<Asked> {
                 packets_per_frame: last as u64,
                 maxudp: 1460,
                 tro: None,
+                profile,
             };
             all.push(Asked {
                 port,
@@ -672,7 +728,7 @@ impl Tally {
 
 /// Every last line that a record file can bring about, but a refusal by 14,
 /// which takes a billion packets; and last lines that would be others if class 0
-/// meant something else, or edition 2 were meant.
+/// meant something else, edition 2 were meant, or it were of the other profile.
 pub const OF_FILES: &[&str] = &[
     "network pass",
     "network burst",
@@ -683,6 +739,8 @@ pub const OF_FILES: &[&str] = &[
     "class 0 as wide",
     "class 0 as strict",
     "by edition 1",
+    "as video",
+    "as compressed",
     "refused 01",
     "refused 02",
     "refused 03",
@@ -700,8 +758,8 @@ pub const OF_FILES: &[&str] = &[
 ];
 
 /// The same of a capture; a marker is one bit there, so that 11 is not among
-/// them, and class 0 has one meaning. Of both editions there are last lines that
-/// would be others by the other one.
+/// them, and class 0 has one meaning. Of both editions and of both profiles there
+/// are last lines that would be others by the other one.
 pub const OF_CAPTURES: &[&str] = &[
     "network pass",
     "network burst",
@@ -715,6 +773,8 @@ pub const OF_CAPTURES: &[&str] = &[
     "class 0 as strict",
     "by edition 1",
     "by edition 2",
+    "as video",
+    "as compressed",
     "refused 01",
     "refused 02",
     "refused 03",
@@ -725,6 +785,7 @@ pub const OF_CAPTURES: &[&str] = &[
     "refused 08",
     "refused 12",
     "refused 13",
+    "refused 22",
     "refused 30",
     "refused 31",
     "refused 32",
@@ -841,29 +902,42 @@ mod tests {
         assert!(through(&["false"], 10, Way::Whole).contains("it ended with"));
     }
 
-    /// Every generated file that has a version is run in both, one of no version
-    /// as it is; what class 0 means shows in the fixed files, whatever the seed.
+    /// Every generated file that has a version is run in both, one as video and one
+    /// as compressed if its first record has such a kind; one of no version as it is.
+    /// What class 0 means, and the profile, show in the fixed files, whatever the seed.
     #[test]
-    fn files_are_run_in_both_versions() {
+    fn files_are_run_in_both_versions_and_as_both_profiles() {
         let nowhere = Path::new(env!("CARGO_MANIFEST_DIR"));
         let fixed = inputs(1, 0, nowhere).unwrap();
         let outcomes: Vec<String> = fixed.iter().flat_map(Input::outcomes).collect();
-        for class_0 in ["class 0 as wide", "class 0 as strict"] {
-            assert!(outcomes.iter().any(|outcome| outcome == class_0));
+        for shown in [
+            "class 0 as wide",
+            "class 0 as strict",
+            "as video",
+            "as compressed",
+        ] {
+            assert!(outcomes.iter().any(|outcome| outcome == shown));
         }
         let generated: Vec<Vec<u8>> = inputs(1, 100, nowhere)
             .unwrap()
             .into_iter()
             .map(|input| input.bytes)
             .collect();
+        let mut in_pairs = [0; 4];
         for index in 0..100 {
             let own = file(1, index);
-            let versions = under(&VERSIONS, &own);
-            assert!(versions.contains(&own));
-            for bytes in versions {
-                assert!(generated.contains(&bytes));
+            for bytes in under(&VERSIONS, &own) {
+                let twins = as_profiles(&PROFILES, &bytes);
+                assert!(twins.contains(&bytes));
+                let run = |twin: &&Vec<u8>| generated.contains(twin);
+                let tried: Vec<&Vec<u8>> = twins.iter().filter(run).collect();
+                assert_eq!(tried.len(), 1);
+                if let ([version @ 1..=2, _, _, kind, ..], 2) = (&tried[0][..], twins.len()) {
+                    in_pairs[usize::from(version - 1) * 2 + usize::from(kind / 3)] += 1;
+                }
             }
         }
+        assert!(in_pairs.iter().all(|count| *count > 20), "{:?}", in_pairs);
     }
 
     /// Every last line, what class 0 means and by which edition it was measured.
@@ -877,8 +951,18 @@ mod tests {
             assert!(seen, "never seen: {}", outcome);
         }
         assert!(!outcomes.contains(&"class 0 as wide".to_string()));
+        // Whatever the edition, the buffer answer is none as compressed.
+        for input in &inputs {
+            if let What::Capture(asked) = input.what {
+                let buffer = |outcome: &String| outcome.starts_with("buffer ");
+                let own = input.outcomes().into_iter().find(buffer);
+                if asked.numbers.profile == COMPRESSED {
+                    assert!(own.map_or(true, |answer| answer == "buffer none"));
+                }
+            }
+        }
         // One of each is enough: they are run in three ways.
-        assert!(inputs.len() < 120, "{} captures", inputs.len());
+        assert!(inputs.len() < 160, "{} captures", inputs.len());
     }
 
     /// Request (vi): "`vtiming` [...] mean[s] edition 1". By edition 2 some of the
@@ -888,6 +972,11 @@ mod tests {
         let nowhere = Path::new(env!("CARGO_MANIFEST_DIR"));
         let inputs = inputs(1, 0, nowhere).unwrap();
         let shown = |input: &&Input| input.outcomes().contains(&"by edition 1".to_string());
+        // Not as compressed: by both editions there is no buffer answer then.
+        assert!(inputs
+            .iter()
+            .filter(shown)
+            .all(|input| read(EDITION_1, &input.bytes).numbers.unwrap().profile == VIDEO));
         let mut instead: Vec<String> = inputs
             .iter()
             .filter(shown)

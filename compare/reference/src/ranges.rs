@@ -3,13 +3,13 @@
 //! alone; of the library's state nothing else is known here.
 
 use crate::measure::{Buffer, Measurement};
-use crate::numbers::{frame_length, Edition, Limits, Numbers, GRAINS_PER_MICROSECOND};
-use crate::numbers::{EDITION_1, EDITION_2};
+use crate::numbers::{frame_length, Edition, Limits, Numbers, Profile, GRAINS_PER_MICROSECOND};
+use crate::numbers::{COMPRESSED, EDITION_1, EDITION_2, VIDEO};
 use crate::output::nine_numbers;
 use crate::packet::{Packet, Past, LONGEST_HISTORY, MOST_PACKETS};
 
-/// "a state is 34 words of 64 bits, one for each row of the tables".
-pub const STATE_WORDS: u64 = 34;
+/// "a state is 35 words of 64 bits, one for each row of the tables".
+pub const STATE_WORDS: u64 = 35;
 
 const RATE: u8 = 0;
 const SCHEDULE: u8 = 1;
@@ -19,32 +19,33 @@ const N: u8 = 4;
 const MAXUDP: u8 = 5;
 const TRO: u8 = 6;
 const EDITION: u8 = 7;
-pub const PACKETS: u8 = 8;
-const FIRST: u8 = 9;
-const LAST: u8 = 10;
-const LEVEL: u8 = 11;
-const START: u8 = 12;
-const PEAK: u8 = 13;
-const NETWORK: u8 = 14;
-const RUN_FIRST: u8 = 15;
-const RUN_LAST: u8 = 16;
-const REST: u8 = 17;
-const CLOSED: u8 = 18;
-const BEGUN: u8 = 19;
-const MARKED: u8 = 20;
-const HELD: u8 = 21;
-const OPEN_FIRST: u8 = 22;
-const STAMP: u8 = 23;
-const PHASE: u8 = 24;
-const READS: u8 = 25;
-const WAIT: u8 = 26;
-const DIFFERS: u8 = 27;
-const TOP: u8 = 28;
-const LATE: u8 = 29;
-const DEFICIT: u8 = 30;
-const BUFFER: u8 = 31;
-const BUFFER_FRAME: u8 = 32;
-const BUFFER_PLACE: u8 = 33;
+const PROFILE: u8 = 8;
+pub const PACKETS: u8 = 9;
+const FIRST: u8 = 10;
+const LAST: u8 = 11;
+const LEVEL: u8 = 12;
+const START: u8 = 13;
+const PEAK: u8 = 14;
+const NETWORK: u8 = 15;
+const RUN_FIRST: u8 = 16;
+const RUN_LAST: u8 = 17;
+const REST: u8 = 18;
+const CLOSED: u8 = 19;
+const BEGUN: u8 = 20;
+const MARKED: u8 = 21;
+const HELD: u8 = 22;
+const OPEN_FIRST: u8 = 23;
+const STAMP: u8 = 24;
+const PHASE: u8 = 25;
+const READS: u8 = 26;
+const WAIT: u8 = 27;
+const DIFFERS: u8 = 28;
+const TOP: u8 = 29;
+const LATE: u8 = 30;
+const DEFICIT: u8 = 31;
+const BUFFER: u8 = 32;
+const BUFFER_FRAME: u8 = 33;
+const BUFFER_PLACE: u8 = 34;
 
 /// The words that the nine numbers of a state stand in, in their order.
 const NINE: [u8; 9] = [
@@ -89,8 +90,9 @@ pub struct Stream {
 struct Known {
     numbers: Numbers,
     edition: Edition,
-    /// The buffer answer is the case that edition 2 alone has.
-    broken: bool,
+    /// A compressed state keeps nothing of reads, and no buffer answer.
+    profile: Profile,
+    buffer: Buffer,
     frame: u64,
     past: Past,
     /// The arrival of the last marker packet; none in the lead-in.
@@ -108,12 +110,21 @@ impl Known {
         Known {
             numbers: *numbers,
             edition: stream.limits.edition,
-            broken: matches!(so_far.buffer, Buffer::Broken { .. }),
+            profile: stream.limits.profile,
+            buffer: so_far.buffer,
             frame: frame_length(numbers.rate).expect("set-up has accepted it") as u64,
             past: Past::of(history),
             marked: marker.map(|place| history[place].arrival),
             held: open.len() as u64,
             open_first: open.first().map_or(0, |packet| packet.arrival),
+        }
+    }
+
+    /// The range of what is kept of reads: "at most" so much, or 0.
+    fn of_reads(&self, most: u64) -> u64 {
+        match self.profile {
+            Profile::Video => most,
+            Profile::Compressed => 0,
         }
     }
 
@@ -133,18 +144,17 @@ impl Known {
 struct Sides(Vec<Change>);
 
 impl Sides {
+    fn push(&mut self, words: &[(u8, u64)], in_range: bool) {
+        let words = words.to_vec();
+        self.0.push(Change { words, in_range });
+    }
+
     fn within(&mut self, words: &[(u8, u64)]) {
-        self.0.push(Change {
-            words: words.to_vec(),
-            in_range: true,
-        });
+        self.push(words, true);
     }
 
     fn outside(&mut self, words: &[(u8, u64)]) {
-        self.0.push(Change {
-            words: words.to_vec(),
-            in_range: false,
-        });
+        self.push(words, false);
     }
 
     /// "at most": the greatest value, one more, and the greatest of 64 bits.
@@ -162,6 +172,7 @@ pub fn changes(stream: &Stream, history: &[Packet], so_far: &Measurement) -> Vec
     let mut sides = Sides::default();
     stream_numbers(&known, &mut sides);
     edition(&known, &mut sides);
+    profile(&known, &mut sides);
     past(&known, &mut sides);
     bucket(&known, &mut sides);
     counts(&known, &mut sides);
@@ -232,12 +243,59 @@ fn edition(known: &Known, sides: &mut Sides) {
         sides.outside(&[(EDITION, other)]);
     }
     sides.within(&[(EDITION, u64::from(EDITION_2))]);
-    let first = [(EDITION, u64::from(EDITION_1))];
-    if known.broken {
-        sides.outside(&first);
-    } else {
-        sides.within(&first);
+    let broken = matches!(known.buffer, Buffer::Broken { .. });
+    sides.push(&[(EDITION, u64::from(EDITION_1))], !broken);
+}
+
+/// The five words that a compressed state has as 0.
+const OF_READS: [u8; 5] = [READS, WAIT, TOP, LATE, DEFICIT];
+
+/// "any of the two", and a word that is 1 or 3 in its low bits alone is neither. As
+/// video a compressed state is in range, since 0 and none are. As compressed a video
+/// state is in range where there is nothing that it would have to have lost: a first
+/// packet in its open frame is in the buffer, or comes after a read.
+fn profile(known: &Known, sides: &mut Sides) {
+    for other in [0, 2, 4, 255, 256 + 1, 256 + 3, (1 << 32) + 3, u64::MAX] {
+        sides.outside(&[(PROFILE, other)]);
     }
+    let nothing = known.held == 0 && known.buffer == Buffer::None;
+    sides.within(&[(PROFILE, VIDEO)]);
+    sides.push(
+        &[(PROFILE, COMPRESSED)],
+        nothing || known.profile == Profile::Compressed,
+    );
+    // What makes a compressed state of any, and then one thing more than that.
+    let mut none = vec![(PROFILE, COMPRESSED)];
+    none.extend(OF_READS.map(|word| (word, 0)));
+    none.extend(answer(0, 0, 0));
+    sides.within(&none);
+    for word in OF_READS {
+        let mut kept = none.clone();
+        let changed = kept.iter_mut().find(|(other, _)| *other == word);
+        changed.expect("it is among them").1 = 1;
+        sides.outside(&kept);
+    }
+    let front = none.len() - 3;
+    for failed in [
+        answer(1, 0, 0),
+        answer(2, 0, 0),
+        answer(3, 0, 0),
+        answer(4, 0, 1),
+    ] {
+        for edition in [EDITION_1, EDITION_2] {
+            let by = [(EDITION, u64::from(edition))];
+            sides.outside(&[&none[..front], &failed, &by].concat());
+        }
+    }
+}
+
+/// The three words of a buffer answer.
+fn answer(number: u64, frame: u64, place: u64) -> [(u8, u64); 3] {
+    [
+        (BUFFER, number),
+        (BUFFER_FRAME, frame),
+        (BUFFER_PLACE, place),
+    ]
 }
 
 /// "packets ≤ 1,000,000,000; packets = 0 implies first = 0; packets = 0 implies
@@ -355,37 +413,52 @@ fn open_frame(known: &Known, sides: &mut Sides) {
     }
     sides.at_most(STAMP, 0xffff_ffff);
     sides.at_most(PHASE, 2 * known.frame);
-    sides.at_most(READS, known.numbers.packets_per_frame);
-    sides.at_most(WAIT, 2 * known.frame * known.read_den());
+    sides.at_most(READS, known.of_reads(known.numbers.packets_per_frame));
+    sides.at_most(WAIT, known.of_reads(2 * known.frame * known.read_den()));
 }
 
-/// "at most `held`", "at most n"; the buffer answer's numbers "at most
-/// `past.packets`", and 0 for none and pass; of a broken frame its kind, 1 to 3,
-/// which hangs on no count of packets.
+/// "at most `held`", "at most n"; of a compressed state the latter three are 0.
 fn kept(known: &Known, sides: &mut Sides) {
-    for word in [DIFFERS, TOP, LATE] {
-        sides.at_most(word, known.held);
+    sides.at_most(DIFFERS, known.held);
+    for word in [TOP, LATE] {
+        sides.at_most(word, known.of_reads(known.held));
     }
-    sides.at_most(DEFICIT, known.numbers.packets_per_frame);
+    sides.at_most(DEFICIT, known.of_reads(known.numbers.packets_per_frame));
+    buffer(known, sides);
+    broken(known, sides);
+}
+
+/// The buffer answer's numbers "at most `past.packets`", and 0 for none and pass; a
+/// compressed state has none alone, and as video it may have any.
+fn buffer(known: &Known, sides: &mut Sides) {
     let packets = known.past.count;
-    let answer = |number, frame, place| {
-        [
-            (BUFFER, number),
-            (BUFFER_FRAME, frame),
-            (BUFFER_PLACE, place),
-        ]
-    };
+    let video = known.profile == Profile::Video;
     for none in [0, 1] {
-        sides.within(&answer(none, 0, 0));
+        sides.push(&answer(none, 0, 0), video || none == 0);
         sides.outside(&answer(none, 1, 0));
         sides.outside(&answer(none, 0, 1));
     }
     for failed in [2, 3] {
-        sides.within(&answer(failed, 0, 0));
-        sides.within(&answer(failed, packets, packets));
+        sides.push(&answer(failed, 0, 0), video);
+        sides.push(&answer(failed, packets, packets), video);
         sides.outside(&answer(failed, packets + 1, packets));
         sides.outside(&answer(failed, packets, packets + 1));
     }
+    // A failing answer that both editions have, by each.
+    for edition in [EDITION_1, EDITION_2] {
+        let under = [&answer(2, 0, 0)[..], &[(EDITION, u64::from(edition))]].concat();
+        sides.push(&under, video);
+        sides.within(&[&under[..], &[(PROFILE, VIDEO)]].concat());
+    }
+    sides.outside(&answer(5, 0, 0));
+    sides.outside(&answer(256 + 4, 0, 1));
+    sides.outside(&answer(u64::MAX, 0, 0));
+}
+
+/// Of a broken frame its kind, 1 to 3, which hangs on no count of packets.
+fn broken(known: &Known, sides: &mut Sides) {
+    let packets = known.past.count;
+    let video = known.profile == Profile::Video;
     for (frame, kind, in_range) in [
         (0, 1, true),
         (0, 3, true),
@@ -400,25 +473,11 @@ fn kept(known: &Known, sides: &mut Sides) {
     ] {
         let broken = answer(4, frame, kind);
         let by = |edition| [&broken[..], &[(EDITION, u64::from(edition))]].concat();
-        if in_range && known.edition == Edition::Two {
-            sides.within(&broken);
-        } else {
-            sides.outside(&broken);
-        }
-        // The same by the one edition and by the other.
+        sides.push(&broken, in_range && video && known.edition == Edition::Two);
+        // The same by the one edition and by the other; and by the other as video.
         sides.outside(&by(EDITION_1));
-        if in_range {
-            sides.within(&by(EDITION_2));
-        } else {
-            sides.outside(&by(EDITION_2));
-        }
+        sides.push(&by(EDITION_2), in_range && video);
+        let as_video = [&by(EDITION_2)[..], &[(PROFILE, VIDEO)]].concat();
+        sides.push(&as_video, in_range);
     }
-    // A failing answer that both editions have, by each.
-    for edition in [EDITION_1, EDITION_2] {
-        let under = [&answer(2, 0, 0)[..], &[(EDITION, u64::from(edition))]].concat();
-        sides.within(&under);
-    }
-    sides.outside(&answer(5, 0, 0));
-    sides.outside(&answer(256 + 4, 0, 1));
-    sides.outside(&answer(u64::MAX, 0, 0));
 }

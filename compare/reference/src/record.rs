@@ -1,7 +1,7 @@
 //! The record file: reading and writing, in both versions, and what class 0 means
-//! in each.
+//! in each; and the kinds of parameters that choose a profile.
 
-use crate::numbers::{set_up, Limits, Numbers, EDITION_1};
+use crate::numbers::{profile_of, set_up, Limits, Numbers, EDITION_1};
 use crate::packet::{first_refused, zip, Packet, Past};
 use crate::Refusal;
 
@@ -10,8 +10,8 @@ use crate::Refusal;
 /// writes the one asked for".
 pub const VERSIONS: [u8; 2] = [1, 2];
 /// "Kind 1, 16 bytes: kind, rate, schedule, class, height (2), n (4), MAXUDP
-/// (2), TRO (4; all ones is default)."
-const PARAMETERS_KIND: u8 = 1;
+/// (2), TRO (4; all ones is default)." Request (vii): "a parameter record of kind
+/// 3, laid out as kind 1". The kind is the profile's number.
 const PARAMETERS_LENGTH: usize = 16;
 /// "Kind 2, 14 bytes: kind, arrival (8), timestamp (4), marker."
 const PACKET_KIND: u8 = 2;
@@ -125,9 +125,10 @@ impl FileReading {
         Ok(body.len())
     }
 
-    /// "23: [...] parameters again", before set-up has a word. Set-up gives 8
-    /// too, so that a wrong edition is refused where these parameters would be
-    /// accepted: at this record, and before any later one is looked at.
+    /// "23: [...] parameters again", of either kind after either, before set-up
+    /// has a word. Set-up gives 8 too, so that a wrong edition is refused where
+    /// these parameters would be accepted: at this record, and before any later one
+    /// is looked at.
     fn take_parameters(&mut self, version: u8, numbers: Numbers) -> Result<(), u8> {
         if self.numbers.is_some() {
             return Err(23);
@@ -164,10 +165,12 @@ fn body_of(rest: &[u8]) -> Option<&[u8]> {
     Some(&rest[LENGTH_BYTES..LENGTH_BYTES + length])
 }
 
-/// "22: unknown kind, or wrong length for its kind".
+/// "22: unknown kind, or wrong length for its kind". Request (vii): "22 and 23 read
+/// with that kind too".
 fn record_of(body: &[u8]) -> Option<Record> {
+    let parameters = profile_of(u64::from(body[0])).is_some();
     match (body[0], body.len()) {
-        (PARAMETERS_KIND, PARAMETERS_LENGTH) => Some(Record::Parameters(numbers_of(body))),
+        (_, PARAMETERS_LENGTH) if parameters => Some(Record::Parameters(numbers_of(body))),
         (PACKET_KIND, PACKET_LENGTH) => Some(Record::Packet(packet_of(body))),
         _ => None,
     }
@@ -184,6 +187,7 @@ fn numbers_of(body: &[u8]) -> Numbers {
         packets_per_frame: big_endian(&body[6..10]),
         maxudp: big_endian(&body[10..12]),
         tro: if tro == DEFAULT_TRO { None } else { Some(tro) },
+        profile: big_endian(&body[..1]),
     }
 }
 
@@ -222,7 +226,7 @@ pub fn record(body: &[u8]) -> Vec<u8> {
 
 pub fn parameters_body(numbers: &Numbers) -> Vec<u8> {
     [
-        field(u64::from(PARAMETERS_KIND), 1),
+        field(numbers.profile, 1),
         field(numbers.rate, 1),
         field(numbers.schedule, 1),
         field(numbers.class, 1),
@@ -257,9 +261,10 @@ fn field(value: u64, width: usize) -> Vec<u8> {
 }
 
 /// The writer. Request (viii): "20 is given, first of all, for a version other
-/// than 1 or 2, by the writer too"; then, as document 01 has it, "The writer
-/// refuses by 1 to 7, 10 to 14, then 24, and then writes nothing". Places are
-/// "0 for 1 to 10 and 24" and for 20, else the packet's.
+/// than 1 or 2, by the writer too"; then set-up's 22 for a profile that there is
+/// not; then, as document 01 has it, "The writer refuses by 1 to 7, 10 to 14, then
+/// 24, and then writes nothing". Places are "0 for 1 to 10 and 24" and for 20 and
+/// 22, else the packet's.
 pub fn writer(
     version: u8,
     numbers: &Numbers,

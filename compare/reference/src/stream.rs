@@ -3,7 +3,7 @@
 
 use crate::bucket::{drain_instant, drains_by};
 use crate::fraction::Fraction;
-use crate::numbers::{frame_length, set_up, Limits, Numbers, EDITION_1};
+use crate::numbers::{frame_length, set_up, Limits, Numbers, EDITION_1, VIDEO};
 use crate::numbers::{GRAINS_PER_MICROSECOND, GRAINS_PER_NANOSECOND, GRAINS_PER_TICK, WRAP};
 use crate::packet::{Packet, LONGEST_HISTORY};
 use crate::random::Random;
@@ -102,7 +102,7 @@ struct Sender<'a> {
     packets: Vec<Packet>,
 }
 
-/// Numbers that set-up accepts, and a stream sent by them.
+/// Numbers that set-up accepts, as video, and a stream sent by them.
 pub fn stream(random: &mut Random) -> (Numbers, Vec<Packet>) {
     let mut numbers = accepted_numbers(random);
     let aim = random.pick(&AIMS);
@@ -205,6 +205,7 @@ pub(crate) fn accepted_numbers(random: &mut Random) -> Numbers {
         packets_per_frame: packets_per_frame(random),
         maxudp: random.pick(&[1460, 8960]),
         tro: tro(random, rate),
+        profile: VIDEO,
     }
 }
 
@@ -253,6 +254,7 @@ pub fn mended_numbers() -> Vec<Numbers> {
         packets_per_frame: 20_001,
         maxudp: 1500,
         tro: Some(50_000),
+        profile: VIDEO,
     };
     let steps: [fn(&mut Numbers); 7] = [
         |n| n.rate = 6,

@@ -6,8 +6,8 @@ use std::io;
 use std::path::Path;
 
 use crate::capture::{Asked, MICROSECONDS, NANOSECONDS};
-use crate::generate::{flip, other_edition, random_bytes};
-use crate::numbers::{set_up, Numbers, EDITIONS, EDITION_1};
+use crate::generate::{flip, other_edition, other_profile, random_bytes, WIDE_PROFILES};
+use crate::numbers::{set_up, Numbers, EDITIONS, EDITION_1, PROFILES};
 use crate::packet::Packet;
 use crate::pcap::{Capture, Frame, IPV4, TAG};
 use crate::random::Random;
@@ -23,7 +23,8 @@ pub fn capture(seed: u64, index: u64) -> (Asked, Vec<u8>) {
     // cases; captures must not repeat their choices.
     let (asked, bytes) = any_capture(&mut Random::new(seed ^ 0x7063_6170, index));
     let edition = any_edition(&mut Random::new(seed ^ 0x6564_6974, index));
-    (asked.by(edition), bytes)
+    let profile = any_profile(&mut Random::new(seed ^ 0x7072_6f66, index));
+    (asked.by(edition).of(profile), bytes)
 }
 
 /// Now and then one that there is not.
@@ -32,6 +33,15 @@ fn any_edition(random: &mut Random) -> u32 {
         other_edition(random)
     } else {
         random.pick(&EDITIONS)
+    }
+}
+
+/// Now and then one that there is not, or that no profile has room for.
+fn any_profile(random: &mut Random) -> u64 {
+    match random.below(100) {
+        0..=4 => other_profile(random),
+        5..=6 => random.pick(&WIDE_PROFILES),
+        _ => random.pick(&PROFILES),
     }
 }
 
@@ -49,7 +59,7 @@ fn any_capture(random: &mut Random) -> (Asked, Vec<u8>) {
     }
 }
 
-/// Writes `count` captures `NNNNNN.pcap`, and the ten words asked of each as
+/// Writes `count` captures `NNNNNN.pcap`, and the eleven words asked of each as
 /// `NNNNNN.words`.
 pub fn generate(seed: u64, count: u64, directory: &Path) -> io::Result<()> {
     std::fs::create_dir_all(directory)?;

@@ -600,9 +600,9 @@ fn long_frames_in_a_capture() {
 
 /// The words of the program, and a default TRO among them.
 #[test]
-fn ten_words() {
+fn eleven_words() {
     let words = asked(37).words().join(" ");
-    assert_eq!(words, "20000 37 6 0 1 1080 4 1460 4294967295 1");
+    assert_eq!(words, "20000 37 6 0 1 1080 4 1460 4294967295 1 1");
 }
 
 // --- generated captures ---

@@ -5,7 +5,7 @@
 use vtiming_reference::capture::NANOSECONDS;
 use vtiming_reference::cases::edition_streams;
 use vtiming_reference::feed::{cut_everywhere, Lists};
-use vtiming_reference::generate::{file, under, OTHER_EDITIONS};
+use vtiming_reference::generate::{as_profiles, file, under, OTHER_EDITIONS};
 use vtiming_reference::pcap::{Capture, Frame};
 use vtiming_reference::record::read;
 use vtiming_reference::stream::mended_numbers;
@@ -294,7 +294,7 @@ fn asked(edition: u32) -> Asked {
     }
 }
 
-/// `vcapture` has the edition as its tenth word, and prints `buffer broken` with
+/// `vcapture` has the edition as its last word, and prints `buffer broken` with
 /// frame and kind.
 #[test]
 fn a_capture_by_both_editions() {
@@ -308,7 +308,7 @@ fn a_capture_by_both_editions() {
     assert_eq!(last(EDITION_1), "buffer under 2 0 records 12 skipped 0");
     assert_eq!(last(EDITION_2), "buffer broken 1 1 records 12 skipped 0");
     let words = asked(EDITION_2).words().join(" ");
-    assert_eq!(words, "20000 0 6 0 1 1080 4 8960 4294967295 2");
+    assert_eq!(words, "20000 0 6 0 1 1080 4 8960 4294967295 1 2");
     for edition in OTHER_EDITIONS {
         let text = expected_capture_output(&asked(edition), &bytes);
         assert_eq!(text, "refused 8 0\n");
@@ -536,7 +536,8 @@ fn a_list_is_fed_by_both_editions() {
 #[test]
 fn edition_2_is_edition_1_up_to_the_first_broken_frame() {
     let mut seen = [0; 4];
-    for bytes in (0..1500).map(|index| file(11, index)) {
+    let as_video = |index| as_profiles(&[VIDEO], &file(11, index)).concat();
+    for bytes in (0..1500).map(as_video) {
         let [one, two] = EDITIONS.map(|edition| read(edition, &bytes));
         assert_eq!(one.refusal, two.refusal);
         let (by_1, by_2) = match (one.limits, two.limits) {

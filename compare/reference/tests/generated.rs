@@ -1,7 +1,8 @@
 //! The generated files reach what they are meant to reach: every refusal of a
 //! file, every kind and verdict, arrivals exactly on reads and drains, and
 //! timestamps from both sides of a wrap and of a tie. So do the captures, what is
-//! asked for the next read, and files and lists under every version.
+//! asked for the next read, and files and lists under every version, by every edition
+//! and as every profile.
 
 use std::collections::BTreeMap;
 
@@ -10,7 +11,9 @@ use vtiming_reference::capture::{Carried, Why};
 use vtiming_reference::cases::{captures, cases, fixed, waits, Call, Case, ROUND};
 use vtiming_reference::fraction::Fraction;
 use vtiming_reference::frame::{closed_frames, t_cf, Kind};
-use vtiming_reference::generate::{file, under, LOOKALIKES, OTHER_EDITIONS, OTHER_VERSIONS};
+use vtiming_reference::generate::{as_profiles, file, under, FIRST_KIND};
+use vtiming_reference::generate::{LOOKALIKES, OTHER_EDITIONS, OTHER_VERSIONS};
+use vtiming_reference::generate::{OTHER_PROFILES, PROFILE_LOOKALIKES, WIDE_PROFILES};
 use vtiming_reference::measure::{measure_accepted, Row};
 use vtiming_reference::numbers::{GRAINS_PER_NANOSECOND, GRAINS_PER_SECOND, GRAINS_PER_TICK, WRAP};
 use vtiming_reference::packet::LONGEST_HISTORY;
@@ -691,7 +694,7 @@ fn everything_of_captures() -> Vec<String> {
         all.push(format!("magic [{}]", magic));
     }
     all.extend((0..4).map(|kind| format!("kind {}", kind)));
-    let refusals = [1, 2, 3, 4, 5, 6, 7, 8, 12, 13, 30, 31, 32, 33];
+    let refusals = [1, 2, 3, 4, 5, 6, 7, 8, 12, 13, 22, 30, 31, 32, 33];
     all.extend(refusals.iter().map(|number| format!("refused {}", number)));
     all.extend(REASONS.iter().map(|why| format!("skipped: {:?}", why)));
     all.sort();
@@ -723,8 +726,8 @@ const REASONS: [Why; 16] = [
 fn captures_reach_everything() {
     let mut seen = Seen::default();
     for (asked, bytes) in captures() {
-        for edition in [1, 2, 3] {
-            look_at_capture(&mut seen, &asked.by(edition), &bytes);
+        for (edition, profile) in [(1, 1), (2, 1), (3, 1), (2, 3), (1, 4)] {
+            look_at_capture(&mut seen, &asked.by(edition).of(profile), &bytes);
         }
     }
     let fixed: Vec<String> = seen.0.into_keys().collect();
@@ -793,14 +796,17 @@ fn reach_every_answer(cases: &[Case]) {
             "measure",
             &[0, 1, 2, 3, 4, 5, 6, 7, 8, 11, 12, 13, 15, 20, 21, 22, 23],
         ),
-        ("write", &[0, 1, 2, 3, 4, 5, 6, 7, 10, 11, 12, 13, 20, 24]),
+        (
+            "write",
+            &[0, 1, 2, 3, 4, 5, 6, 7, 10, 11, 12, 13, 20, 22, 24],
+        ),
         ("limits", &[0, 1, 2, 3, 4, 5, 6, 7, 15]),
         ("graph", &[0, 15, 16]),
-        ("set-up", &[0, 1, 2, 3, 4, 5, 6, 7, 8, 15]),
+        ("set-up", &[0, 1, 2, 3, 4, 5, 6, 7, 8, 15, 22]),
         ("feed", &[0, 9, 10, 11, 12, 13, 14, 15]),
         (
             "capture",
-            &[0, 1, 2, 3, 4, 5, 6, 7, 8, 12, 13, 15, 30, 31, 32, 33],
+            &[0, 1, 2, 3, 4, 5, 6, 7, 8, 12, 13, 15, 22, 30, 31, 32, 33],
         ),
         ("next-read", &[0, 1, 2, 3, 4, 5, 6, 7, 12, 13, 15]),
     ];
@@ -873,6 +879,33 @@ fn edition_of(call: &Call) -> Option<u32> {
     }
 }
 
+/// The profile of a call that takes one; of a file the kind of its first record, if
+/// that is one of parameters.
+fn profile_of(call: &Call) -> Option<u64> {
+    match call {
+        Call::Measure { file, .. } => {
+            let kind = file.get(FIRST_KIND).map(|kind| u64::from(*kind));
+            kind.filter(|kind| PROFILES.contains(kind))
+        }
+        Call::Write { numbers, .. } | Call::SetUp { numbers, .. } => Some(numbers.profile),
+        Call::Feed { numbers, .. } => Some(numbers.profile),
+        Call::Capture { asked, .. } => Some(asked.numbers.profile),
+        _ => None,
+    }
+}
+
+/// The same call, as another profile.
+fn as_profile(call: &Call, profile: u64) -> Call {
+    let mut other = call.clone();
+    match &mut other {
+        Call::Measure { file, .. } => file[FIRST_KIND] = profile as u8,
+        Call::Write { numbers, .. } | Call::SetUp { numbers, .. } => numbers.profile = profile,
+        Call::Capture { asked, .. } => asked.numbers.profile = profile,
+        _ => unreachable!("no other call is the same as another profile"),
+    }
+    other
+}
+
 /// The same call, under another version.
 fn in_version(call: &Call, version: u8) -> Call {
     let mut other = call.clone();
@@ -895,30 +928,60 @@ fn by_edition(call: &Call, by: u32) -> Call {
     other
 }
 
-/// The versions and editions of an input that has a version; it comes under
-/// versions 1 and 2 and then under others, and is else the same.
-fn versions_of(input: &[Case]) -> Vec<(u8, Option<u32>)> {
+/// Under which version, by which edition and as which profile a case comes.
+#[derive(Clone, Copy, Debug, PartialEq, Eq)]
+struct Tried {
+    version: Option<u8>,
+    edition: Option<u32>,
+    profile: Option<u64>,
+}
+
+fn tried(case: &Case) -> Tried {
+    Tried {
+        version: version_of(&case.call),
+        edition: edition_of(&case.call),
+        profile: profile_of(&case.call),
+    }
+}
+
+/// The first call of an input, as it is tried otherwise.
+fn as_tried(first: &Call, tried: &Tried) -> Call {
+    let mut call = first.clone();
+    if let Some(version) = tried.version {
+        call = in_version(&call, version);
+    }
+    if let Some(edition) = tried.edition {
+        call = by_edition(&call, edition);
+    }
+    if let Some(profile) = tried.profile {
+        call = as_profile(&call, profile);
+    }
+    call
+}
+
+/// How an input that has a version is tried; it comes under versions 1 and 2 and then
+/// under others, and is else the same.
+fn versions_of(input: &[Case]) -> Vec<Tried> {
     let first = version_of(&input[0].call);
     if !matches!(first, Some(1 | 2)) {
         return vec![];
     }
-    let tried = |case: &Case| (version_of(&case.call).unwrap(), edition_of(&case.call));
-    let all: Vec<(u8, Option<u32>)> = input.iter().map(tried).collect();
-    for (case, (version, edition)) in input.iter().zip(&all) {
-        let mut call = in_version(&input[0].call, *version);
-        if let Some(edition) = edition {
-            call = by_edition(&call, *edition);
-        }
-        assert_eq!(case.call, call);
+    let all: Vec<Tried> = input.iter().map(tried).collect();
+    for (case, tried) in input.iter().zip(&all) {
+        assert_eq!(case.call, as_tried(&input[0].call, tried));
     }
     all
 }
 
-/// The case of an input in that version, by edition 1 if it takes any.
+/// The case of an input in that version, as video, by edition 1 if it takes any.
 fn case_in(input: &[Case], version: u8) -> &Case {
-    let by_1 = |case: &&Case| matches!(edition_of(&case.call), None | Some(EDITION_1));
-    let mut cases = input.iter().filter(by_1);
-    let found = cases.find(|case| version_of(&case.call) == Some(version));
+    let wanted = |case: &&Case| {
+        let tried = tried(case);
+        matches!(tried.edition, None | Some(EDITION_1))
+            && matches!(tried.profile, None | Some(VIDEO))
+            && tried.version == Some(version)
+    };
+    let found = input.iter().find(wanted);
     found.expect("every input of a version has both")
 }
 
@@ -930,64 +993,157 @@ fn is_other_edition(edition: u32) -> bool {
     !EDITIONS.contains(&edition)
 }
 
+fn is_other_profile(profile: u64) -> bool {
+    !PROFILES.contains(&profile)
+}
+
+/// The fixed inputs, and some generated ones; and whether an input is fixed.
+fn all_inputs(seed: u64) -> Vec<(bool, Vec<Case>)> {
+    let generated = (0..100 * ROUND).map(|index| (false, cases(seed, index)));
+    let fixed = fixed().into_iter().map(|input| (true, input));
+    fixed.chain(generated).collect()
+}
+
+fn sort_of(fixed: bool) -> &'static str {
+    if fixed {
+        "fixed"
+    } else {
+        "generated"
+    }
+}
+
+/// Lists are to be written as video in both versions, and as compressed in both or in
+/// one; then in versions and as profiles that there are not.
+fn look_at_written(seen: &mut Seen, fixed: bool, all: &[Tried]) {
+    let asked: Vec<(u8, u64)> = all
+        .iter()
+        .map(|tried| (tried.version.unwrap(), tried.profile.unwrap()))
+        .collect();
+    let (compressed, versions) = if fixed { (2, 3) } else { (1, 1) };
+    assert_eq!(asked.len(), if fixed { 12 } else { 5 });
+    assert_eq!(asked[..2], [(1, VIDEO), (2, VIDEO)]);
+    let (as_compressed, others) = asked[2..].split_at(compressed);
+    for (version, profile) in as_compressed {
+        assert!(!is_other_version(*version) && *profile == COMPRESSED);
+        seen.add(&format!("{} in {}", sort_of(fixed), version));
+    }
+    assert!(!fixed || as_compressed[0] != as_compressed[1]);
+    let (by_20, by_22) = others.split_at(versions);
+    assert!(by_20.iter().all(|(version, _)| is_other_version(*version)));
+    assert!(by_22
+        .iter()
+        .all(|(version, profile)| { !is_other_version(*version) && is_other_profile(*profile) }));
+    let versions: Vec<u8> = by_20.iter().map(|(version, _)| *version).collect();
+    let profiles: Vec<u64> = by_22.iter().map(|(_, profile)| *profile).collect();
+    assert!(!fixed || versions == OTHER_VERSIONS);
+    assert!(!fixed || profiles[..4] == OTHER_PROFILES);
+    assert!(!fixed || PROFILE_LOOKALIKES.contains(&profiles[4]));
+    for (version, profile) in others {
+        let of = (version.clamp(&0, &3), profile.clamp(&0, &4));
+        let sort = sort_of(fixed);
+        seen.add(&format!("{} list version {} as {}", sort, of.0, of.1));
+    }
+}
+
+/// A file is measured as video in both versions by both editions; as compressed in
+/// both versions, by both editions or by one, if its first record is one of
+/// parameters; then in versions and by editions that there are not.
+fn look_at_measured(seen: &mut Seen, fixed: bool, all: &[Tried]) {
+    let asked: Vec<(u8, u32)> = all
+        .iter()
+        .map(|tried| (tried.version.unwrap(), tried.edition.unwrap()))
+        .collect();
+    let compressed = match (all[0].profile, fixed) {
+        (None, _) => 0,
+        (_, true) => 4,
+        (_, false) => 2,
+    };
+    let (versions, editions) = if fixed { (3, 5) } else { (1, 1) };
+    assert_eq!(asked.len(), 4 + compressed + versions + editions);
+    assert_eq!(asked[..4], [(1, 1), (1, 2), (2, 1), (2, 2)]);
+    for (place, tried) in all[..4 + compressed].iter().enumerate() {
+        let profile = if place < 4 { VIDEO } else { COMPRESSED };
+        assert!(tried.profile.map_or(compressed == 0, |own| own == profile));
+    }
+    let (as_compressed, others) = asked[4..].split_at(compressed);
+    for (version, edition) in as_compressed {
+        assert!(!is_other_version(*version) && !is_other_edition(*edition));
+        seen.add(&format!("{} in {} by {}", sort_of(fixed), version, edition));
+    }
+    let different = |place: usize| !as_compressed[..place].contains(&as_compressed[place]);
+    assert!((0..compressed).all(different));
+    let (by_20, by_8) = others.split_at(versions);
+    assert!(by_20.iter().all(|(version, _)| is_other_version(*version)));
+    assert!(by_8
+        .iter()
+        .all(|(version, edition)| { !is_other_version(*version) && is_other_edition(*edition) }));
+    let versions: Vec<u8> = by_20.iter().map(|(version, _)| *version).collect();
+    assert!(!fixed || versions == OTHER_VERSIONS);
+    for (tried, (version, edition)) in all[4 + compressed..].iter().zip(others) {
+        let (sort, of) = (sort_of(fixed), version.clamp(&0, &3));
+        let by = edition.clamp(&0, &3);
+        seen.add(&format!("{} version {} by {}", sort, of, by));
+        if let Some(profile) = tried.profile {
+            seen.add(&format!("{} version {} as {}", sort, of, profile));
+        }
+    }
+}
+
 /// Every file that has a version, and all lists: the fixed ones under 1, 2, 0, 3
-/// and 255, the generated ones under 1, 2 and one that there is not. A file is
-/// measured in versions 1 and 2 by both editions.
+/// and 255, the generated ones under 1, 2 and one that there is not.
 #[test]
 fn every_file_and_every_list_is_tried_in_both_versions() {
     let mut seen = Seen::default();
-    let generated = (0..100 * ROUND).map(|index| (3, 6, cases(2, index)));
-    for (of_lists, of_files, input) in fixed().into_iter().map(|i| (5, 12, i)).chain(generated) {
+    for (fixed, input) in all_inputs(2) {
         let tried = versions_of(&input);
         let name = name_of(&input[0].call);
-        let sort = if of_lists == 5 { "fixed" } else { "generated" };
         if tried.is_empty() {
             continue;
         }
-        seen.add(&format!("{} {}", sort, name));
+        seen.add(&format!("{} {}", sort_of(fixed), name));
         if name == "write" {
-            let versions: Vec<u8> = tried.iter().map(|(version, _)| *version).collect();
-            assert_eq!(versions.len(), of_lists);
-            assert_eq!(versions[..2], [1, 2]);
-            assert!(versions[2..]
-                .iter()
-                .all(|version| is_other_version(*version)));
-            assert!(sort == "generated" || versions[2..] == OTHER_VERSIONS);
+            look_at_written(&mut seen, fixed, &tried);
         } else {
-            let tried: Vec<(u8, u32)> = tried.iter().map(|(v, e)| (*v, e.unwrap())).collect();
-            assert_eq!(tried.len(), of_files);
-            assert_eq!(tried[..4], [(1, 1), (1, 2), (2, 1), (2, 2)]);
-            let (versions, editions) = tried[4..].split_at(of_lists - 2);
-            assert!(versions
-                .iter()
-                .all(|(version, _)| is_other_version(*version)));
-            assert!(editions.iter().all(|(version, edition)| {
-                !is_other_version(*version) && is_other_edition(*edition)
-            }));
-            let versions: Vec<u8> = versions.iter().map(|(version, _)| *version).collect();
-            assert!(sort == "generated" || versions == OTHER_VERSIONS);
-            for (version, edition) in &tried[4..] {
-                let of = version.clamp(&0, &3);
-                seen.add(&format!(
-                    "{} version {} by {}",
-                    sort,
-                    of,
-                    edition.clamp(&0, &3)
-                ));
-            }
+            look_at_measured(&mut seen, fixed, &tried);
         }
     }
     // Of 1,200 files some are empty or of no version; of lists there are 400.
     assert!(seen.0["generated measure"] > 1000);
     assert_eq!(seen.0["generated write"], 400);
     assert!(seen.0["fixed measure"] > 500 && seen.0["fixed write"] > 200);
-    // A version that there is not is tried by all sorts of editions, and an edition
-    // that there is not in both versions.
+    // A version that there is not is tried by all sorts of editions and as all sorts
+    // of profiles, an edition or a profile that there is not in both versions; and
+    // what is compressed in both, by both.
     for what in [
-        "0 by 0", "3 by 1", "3 by 2", "3 by 3", "1 by 3", "2 by 3", "1 by 0", "2 by 0",
+        "version 0 by 0",
+        "version 3 by 1",
+        "version 3 by 2",
+        "version 3 by 3",
+        "version 1 by 3",
+        "version 2 by 3",
+        "version 1 by 0",
+        "version 2 by 0",
+        "version 0 as 1",
+        "version 0 as 3",
+        "version 1 as 3",
+        "version 2 as 1",
+        "list version 0 as 0",
+        "list version 3 as 1",
+        "list version 3 as 3",
+        "list version 3 as 4",
+        "list version 1 as 0",
+        "list version 2 as 2",
+        "list version 1 as 4",
+        "list version 2 as 4",
+        "in 1",
+        "in 2",
+        "in 1 by 1",
+        "in 1 by 2",
+        "in 2 by 1",
+        "in 2 by 2",
     ] {
         for sort in ["fixed", "generated"] {
-            let what = format!("{} version {}", sort, what);
+            let what = format!("{} {}", sort, what);
             assert!(seen.0.contains_key(&what), "never seen: {}", what);
         }
     }
@@ -1014,6 +1170,9 @@ fn look_at_faults(seen: &mut Seen, input: &[Case]) {
         if edition_of(&case.call).map_or(false, is_other_edition) {
             seen.add(&format!("{} 8", name));
         }
+        if profile_of(&case.call).map_or(false, is_other_profile) {
+            seen.add(&format!("{} 22", name));
+        }
     }
 }
 
@@ -1022,7 +1181,7 @@ fn look_at_faults(seen: &mut Seen, input: &[Case]) {
 #[test]
 fn other_versions_are_tried_with_every_other_fault() {
     let of_files = [0, 1, 2, 3, 4, 5, 6, 7, 8, 11, 12, 13, 15, 21, 22, 23];
-    let of_lists = [0, 1, 2, 3, 4, 5, 6, 7, 10, 11, 12, 13, 24];
+    let of_lists = [0, 1, 2, 3, 4, 5, 6, 7, 10, 11, 12, 13, 22, 24];
     let named = |name, number: &i32| format!("{} {}", name, number);
     let mut wanted: Vec<String> = of_files.iter().map(|n| named("measure", n)).collect();
     wanted.extend(of_lists.iter().map(|n| named("write", n)));
@@ -1120,52 +1279,86 @@ fn what_class_0_means_shows_in_the_cases() {
 
 // --- request (vi) ---
 
-/// Captures and set-ups come by each edition and by others, the fixed ones by all
-/// of these; and so do files of no version. A list is fed by each edition, and its
-/// numbers are set up by the others.
+/// By which editions and as which profiles an input without a version comes: as video
+/// by both, as compressed by both or by one, then by editions and as profiles that
+/// there are not.
+fn look_at_by(fixed: bool, by: &[(u32, u64)]) {
+    let (compressed, others) = if fixed { (2, 5) } else { (1, 1) };
+    assert_eq!(by.len(), 2 + compressed + 2 * others);
+    assert_eq!(by[..2], [(EDITION_1, VIDEO), (EDITION_2, VIDEO)]);
+    let (as_compressed, rest) = by[2..].split_at(compressed);
+    assert!(as_compressed
+        .iter()
+        .all(|(edition, profile)| { !is_other_edition(*edition) && *profile == COMPRESSED }));
+    assert!(!fixed || as_compressed[0] != as_compressed[1]);
+    let (by_8, by_22) = rest.split_at(others);
+    assert!(by_8
+        .iter()
+        .all(|(edition, profile)| { is_other_edition(*edition) && !is_other_profile(*profile) }));
+    assert!(by_22.iter().all(|(_, profile)| is_other_profile(*profile)));
+    let editions: Vec<u32> = by_8.iter().map(|(edition, _)| *edition).collect();
+    let profiles: Vec<u64> = by_22.iter().map(|(_, profile)| *profile).collect();
+    if fixed {
+        assert!(editions[..4] == OTHER_EDITIONS && LOOKALIKES.contains(&editions[4]));
+        assert!(profiles[..4] == OTHER_PROFILES && PROFILE_LOOKALIKES.contains(&profiles[4]));
+    }
+}
+
+/// A list that is fed has its numbers set up by what is refused.
+fn look_at_fed(fixed: bool, input: &[Case]) {
+    let good = if fixed { 4 } else { 3 };
+    let video = match &input[0].call {
+        Call::Feed { numbers, .. } => *numbers,
+        _ => unreachable!("it is fed"),
+    };
+    for case in &input[..good] {
+        let profile = profile_of(&case.call).unwrap();
+        let same = |numbers: &Numbers| *numbers == video.of(profile);
+        assert!(matches!(&case.call, Call::Feed { numbers, .. } if same(numbers)));
+    }
+    for case in &input[good..] {
+        let profile = profile_of(&case.call).unwrap();
+        let same = |numbers: &Numbers| *numbers == video.of(profile);
+        assert!(matches!(&case.call, Call::SetUp { numbers, .. } if same(numbers)));
+        let number = if is_other_profile(profile) { 22 } else { 8 };
+        assert!(case.rooms.iter().all(|room| room.number == number));
+    }
+}
+
+/// Captures and set-ups come by each edition, as each profile and by others, the
+/// fixed ones by all of these. A list is fed by each edition and as each profile, and
+/// its numbers are set up by the others. Files of no version come by each edition and
+/// by others.
 #[test]
-fn every_input_is_tried_by_both_editions_and_by_others() {
+fn every_input_is_tried_by_both_editions_as_both_profiles_and_by_others() {
     let mut seen = Seen::default();
-    let generated = (0..100 * ROUND).map(|index| (false, cases(2, index)));
-    for (all, input) in fixed()
-        .into_iter()
-        .map(|input| (true, input))
-        .chain(generated)
-    {
+    for (fixed, input) in all_inputs(2) {
         let first = &input[0].call;
         if edition_of(first).is_none() || !versions_of(&input).is_empty() {
             assert!(edition_of(first).is_some() || input.iter().all(|c| c.rooms.len() < 6));
             continue;
         }
-        let editions: Vec<u32> = input.iter().flat_map(|c| edition_of(&c.call)).collect();
-        assert_eq!(editions.len(), input.len());
-        let (good, others) = editions.split_at(2);
-        assert_eq!(good, EDITIONS);
-        assert!(others.iter().all(|edition| is_other_edition(*edition)));
-        assert_eq!(others.len(), if all { 5 } else { 1 });
-        assert!(!all || (others[..4] == OTHER_EDITIONS && LOOKALIKES.contains(&others[4])));
         let name = name_of(first);
-        seen.add(&format!(
-            "{} {}",
-            if all { "fixed" } else { "generated" },
-            name
-        ));
-        match first {
-            Call::Feed { numbers, .. } => {
-                assert!(
-                    matches!(&input[1].call, Call::Feed { numbers: by_2, .. } if by_2 == numbers)
-                );
-                for case in &input[2..] {
-                    assert!(
-                        matches!(&case.call, Call::SetUp { numbers: other, .. } if other == numbers)
-                    );
-                    assert!(case.rooms.iter().all(|room| room.number == 8));
-                }
-            }
-            _ => {
-                for (case, edition) in input.iter().zip(&editions) {
-                    assert_eq!(case.call, by_edition(first, *edition));
-                }
+        seen.add(&format!("{} {}", sort_of(fixed), name));
+        let tried: Vec<Tried> = input.iter().map(tried).collect();
+        if name == "measure" {
+            let editions: Vec<u32> = tried.iter().map(|tried| tried.edition.unwrap()).collect();
+            assert_eq!(editions[..2], EDITIONS);
+            assert!(editions[2..]
+                .iter()
+                .all(|edition| is_other_edition(*edition)));
+            assert_eq!(editions.len(), if fixed { 7 } else { 3 });
+            continue;
+        }
+        let by = tried
+            .iter()
+            .map(|tried| (tried.edition.unwrap(), tried.profile.unwrap()));
+        look_at_by(fixed, &by.collect::<Vec<(u32, u64)>>());
+        if name == "feed" {
+            look_at_fed(fixed, &input);
+        } else {
+            for (case, tried) in input.iter().zip(&tried) {
+                assert_eq!(case.call, as_tried(first, tried));
             }
         }
     }
@@ -1247,21 +1440,25 @@ fn look_at_editions(seen: &mut Seen, name: &str, by_1: &Answer, by_2: &Answer) {
     }
 }
 
-/// By edition 1 and by edition 2, in one version.
+/// By edition 1 and by edition 2, in one version, as video.
 fn look_at_input(seen: &mut Seen, input: &[Case]) {
-    for by_1 in input
-        .iter()
-        .filter(|c| edition_of(&c.call) == Some(EDITION_1))
-    {
+    let by_1 = |case: &&Case| edition_of(&case.call) == Some(EDITION_1) && !compressed(case);
+    for by_1 in input.iter().filter(by_1) {
+        let one = tried(by_1);
         let same = |case: &&Case| {
-            edition_of(&case.call) == Some(EDITION_2)
-                && version_of(&case.call) == version_of(&by_1.call)
+            tried(case)
+                == Tried {
+                    edition: Some(EDITION_2),
+                    ..one
+                }
         };
         let by_2 = match input.iter().find(same) {
             Some(by_2) => by_2,
-            // In a version that there is not it comes by one edition alone.
+            // In a version or as a profile that there is not it comes by one edition
+            // alone.
             None => {
-                assert!(version_of(&by_1.call).map_or(false, is_other_version));
+                let other_version = one.version.map_or(false, is_other_version);
+                assert!(other_version || one.profile.map_or(false, is_other_profile));
                 continue;
             }
         };
@@ -1270,6 +1467,10 @@ fn look_at_input(seen: &mut Seen, input: &[Case]) {
             (one, two) => assert!(one.is_none() && two.is_none()),
         }
     }
+}
+
+fn compressed(case: &Case) -> bool {
+    profile_of(&case.call) == Some(COMPRESSED)
 }
 
 /// All that two editions can answer to one input, files, captures and feeds alike.
@@ -1315,17 +1516,27 @@ fn the_editions_answer_in_every_way() {
     }
 }
 
+/// The same input in the same version, as video and by edition 1, if it comes so.
+fn by_1_as_video<'a>(input: &'a [Case], case: &Case) -> Option<&'a Case> {
+    input.iter().find(|by_1| {
+        edition_of(&by_1.call).map_or(true, |edition| edition == EDITION_1)
+            && version_of(&by_1.call) == version_of(&case.call)
+            && matches!(profile_of(&by_1.call), None | Some(VIDEO))
+            && name_of(&by_1.call) == name_of(&case.call)
+    })
+}
+
 /// An edition that there is not, with whatever else is wrong: what comes before 8
-/// is given as by edition 1, and what comes after it is not.
+/// is given as by edition 1, and what comes after it is not. As a profile that there
+/// is not it is refused by 22, before 8.
 fn look_at_other_editions(seen: &mut Seen, input: &[Case]) {
-    let other = |case: &&Case| edition_of(&case.call).map_or(false, is_other_edition);
+    let other = |case: &&Case| {
+        edition_of(&case.call).map_or(false, is_other_edition)
+            && !profile_of(&case.call).map_or(false, is_other_profile)
+    };
     for case in input.iter().filter(other) {
         let name = name_of(&case.call);
-        let by_1 = input.iter().find(|by_1| {
-            edition_of(&by_1.call) == Some(EDITION_1)
-                && version_of(&by_1.call) == version_of(&case.call)
-                && name_of(&by_1.call) == name
-        });
+        let by_1 = by_1_as_video(input, case);
         for room in &case.rooms {
             if room.number != 8 {
                 seen.add(&format!("{} wins {}", name, room.number));
@@ -1395,6 +1606,7 @@ fn states_of_both_editions_are_changed_on_both_sides() {
     let mut seen = Seen::default();
     for case in fixed_cases() {
         let (edition, calls) = match case.call {
+            Call::Feed { numbers, .. } if numbers.profile != VIDEO => continue,
             Call::Feed { edition, calls, .. } => (edition, calls),
             _ => continue,
         };
@@ -1414,9 +1626,9 @@ fn states_of_both_editions_are_changed_on_both_sides() {
                     edition, told, to, feed.number
                 ));
             }
-            if let Some((_, 4)) = word(31) {
+            if let (Some((_, 4)), None) = (word(32), word(8)) {
                 let to = word(7).map_or(edition, |(_, to)| *to as u32);
-                let kind = word(33).unwrap().1.min(4);
+                let kind = word(34).unwrap().1.min(4);
                 seen.add(&format!(
                     "by {}, broken of kind {}: {}",
                     to, kind, feed.number
@@ -1451,6 +1663,322 @@ fn states_of_both_editions_are_changed_on_both_sides() {
     }
     assert!(!seen.0.contains_key("by 1, broken of kind 1: 0"));
     assert!(!seen.0.contains_key("by 2, broken, edition 1: 0"));
+}
+
+// --- request (vii) ---
+
+/// What one input is answered as compressed and as video, in one version and by one
+/// edition: "peak and least 0 for whole frames", the buffer answer "always none", and
+/// all else the same.
+fn look_at_profiles(seen: &mut Seen, what: &str, compressed: &Answer, video: &Answer) {
+    assert_eq!(compressed.nine[..6], video.nine[..6]);
+    assert_eq!(compressed.nine[6..], [0, 0, 0]);
+    let mut rows = video.rows.clone();
+    for row in &mut rows {
+        row[8] = 0;
+        row[9] = 0;
+    }
+    assert_eq!(compressed.rows, rows);
+    seen.add(&format!("{}: {}", what, BUFFERS[video.nine[6] as usize]));
+    for row in &video.rows {
+        if row[1] != 0 {
+            seen.add(&format!("{}: a broken frame", what));
+        } else if row[8] != 0 && row[9] < 0 {
+            seen.add(&format!("{}: a whole frame with peak and least", what));
+        }
+    }
+}
+
+/// Every case of an input that is compressed beside the one that is video.
+fn look_at_compressed(seen: &mut Seen, input: &[Case]) {
+    let both = |case: &&Case| {
+        let tried = tried(case);
+        compressed(case)
+            && !tried.version.map_or(false, is_other_version)
+            && !tried.edition.map_or(false, is_other_edition)
+    };
+    for case in input.iter().filter(both) {
+        let wanted = Tried {
+            profile: Some(VIDEO),
+            ..tried(case)
+        };
+        let video = input.iter().find(|other| tried(other) == wanted);
+        let video = video.expect("it comes as video too");
+        let name = name_of(&case.call);
+        let what = match edition_of(&case.call) {
+            Some(edition) => format!("{} by {}", name, edition),
+            None => name.to_string(),
+        };
+        assert_eq!(case.rooms.len(), video.rooms.len());
+        match (answer_of(case), answer_of(video)) {
+            (Some(one), Some(other)) => look_at_profiles(seen, &what, &one, &other),
+            (one, other) => assert!(one.is_none() && other.is_none()),
+        }
+        if case.rooms.iter().any(|room| room.number == 0) && name == "write" {
+            // Written they are the same but for the kind.
+            assert_eq!(case.filled[FIRST_KIND], 3);
+            let twin = as_profiles(&[VIDEO], &case.filled);
+            assert_eq!(twin, [video.filled.clone()]);
+        }
+        for room in case.rooms.iter().filter(|_| name != "feed") {
+            seen.add(&format!("{}: {}", name, room.number));
+        }
+    }
+}
+
+/// What must be seen of files, captures and feeds that are compressed: by each edition
+/// each answer that the stream has as video; and every refusal.
+fn everything_of_profiles() -> Vec<String> {
+    let mut all = vec![];
+    for name in ["capture", "feed", "measure"] {
+        for edition in EDITIONS {
+            let answers = if edition == EDITION_1 { 4 } else { 5 };
+            for answer in &BUFFERS[..answers] {
+                all.push(format!("{} by {}: {}", name, edition, answer));
+            }
+            for frame in ["a broken frame", "a whole frame with peak and least"] {
+                all.push(format!("{} by {}: {}", name, edition, frame));
+            }
+        }
+    }
+    for (name, numbers) in [
+        (
+            "measure",
+            &[0, 1, 2, 3, 4, 5, 6, 7, 11, 12, 13, 15, 21, 22, 23][..],
+        ),
+        (
+            "capture",
+            &[0, 1, 2, 3, 4, 5, 6, 7, 12, 13, 15, 30, 31, 32, 33],
+        ),
+        ("set-up", &[0, 1, 2, 3, 4, 5, 6, 7, 15]),
+        ("write", &[0, 1, 2, 3, 4, 5, 6, 7, 10, 11, 12, 13, 24]),
+    ] {
+        all.extend(numbers.iter().map(|number| format!("{}: {}", name, number)));
+    }
+    all.sort();
+    all
+}
+
+/// By the fixed inputs alone, and by generated ones: streams that would fail by under,
+/// by over, or by a broken frame, and are answered none as compressed.
+#[test]
+fn what_is_compressed_is_answered_as_video_is_but_for_reads() {
+    let generated = (0..100 * ROUND).map(|index| cases(12, index)).collect();
+    for inputs in [fixed(), generated] {
+        let mut seen = Seen::default();
+        inputs
+            .iter()
+            .for_each(|input| look_at_compressed(&mut seen, input));
+        println!("{:#?}", seen.0);
+        let seen: Vec<String> = seen.0.into_keys().collect();
+        assert_eq!(seen, everything_of_profiles());
+    }
+}
+
+/// A profile that there is not, with whatever else is wrong: 22 at 0, and nothing is
+/// written; 20 alone comes before it.
+fn look_at_other_profiles(seen: &mut Seen, input: &[Case]) {
+    let other = |case: &&Case| profile_of(&case.call).map_or(false, is_other_profile);
+    for case in input.iter().filter(other) {
+        let name = name_of(&case.call);
+        assert!(case.filled.is_empty() && case.measured.is_empty());
+        let number = match version_of(&case.call) {
+            Some(version) if is_other_version(version) => 20,
+            _ => 22,
+        };
+        for room in &case.rooms {
+            assert_eq!((room.number, room.place), (number, 0));
+        }
+        assert!(case.rooms.iter().any(|room| room.lent == 0));
+        if number == 20 {
+            seen.add(&format!("{} wins 20", name));
+            continue;
+        }
+        if edition_of(&case.call).map_or(false, is_other_edition) {
+            seen.add(&format!("{} loses 8", name));
+        }
+        for lost in by_1_as_video(input, case).iter().flat_map(|c| &c.rooms) {
+            seen.add(&format!("{} loses {}", name, lost.number));
+        }
+        let profile = profile_of(&case.call).unwrap();
+        if OTHER_PROFILES.contains(&profile) {
+            seen.add(&format!("{} as {}", name, profile));
+        }
+    }
+}
+
+/// "unknown kind", after 20 and before 1: tried with every other refusal, by the fixed
+/// inputs alone and by generated ones.
+#[test]
+fn other_profiles_are_tried_with_every_other_fault() {
+    let mut wanted = vec!["write wins 20".to_string()];
+    for (what, numbers) in [
+        (
+            "write loses",
+            &[0, 1, 2, 3, 4, 5, 6, 7, 10, 11, 12, 13, 24][..],
+        ),
+        (
+            "capture loses",
+            &[0, 1, 2, 3, 4, 5, 6, 7, 8, 12, 13, 15, 30, 31, 32, 33],
+        ),
+        ("set-up loses", &[0, 1, 2, 3, 4, 5, 6, 7, 8, 15]),
+        ("write as", &[0, 2, 4, 255]),
+        ("capture as", &[0, 2, 4, 255]),
+        ("set-up as", &[0, 2, 4, 255]),
+    ] {
+        wanted.extend(numbers.iter().map(|number| format!("{} {}", what, number)));
+    }
+    wanted.sort();
+    let generated = (0..100 * ROUND).map(|index| cases(13, index)).collect();
+    for inputs in [fixed(), generated] {
+        let mut seen = Seen::default();
+        inputs
+            .iter()
+            .for_each(|input| look_at_other_profiles(&mut seen, input));
+        let seen: Vec<String> = seen.0.into_keys().collect();
+        assert_eq!(seen, wanted);
+    }
+}
+
+/// Of a file that is refused by 22 or 23: the kind of the record that is refused, and
+/// of the first one. Parameters take 18 bytes with their length, and come after the
+/// version.
+fn look_at_kinds(seen: &mut Seen, file: &[u8], number: u8, place: usize) {
+    let (length, kind) = match file.get(place..place + 3) {
+        Some(record) => (u16::from_be_bytes([record[0], record[1]]), record[2]),
+        // A lone version byte.
+        None => return,
+    };
+    match number {
+        23 if place == 1 => seen.add(&format!("23: kind {} first", kind)),
+        23 => {
+            let between = if place == 19 { "" } else { " and packets" };
+            let first = file[FIRST_KIND];
+            seen.add(&format!("23: kind {} after {}{}", kind, first, between));
+        }
+        22 if (1..=3).contains(&kind) => {
+            assert_ne!(length, if kind == 2 { 14 } else { 16 });
+            seen.add(&format!("22: kind {} of a wrong length", kind));
+        }
+        22 => {
+            let of = if length == 16 { " of 16 bytes" } else { "" };
+            seen.add(&format!("22: kind {}{}", kind.min(5), of));
+        }
+        _ => {}
+    }
+}
+
+/// "22 and 23 read with that kind too": each order of two kinds of parameters, right
+/// after one another and with packets between them, a packet first, each known kind
+/// of a wrong length, and kind 4; by the fixed inputs alone and by generated ones.
+#[test]
+fn files_are_refused_with_every_kind() {
+    let mut wanted = vec!["23: kind 2 first".to_string()];
+    for (first, again) in [(1, 1), (1, 3), (3, 1), (3, 3)] {
+        for between in ["", " and packets"] {
+            wanted.push(format!("23: kind {} after {}{}", again, first, between));
+        }
+    }
+    wanted.extend((1..=3).map(|kind| format!("22: kind {} of a wrong length", kind)));
+    for kind in [0, 4, 5] {
+        wanted.extend(["", " of 16 bytes"].map(|of| format!("22: kind {}{}", kind, of)));
+    }
+    wanted.sort();
+    let generated = (0..100 * ROUND).map(|index| cases(14, index)).collect();
+    for inputs in [fixed(), generated] {
+        let mut seen = Seen::default();
+        for case in inputs.iter().flatten() {
+            if let Call::Measure { file, .. } = &case.call {
+                let room = &case.rooms[0];
+                look_at_kinds(&mut seen, file, room.number, room.place as usize);
+            }
+        }
+        println!("{:#?}", seen.0);
+        let seen: Vec<String> = seen.0.into_keys().collect();
+        assert_eq!(seen, wanted);
+    }
+}
+
+/// Generated files have both kinds, and generated captures every sort of profile, so
+/// that the programs meet them.
+#[test]
+fn generated_inputs_have_profiles_of_every_sort() {
+    let files: Vec<Vec<u8>> = (0..FILES).map(|index| file(2110, index)).collect();
+    for profile in PROFILES {
+        let own = |file: &&Vec<u8>| read(EDITION_1, file).numbers.map(|n| n.profile);
+        let count = files.iter().filter(|file| own(file) == Some(profile));
+        assert!(count.count() > 400);
+    }
+    let profiles: Vec<u64> = (0..4000)
+        .map(|index| traffic::capture(2110, index).0.numbers.profile)
+        .collect();
+    let count = |profile| profiles.iter().filter(|p| **p == profile).count();
+    assert!(count(VIDEO) > 1000 && count(COMPRESSED) > 1000);
+    for profile in [OTHER_PROFILES, PROFILE_LOOKALIKES, WIDE_PROFILES].concat() {
+        assert!(count(profile) > 0, "never seen: {}", profile);
+    }
+}
+
+/// A state holds the profile as word 8: both sides of its range; and of a compressed
+/// state each number of reads, and each buffer answer, is 9 where it is not 0 or none.
+#[test]
+fn states_of_both_profiles_are_changed_on_both_sides() {
+    // reads, wait, top, late, deficit and the buffer answer.
+    let of_reads = [26, 27, 29, 30, 31, 32];
+    let mut seen = Seen::default();
+    for case in fixed_cases() {
+        let (profile, calls) = match case.call {
+            Call::Feed { numbers, calls, .. } => (numbers.profile, calls),
+            _ => continue,
+        };
+        for feed in calls.iter().filter(|feed| !feed.changes.is_empty()) {
+            let word = |word| feed.changes.iter().find(|(w, _)| *w == word);
+            let to = word(8).map_or(profile, |(_, to)| *to);
+            if feed.changes.len() == 1 && word(8).is_some() {
+                seen.add(&format!("{} to {}: {}", profile, to, feed.number));
+            }
+            for (at, value) in feed.changes.iter().filter(|(at, _)| of_reads.contains(at)) {
+                let to_some = if *value == 0 { "0" } else { "more" };
+                seen.add(&format!("{}, word {} {}: {}", to, at, to_some, feed.number));
+                assert!(to != COMPRESSED || *value == 0 || feed.number != 0);
+            }
+        }
+    }
+    let mut wanted: Vec<String> = [
+        "1 to 1: 0",
+        "1 to 3: 0",
+        "1 to 3: 9",
+        "3 to 1: 0",
+        "3 to 3: 0",
+    ]
+    .map(str::to_string)
+    .to_vec();
+    for other in [0, 2, 4, 255, 257, 259, (1 << 32) + 3, u64::MAX] {
+        wanted.extend([1, 3].map(|own| format!("{} to {}: 9", own, other)));
+    }
+    for word in of_reads {
+        wanted.push(format!("1, word {} more: 0", word));
+        wanted.push(format!("3, word {} more: 9", word));
+        wanted.push(format!("3, word {} 0: 0", word));
+    }
+    for what in wanted {
+        assert!(seen.0.contains_key(&what), "never seen: {}", what);
+    }
+    assert!(!seen.0.contains_key("3 to 1: 9") && !seen.0.contains_key("3 to 3: 9"));
+}
+
+/// A file is tried as the other kind with nothing else changed; one whose first record
+/// is no parameters stays as it is.
+#[test]
+fn only_the_first_kind_is_changed() {
+    let both = [[1, 0, 16, 1, 7], [1, 0, 16, 3, 7]];
+    for file in both {
+        assert_eq!(as_profiles(&PROFILES, &file), both);
+    }
+    assert_eq!(as_profiles(&[3], &[2, 9, 9, 1]), [[2, 9, 9, 3]]);
+    for alone in [&[][..], &[1, 0, 16], &[1, 0, 16, 2], &[1, 0, 14, 4, 1]] {
+        assert_eq!(as_profiles(&PROFILES, alone), [alone]);
+    }
 }
 
 /// A file is tried under other versions with nothing else changed; one that has
