@@ -1763,7 +1763,7 @@ fn everything_of_profiles() -> Vec<String> {
 /// by over, or by a broken frame, and are answered none as compressed.
 #[test]
 fn what_is_compressed_is_answered_as_video_is_but_for_reads() {
-    let generated = (0..100 * ROUND).map(|index| cases(12, index)).collect();
+    let generated = (0..200 * ROUND).map(|index| cases(12, index)).collect();
     for inputs in [fixed(), generated] {
         let mut seen = Seen::default();
         inputs
@@ -1884,7 +1884,7 @@ fn files_are_refused_with_every_kind() {
         wanted.extend(["", " of 16 bytes"].map(|of| format!("22: kind {}{}", kind, of)));
     }
     wanted.sort();
-    let generated = (0..100 * ROUND).map(|index| cases(14, index)).collect();
+    let generated = (0..200 * ROUND).map(|index| cases(14, index)).collect();
     for inputs in [fixed(), generated] {
         let mut seen = Seen::default();
         for case in inputs.iter().flatten() {
