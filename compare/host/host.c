@@ -2,9 +2,10 @@
    with each room of the case, and holds the answer against the one the case brings: host DIRECTORY <cases
 
    It knows how to lend and to compare, and nothing of measuring; of a state, which it carries from call to call, it knows
-   where docs/STATE.md puts the summary's numbers, and of a file where version, schedule and class stand. Whatever is lent ends
-   at a page that cannot be touched or begins after one, by turns, and has guard bytes on its other side. A call may write what
-   the case says at the front of its room and nothing else: no byte behind it, none at all where it refuses, none of its input.
+   where docs/STATE.md puts the summary's numbers, and of a file where version, kind, schedule and class stand, and a record's
+   length and kind. Whatever is lent ends at a page that cannot be touched or begins after one, by turns, and has guard bytes on
+   its other side. A call may write what the case says at the front of its room and nothing else: no byte behind it, none at all
+   where it refuses, none of its input.
 
    The first case that differs is kept in DIRECTORY, and the host stops there with status 1. */
 #define _DEFAULT_SOURCE /* mmap without a file */
@@ -46,13 +47,14 @@ struct bytes {
 };
 
 struct numbers {
-    uint8_t rate, schedule, stream_class;
+    uint8_t rate, schedule, stream_class, profile; /* the profile where the call takes one */
     uint16_t height, maxudp;
     uint32_t packets_per_frame, tro;
 };
 
 /* As the functions take them. */
 #define SEVEN(n) (n)->rate, (n)->schedule, (n)->stream_class, (n)->height, (n)->packets_per_frame, (n)->maxudp, (n)->tro
+#define EIGHT(n) SEVEN(n), (n)->profile
 
 /* One call of a row of them. */
 struct feed {
@@ -110,13 +112,13 @@ static void show_numbers(void) {
            n->stream_class, n->height, n->packets_per_frame, n->maxudp, n->tro);
 }
 
-/* The capture, and the ten words that the reference program is asked with. */
+/* The capture, and the eleven words that the reference program is asked with. */
 static void keep_capture(void) {
     const struct numbers *n = &now.numbers;
     char words[128];
-    int count = snprintf(words, sizeof words, "%u %" PRIu32 " %u %u %u %u %" PRIu32 " %u %" PRIu32 " %" PRIu32 "\n", now.port,
+    int count = snprintf(words, sizeof words, "%u %" PRIu32 " %u %u %u %u %" PRIu32 " %u %" PRIu32 " %u %" PRIu32 "\n", now.port,
                          now.offset, n->rate, n->schedule, n->stream_class, n->height, n->packets_per_frame, n->maxudp, n->tro,
-                         now.edition);
+                         n->profile, now.edition);
     keep("first.pcap", now.file.at, now.file.count);
     keep("first.words", (const uint8_t *)words, (size_t)count);
 }
@@ -137,6 +139,9 @@ static void show_feed(void) {
 /* Of the calls that take an edition: feed by its set-up. */
 static int takes_edition(int call) { return call == MEASURE || call == SET_UP || call == FEED || call == CAPTURE; }
 
+/* And of those that take a profile. A file has its own. */
+static int takes_profile(int call) { return call == WRITE || call == SET_UP || call == FEED || call == CAPTURE; }
+
 static _Noreturn void differs(const char *format, ...) {
     va_list rest;
     va_start(rest, format);
@@ -153,6 +158,7 @@ static _Noreturn void differs(const char *format, ...) {
     va_end(rest);
     if (now.call == WRITE) printf("  version %u\n", now.version);
     if (takes_edition(now.call)) printf("  edition %" PRIu32 "\n", now.edition);
+    if (takes_profile(now.call)) printf("  profile %u\n", now.numbers.profile);
     if (now.call == WRITE || now.call == LIMITS || now.call >= SET_UP) show_numbers();
     if (now.call == CAPTURE) printf("  port %u, offset %" PRIu32 "\n", now.port, now.offset);
     if (now.call == WRITE || now.call == FEED)
@@ -241,8 +247,22 @@ static uint64_t read_left, read_now, read_over; /* a read is to come, comes at t
 /* A number of an answer, or of a row. */
 static uint64_t number_of(const uint8_t *numbers, int k) { return big_endian(numbers + 8 * k, 8); }
 
+/* Where a file has the kind of its first record, which is one of parameters if the file is accepted; after version and length. */
+enum { FIRST_KIND = 3, PARAMETERS = 16, SECOND_RECORD = 1 + 2 + PARAMETERS };
+
+/* The version of a file, or of lists that are written; 0 where there is none, or one that there is not. */
+static unsigned version_now(void) {
+    unsigned version = now.call == WRITE ? now.version : now.call == MEASURE && now.file.count ? now.file.at[0] : 0;
+    return version <= 2 ? version : 0;
+}
+
+/* The profile of an accepted case: a file's is the kind of its parameters. */
+static int is_compressed(void) {
+    return (now.call == MEASURE ? now.file.at[FIRST_KIND] : now.numbers.profile) == VTIMING_PROFILE_COMPRESSED;
+}
+
 /* What the answers said, of files, of captures and of lists that are fed. */
-enum { EDITIONS = 2, BUFFERS = 5, KINDS = 4 };
+enum { EDITIONS = 2, BUFFERS = 5, KINDS = 4, PROFILES = 2, VERSIONS = 3 };
 static struct said {
     uint64_t kinds[KINDS], networks[2], buffers[EDITIONS][BUFFERS], placed_broken;
     uint64_t broken_of[KINDS], broken_later; /* by the broken frame's kind; after a whole one */
@@ -250,17 +270,62 @@ static struct said {
     uint64_t before_broken[BUFFERS];         /* under or over by edition 2, and a broken frame after it */
     uint64_t and_broken[BUFFERS];            /* by edition 1 so, and by edition 2 broken */
     uint64_t same[BUFFERS];                  /* by both editions so */
-    struct {
+    uint64_t compressed[EDITIONS][BUFFERS];  /* none as compressed, and so as video by the same edition */
+    uint64_t compressed_kinds[KINDS];
+    struct answer {
         uint64_t index, numbers[9];
         int known;
-    } by_1[3]; /* the last answer by edition 1, by the file's version; without a file it is at 0 */
+    } video[EDITIONS][VERSIONS]; /* the last answer as video by this edition, by the file's version; without a file it is at 0 */
 } of_files, of_captures, of_feeds;
 
-/* The first nine numbers, and the rows. An input's cases come one after the other and have its index, those by edition 1 before
-   those by edition 2; by both all but the buffer answer is the same. */
-static void count_answer(struct said *said, const uint8_t *nine, const uint8_t *rows, unsigned version) {
+/* The answer to the same input as video, by an edition; none where that was not tried. An input's cases come one after the other
+   and have its index, those as video before those as compressed. */
+static const struct answer *answer_of_video(const struct said *said, unsigned edition) {
+    const struct answer *answer = &said->video[edition][version_now()];
+    return answer->known && answer->index == now.index ? answer : NULL;
+}
+
+static void numbers_are(const uint8_t *nine, const struct answer *other, const char *otherwise) {
+    for (int k = 0; k < 6; k++)
+        if (other->numbers[k] != number_of(nine, k)) differs("number %d is wanted otherwise %s", k, otherwise);
+}
+
+/* The numbers of reads are 0 in every row, and the buffer answer is none; all else is as it is as video. */
+static void count_compressed(struct said *said, const uint8_t *nine, const uint8_t *rows, unsigned second) {
+    const struct answer *video = answer_of_video(said, second);
+    for (int k = 6; k < 9; k++)
+        if (number_of(nine, k)) differs("number %d is wanted above 0 as compressed", k);
+    for (uint64_t i = 0; i < number_of(nine, 1); i++) {
+        const uint8_t *row = rows + ROW_BYTES * i;
+        if (number_of(row, 8) || number_of(row, 9)) differs("row %" PRIu64 " is wanted with peak or least as compressed", i);
+        said->compressed_kinds[number_of(row, 1) % KINDS]++;
+    }
+    if (!video) return;
+    numbers_are(nine, video, "as video");
+    said->compressed[second][video->numbers[6] < BUFFERS ? video->numbers[6] : 0]++;
+}
+
+/* What edition 2 alone says, and what both editions say of one input: all but the buffer answer is the same. */
+static void count_second(struct said *said, const uint8_t *nine, uint64_t broken_after) {
+    uint64_t frames = number_of(nine, 1), buffer = number_of(nine, 6), frame = number_of(nine, 7);
+    const struct answer *by_1 = answer_of_video(said, 0);
+    if (buffer == VTIMING_BUFFER_BROKEN) said->broken_of[number_of(nine, 8) % KINDS]++, said->broken_later += frame > 0;
+    if (buffer == VTIMING_BUFFER_PASS) said->pass_of_several += frames > 1;
+    if (broken_after && (buffer == VTIMING_BUFFER_UNDER || buffer == VTIMING_BUFFER_OVER)) said->before_broken[buffer]++;
+    if (!by_1) return;
+    numbers_are(nine, by_1, "by the other edition");
+    if (buffer == VTIMING_BUFFER_BROKEN) said->and_broken[by_1->numbers[6] < BUFFERS ? by_1->numbers[6] : 0]++;
+    else if (by_1->numbers[6] == buffer) said->same[buffer < BUFFERS ? buffer : 0]++;
+}
+
+/* The first nine numbers, and the rows. Those by edition 1 come before those by edition 2. */
+static void count_answer(struct said *said, const uint8_t *nine, const uint8_t *rows) {
     uint64_t frames = number_of(nine, 1), buffer = number_of(nine, 6), frame = number_of(nine, 7), broken_after = 0;
     unsigned second = now.edition == VTIMING_EDITION_2;
+    if (is_compressed()) {
+        count_compressed(said, nine, rows, second);
+        return;
+    }
     said->networks[number_of(nine, 3) & 1]++;
     said->buffers[second][buffer < BUFFERS ? buffer : 0]++;
     for (uint64_t i = 0; i < frames; i++) {
@@ -270,24 +335,14 @@ static void count_answer(struct said *said, const uint8_t *nine, const uint8_t *
         said->placed_broken += kind > 0 && place > 0;
         broken_after += kind > 0 && i > frame;
     }
-    if (!second) {
-        said->by_1[version].index = now.index, said->by_1[version].known = 1;
-        for (int k = 0; k < 9; k++) said->by_1[version].numbers[k] = number_of(nine, k);
-        return;
-    }
-    if (buffer == VTIMING_BUFFER_BROKEN) said->broken_of[number_of(nine, 8) % KINDS]++, said->broken_later += frame > 0;
-    if (buffer == VTIMING_BUFFER_PASS) said->pass_of_several += frames > 1;
-    if (broken_after && (buffer == VTIMING_BUFFER_UNDER || buffer == VTIMING_BUFFER_OVER)) said->before_broken[buffer]++;
-    if (!said->by_1[version].known || said->by_1[version].index != now.index) return;
-    const uint64_t *by_1 = said->by_1[version].numbers;
-    for (int k = 0; k < 6; k++)
-        if (by_1[k] != number_of(nine, k)) differs("number %d is wanted otherwise by the other edition", k);
-    if (buffer == VTIMING_BUFFER_BROKEN) said->and_broken[by_1[6] < BUFFERS ? by_1[6] : 0]++;
-    else if (by_1[6] == buffer) said->same[buffer < BUFFERS ? buffer : 0]++;
+    struct answer *own = &said->video[second][version_now()];
+    own->index = now.index, own->known = 1;
+    for (int k = 0; k < 9; k++) own->numbers[k] = number_of(nine, k);
+    if (second) count_second(said, nine, broken_after);
 }
 
 static void count_capture(struct bytes answer) {
-    count_answer(&of_captures, answer.at, answer.at + CAPTURE_SUMMARY_BYTES, 0);
+    count_answer(&of_captures, answer.at, answer.at + CAPTURE_SUMMARY_BYTES);
     with_skipped += big_endian(answer.at + 80, 8) > 0;
     for (int i = 0; i < 4; i++) with_part[i] += now.parts >> i & 1;
 }
@@ -298,15 +353,15 @@ static void count_next_read(struct bytes answer) {
     else read_now++;
 }
 
-/* Class 0 where it was accepted, by the file's version, which is 0 without a file, and by schedule. */
-static uint64_t class_0[CALLS][3][2];
+/* Class 0 where it was accepted, by profile, by the file's version, which is 0 without a file, and by schedule. */
+static uint64_t class_0[CALLS][PROFILES][VERSIONS][2];
 
-/* Files of class 0 that pass in version 1, where it is wide, and not in version 2, where it is strict; by schedule. An input's
-   cases come one after the other and have its index, version 1 first. */
+/* Files of class 0 that pass in version 1, where it is wide, and not in version 2, where it is strict; by profile and by schedule.
+   An input's cases come one after the other and have its index, version 1 first. */
 static struct meaning {
     uint64_t index, network, buffer; /* of the last in version 1 */
     uint64_t bursts[2], overflows[2];
-} as_read, as_written;
+} as_read[PROFILES], as_written[PROFILES];
 
 static void count_meaning(struct meaning *meaning, struct bytes answer, unsigned version, unsigned schedule) {
     uint64_t network = big_endian(answer.at + 24, 8), buffer = big_endian(answer.at + 48, 8);
@@ -321,13 +376,15 @@ static void count_meaning(struct meaning *meaning, struct bytes answer, unsigned
 /* Of an accepted case. A file's parameters come after its version and their length: kind, rate, schedule, class. */
 static void count_class_0(void) {
     const uint8_t *file = now.file.at;
-    unsigned version = now.call == MEASURE ? file[0] : now.call == WRITE ? now.version : 0;
+    unsigned version = version_now(), compressed = is_compressed();
     unsigned schedule = now.call == MEASURE ? file[5] : now.numbers.schedule;
     unsigned stream_class = now.call == MEASURE ? file[6] : now.numbers.stream_class;
-    if (stream_class != 0 || version > 2 || schedule > 1) return;
-    class_0[now.call][version][schedule]++;
-    if (now.call == MEASURE && now.edition == VTIMING_EDITION_1) count_meaning(&as_read, now.filled, version, schedule);
-    if (now.call == WRITE) count_meaning(&as_written, now.measured, version, schedule);
+    if (stream_class != 0 || schedule > 1) return;
+    class_0[now.call][compressed][version][schedule]++;
+    /* As compressed a file comes in either version by either edition, and neither answer depends on that. */
+    if (now.call == MEASURE && (compressed || now.edition == VTIMING_EDITION_1))
+        count_meaning(&as_read[compressed], now.filled, version, schedule);
+    if (now.call == WRITE) count_meaning(&as_written[compressed], now.measured, version, schedule);
 }
 
 /* Versions that there are not, as cases have them for every fixed input. */
@@ -345,40 +402,91 @@ static void count_version(void) {
     for (size_t i = 0; i < OTHER_VERSIONS; i++) with_version[now.call][i] += version == other_versions[i];
 }
 
-/* Editions that there are not, as cases have them for every fixed input; and with what else is wrong they come: what is given
-   before 8, and what is not given since 8 is. That is what edition 1 gave the same input just before. */
+/* Editions and profiles that there are not, as cases have them for every fixed input; and with what else is wrong they come: what
+   is given before 8 or before 22, and what is not given since 8 or 22 is. That is what the same input was given just before, as
+   video by edition 1. */
 static const uint32_t other_editions[] = {0, 3, 255, UINT32_MAX};
+static const uint8_t other_profiles[] = {0, 2, 4, 255};
 #define OTHER_EDITIONS (sizeof other_editions / sizeof *other_editions)
+#define OTHER_PROFILES (sizeof other_profiles / sizeof *other_profiles)
 static uint64_t with_edition[CALLS][OTHER_EDITIONS], before_8[CALLS][NUMBERS], after_8[CALLS][NUMBERS];
+static uint64_t with_profile[CALLS][OTHER_PROFILES], before_22[CALLS][NUMBERS], after_22[CALLS][NUMBERS];
 
-/* What edition 1 gave, by the file's version; without a file it is at 0. */
-static struct by_edition_1 {
+/* What was given as video by edition 1, by the version; without one it is at 0. */
+static struct usual {
     uint64_t index;
     unsigned count;
     uint32_t numbers[255];
     size_t filled;
-} by_edition_1[CALLS][3];
+} usual[CALLS][VERSIONS];
 
-/* A list that is fed is set up by other editions as a case of its own. */
-static struct by_edition_1 *same_by_edition_1(void) {
-    unsigned version = now.call == MEASURE && now.file.count && now.file.at[0] <= 2 ? now.file.at[0] : 0;
-    return &by_edition_1[now.call == FEED ? SET_UP : now.call][version];
+/* A list that is fed is set up by other editions and as other profiles as a case of its own. */
+static struct usual *as_usual(void) { return &usual[now.call == FEED ? SET_UP : now.call][version_now()]; }
+
+static int refused_by(uint32_t number) { return now.room_count && now.rooms[0].number == number; }
+
+static int edition_known(void) {
+    return !takes_edition(now.call) || now.edition == VTIMING_EDITION_1 || now.edition == VTIMING_EDITION_2;
 }
 
-static int refused_by_edition(void) { return now.room_count && now.rooms[0].number == VTIMING_REFUSED_EDITION; }
+static int profile_known(void) {
+    uint8_t profile = now.numbers.profile;
+    return !takes_profile(now.call) || profile == VTIMING_PROFILE_VIDEO || profile == VTIMING_PROFILE_COMPRESSED;
+}
 
-/* Of every case of a call that takes an edition. */
+/* What the same input was given as usual has not come to. */
+static void count_usual(uint64_t after[NUMBERS]) {
+    const struct usual *same = as_usual();
+    for (unsigned i = 0; same->index == now.index && i < same->count; i++) after[same->numbers[i] % NUMBERS]++;
+}
+
 static void count_edition(void) {
-    struct by_edition_1 *same = same_by_edition_1();
-    if (now.edition == VTIMING_EDITION_1) {
-        same->index = now.index, same->count = now.room_count, same->filled = now.filled.count;
-        for (unsigned i = 0; i < now.room_count; i++) same->numbers[i] = now.rooms[i].number;
-    } else if (refused_by_edition()) {
+    if (refused_by(VTIMING_REFUSED_EDITION)) {
         for (size_t i = 0; i < OTHER_EDITIONS; i++) with_edition[now.call][i] += now.edition == other_editions[i];
-        for (unsigned i = 0; same->index == now.index && i < same->count; i++) after_8[now.call][same->numbers[i] % NUMBERS]++;
-    } else if (now.edition != VTIMING_EDITION_2) {
+        count_usual(after_8[now.call]);
+    } else {
         before_8[now.call][now.rooms[0].number % NUMBERS]++;
     }
+}
+
+/* 22 comes before 8 too. */
+static void count_profile(void) {
+    if (refused_by(VTIMING_REFUSED_KIND)) {
+        for (size_t i = 0; i < OTHER_PROFILES; i++) with_profile[now.call][i] += now.numbers.profile == other_profiles[i];
+        after_22[now.call][VTIMING_REFUSED_EDITION] += !edition_known();
+        count_usual(after_22[now.call]);
+    } else {
+        before_22[now.call][now.rooms[0].number % NUMBERS]++;
+    }
+}
+
+/* Of every case of a call that takes an edition or a profile. */
+static void count_others(void) {
+    if (!profile_known()) {
+        count_profile();
+    } else if (!edition_known()) {
+        count_edition();
+    } else if ((!takes_edition(now.call) || now.edition == VTIMING_EDITION_1) &&
+               (!takes_profile(now.call) || now.numbers.profile == VTIMING_PROFILE_VIDEO)) {
+        struct usual *same = as_usual();
+        same->index = now.index, same->count = now.room_count, same->filled = now.filled.count;
+        for (unsigned i = 0; i < now.room_count; i++) same->numbers[i] = now.rooms[i].number;
+    }
+}
+
+/* Files refused by their records' kinds: parameters again by the kind of the first and of the second, at once or after packets;
+   known kinds of a wrong length; and kind 4. */
+static uint64_t again[PROFILES][PROFILES][2], wrong_length[4], kind_4;
+
+static void count_kind(void) {
+    const uint8_t *file = now.file.at;
+    uint64_t place = now.rooms[0].place;
+    if (place + 3 > now.file.count) return; /* a lone version byte */
+    uint8_t kind = file[place + 2];
+    if (refused_by(VTIMING_REFUSED_PARAMETERS) && place > 1)
+        again[file[FIRST_KIND] == VTIMING_PROFILE_COMPRESSED][kind == VTIMING_PROFILE_COMPRESSED][place > SECOND_RECORD]++;
+    if (refused_by(VTIMING_REFUSED_KIND) && kind > 0 && kind < 4) wrong_length[kind]++;
+    kind_4 += refused_by(VTIMING_REFUSED_KIND) && kind == 4 && big_endian(file + place, 2) == PARAMETERS;
 }
 
 static void count_room(const struct room *room, uint64_t needed) {
@@ -388,9 +496,16 @@ static void count_room(const struct room *room, uint64_t needed) {
 
 /* --- the calls --- */
 
-/* Rooms that no machine can lend. */
+/* Rooms that no machine can lend. A large case is tried with one of them, by turns. */
 static const size_t large[] = {SIZE_MAX, SIZE_MAX - 1, SIZE_MAX / 8, (size_t)1 << 63};
 #define LARGE_ROOMS (sizeof large / sizeof *large)
+enum { HEAVY = 1 << 14 };
+
+static int is_heavy(void) { return now.raw_size >= HEAVY; }
+
+static size_t first_large(void) { return is_heavy() ? calls_made % LARGE_ROOMS : 0; }
+
+static size_t end_of_large(size_t first) { return is_heavy() ? first + 1 : LARGE_ROOMS; }
 
 static void answers(uint64_t got, uint64_t wanted, const char *what) {
     calls_made++;
@@ -421,12 +536,12 @@ static void write_file(const struct room *room, int fill) {
     struct lent markers = lend(MARKERS, now.markers.count, now.markers.at, fill);
     struct lent out = lend(OUT, room->lent, NULL, fill);
     at_step = "vtiming_write";
-    answers(vtiming_write(now.version, SEVEN(n), pointer(&arrivals), now.arrival_count, pointer(&stamps), now.stamp_count,
+    answers(vtiming_write(now.version, EIGHT(n), pointer(&arrivals), now.arrival_count, pointer(&stamps), now.stamp_count,
                           pointer(&markers), now.markers.count, pointer(&out), out.size),
             room->number, "number");
     room_holds(&out, room->number ? (struct bytes){NULL, 0} : now.filled);
     at_step = "vtiming_write_place";
-    answers(vtiming_write_place(now.version, SEVEN(n), pointer(&arrivals), now.arrival_count, pointer(&stamps),
+    answers(vtiming_write_place(now.version, EIGHT(n), pointer(&arrivals), now.arrival_count, pointer(&stamps),
                                 now.stamp_count, pointer(&markers), now.markers.count, out.size),
             room->place, "place");
     unchanged(&arrivals, now.arrivals, "the arrivals");
@@ -445,11 +560,11 @@ static void capture(const struct room *room, int fill) {
     const struct numbers *n = &now.numbers;
     struct lent in = lend(FILE_BYTES, now.file.count, now.file.at, fill), out = lend(OUT, room->lent, NULL, fill);
     at_step = "vtiming_capture";
-    answers(vtiming_capture(pointer(&in), in.size, now.port, now.offset, SEVEN(n), now.edition, pointer(&out), out.size),
+    answers(vtiming_capture(pointer(&in), in.size, now.port, now.offset, EIGHT(n), now.edition, pointer(&out), out.size),
             room->number, "number");
     room_holds(&out, room->number ? (struct bytes){NULL, 0} : now.filled);
     at_step = "vtiming_capture_place";
-    answers(vtiming_capture_place(pointer(&in), in.size, now.port, now.offset, SEVEN(n), now.edition, out.size), room->place,
+    answers(vtiming_capture_place(pointer(&in), in.size, now.port, now.offset, EIGHT(n), now.edition, out.size), room->place,
             "place");
     unchanged(&in, now.file.at, "the capture");
 }
@@ -495,26 +610,28 @@ static void remember(const void *words) {
 }
 
 /* docs/STATE.md: where the packets so far stand, and the nine numbers of the summary. */
-enum { PACKETS = 8 };
-static const int summary_words[9] = {PACKETS, 18, 13, 14, 15, 16, 31, 32, 33};
+enum { PACKETS = 9 };
+static const int summary_words[9] = {PACKETS, 19, 14, 15, 16, 17, 32, 33, 34};
 
 static uint32_t call_set_up(const struct lent *state) {
     const struct numbers *n = &now.numbers;
     at_step = "vtiming_set_up";
-    return vtiming_set_up(SEVEN(n), now.edition, pointer(state), state->size / 8);
+    return vtiming_set_up(EIGHT(n), now.edition, pointer(state), state->size / 8);
 }
 
-/* What stands in the words is the library's own, but for the seven numbers and the edition; it may not depend on what stood there. */
+/* What stands in the words is the library's own, but for the seven numbers, the edition and the profile; it may not depend on what
+   stood there. */
 static void set_up(const struct room *room, int fill) {
     const struct numbers *n = &now.numbers;
-    const uint64_t eight[8] = {n->rate, n->schedule, n->stream_class, n->height, n->packets_per_frame, n->maxudp, n->tro, now.edition};
+    const uint64_t nine[9] = {n->rate,   n->schedule, n->stream_class, n->height, n->packets_per_frame,
+                              n->maxudp, n->tro,      now.edition,     n->profile};
     struct lent state = lend(STATE, 8 * room->lent, NULL, fill);
     answers(call_set_up(&state), room->number, "number");
     if (room->number) {
         room_holds(&state, (struct bytes){NULL, 0});
         return;
     }
-    if (memcmp(state.at, eight, sizeof eight)) differs("the first words are not the seven numbers and the edition");
+    if (memcmp(state.at, nine, sizeof nine)) differs("the first words are not the seven numbers, the edition and the profile");
     if (!reached_count) remember(state.at);
     if (memcmp(state.at, reached[0], sizeof held)) differs("it set up two states");
     room_holds(&state, (struct bytes){state.at, sizeof held});
@@ -562,7 +679,7 @@ static void feed_once(int fill, uint64_t *after) {
     struct lent markers = lend(MARKERS, now.markers.count, now.markers.at, fill);
     struct lent rows = lend(ROWS, 8 * f->row_count, NULL, fill), out = lend(OUT, 8 * f->out_count, NULL, fill);
     answers(place_of_feed(&state, &arrivals, &stamps, &markers, f->row_count, f->out_count), f->answer.place, "place");
-    for (size_t i = 0; i < LARGE_ROOMS; i++, large_rooms++)
+    for (size_t first = first_large(), i = first; i < end_of_large(first); i++, large_rooms++)
         answers(place_of_feed(&state, &arrivals, &stamps, &markers, large[i], large[LARGE_ROOMS - 1 - i]),
                 f->answer.number == 15 ? 0 : f->answer.place, "place with ample room");
     unchanged(&state, given, "the state");
@@ -595,21 +712,22 @@ static void go_on(const uint64_t *after) {
 
 /* --- rooms near the greatest size: the twins take only the number, and answer as for any ample room --- */
 
-/* The functions that say the room take no edition, and say it of an edition that there is not as of 1 and 2. Where the case that
-   has it was not tried, as of a case that is tried again, any room will do. */
+/* The functions that say the room take no edition and no profile, and say it of those that there are not as of the others. Where
+   the case that has it was not tried, as of a case that is tried again, any room will do. */
 static void says_room(uint64_t got) {
-    const struct by_edition_1 *same = same_by_edition_1();
-    int elsewhere = refused_by_edition(), tried = same->count && same->index == now.index;
+    const struct usual *same = as_usual();
+    int elsewhere = !profile_known() || refused_by(VTIMING_REFUSED_EDITION), tried = same->count && same->index == now.index;
     if (!elsewhere || tried) answers(got, elsewhere ? same->filled : now.filled.count, "room for the answer");
 }
 
 static void ample_rooms(int fill) {
     uint64_t wanted = now.filled.count ? 0 : now.rooms[0].place;
     const struct numbers *n = &now.numbers;
+    size_t first = first_large();
     if (now.call == MEASURE) {
         struct lent in = lend(FILE_BYTES, now.file.count, now.file.at, fill);
         at_step = "vtiming_measure_offset";
-        for (size_t i = 0; i < LARGE_ROOMS; i++, large_rooms++)
+        for (size_t i = first; i < end_of_large(first); i++, large_rooms++)
             answers(vtiming_measure_offset(pointer(&in), in.size, now.edition, large[i]), wanted, "offset with ample room");
         answers(vtiming_measure_offset(pointer(&in), in.size, now.edition, VTIMING_ENOUGH_BYTES(in.size)), wanted,
                 "offset with the room that the header calls enough");
@@ -621,15 +739,15 @@ static void ample_rooms(int fill) {
         struct lent stamps = lend(STAMPS, 4 * now.stamp_count, now.stamps, fill);
         struct lent markers = lend(MARKERS, now.markers.count, now.markers.at, fill);
         at_step = "vtiming_write_place";
-        for (size_t i = 0; i < LARGE_ROOMS; i++, large_rooms++)
-            answers(vtiming_write_place(now.version, SEVEN(n), pointer(&arrivals), now.arrival_count, pointer(&stamps),
+        for (size_t i = first; i < end_of_large(first); i++, large_rooms++)
+            answers(vtiming_write_place(now.version, EIGHT(n), pointer(&arrivals), now.arrival_count, pointer(&stamps),
                                         now.stamp_count, pointer(&markers), now.markers.count, large[i]),
                     wanted, "place with ample room");
     } else if (now.call == CAPTURE) {
         struct lent in = lend(FILE_BYTES, now.file.count, now.file.at, fill);
         at_step = "vtiming_capture_place";
-        for (size_t i = 0; i < LARGE_ROOMS; i++, large_rooms++)
-            answers(vtiming_capture_place(pointer(&in), in.size, now.port, now.offset, SEVEN(n), now.edition, large[i]), wanted,
+        for (size_t i = first; i < end_of_large(first); i++, large_rooms++)
+            answers(vtiming_capture_place(pointer(&in), in.size, now.port, now.offset, EIGHT(n), now.edition, large[i]), wanted,
                     "place with ample room");
         at_step = "vtiming_capture_room";
         says_room(vtiming_capture_room(pointer(&in), in.size, now.port, now.offset, SEVEN(n)));
@@ -677,7 +795,7 @@ static void try_feeds(const int *fills, int times) {
         seen[FEED][f->answer.number < NUMBERS ? f->answer.number : 0]++;
         if (!f->answer.number && !f->change_count) go_on(after);
         /* The first call of most rows has the whole list. */
-        if (at_feed == 0 && !f->answer.number) count_answer(&of_feeds, f->nine.at, f->rows.at, 0);
+        if (at_feed == 0 && !f->answer.number) count_answer(&of_feeds, f->nine.at, f->rows.at);
     }
 }
 
@@ -691,8 +809,7 @@ static int accepted(void) {
 /* Small cases against both edges of a page; large ones take turns. */
 static void try_case(void) {
     static const int fills[2] = {0xA5, 0x5A};
-    size_t heavy = 1 << 14;
-    int times = now.raw_size < heavy ? 2 : 1;
+    int times = is_heavy() ? 1 : 2;
     cases[now.call]++;
     reached_count = 0;
     alarm(SECONDS);
@@ -705,13 +822,13 @@ static void try_case(void) {
     }
     ample_rooms(fills[turn & 1]);
     if (now.call == FEED) try_feeds(fills, times);
-    if (now.call == MEASURE && now.filled.count)
-        count_answer(&of_files, now.filled.at, now.filled.at + SUMMARY_BYTES, now.file.at[0] <= 2 ? now.file.at[0] : 0);
+    if (now.call == MEASURE && now.filled.count) count_answer(&of_files, now.filled.at, now.filled.at + SUMMARY_BYTES);
+    if (now.call == MEASURE) count_kind();
     if (now.call == CAPTURE && now.filled.count) count_capture(now.filled);
     if (now.call == NEXT_READ && now.filled.count) count_next_read(now.filled);
     if (accepted()) count_class_0();
-    if (takes_edition(now.call)) count_edition();
-    if (now.room_count && now.rooms[0].number == VTIMING_REFUSED_VERSION) count_version();
+    if (takes_edition(now.call) || takes_profile(now.call)) count_others();
+    if (refused_by(VTIMING_REFUSED_VERSION)) count_version();
     at_step = "reading";
 }
 
@@ -743,9 +860,15 @@ static void take_numbers(void) {
     n->tro = take_number(4);
 }
 
-static void take_capture(void) {
+/* The seven numbers, the profile and the edition. */
+static void take_stream(void) {
     take_numbers();
+    now.numbers.profile = take_number(1);
     now.edition = take_number(4);
+}
+
+static void take_capture(void) {
+    take_stream();
     now.port = take_number(2);
     now.offset = take_number(4);
     now.file = take_bytes(take_number(4));
@@ -816,16 +939,16 @@ static int next_case(void) {
     at_room = now.room_count = 0;
     switch (now.call) {
     case MEASURE: now.edition = take_number(4), now.file = take_bytes(take_number(4)); break;
-    case WRITE: now.version = take_number(1), take_numbers(), take_lists(); break;
+    case WRITE: now.version = take_number(1), take_numbers(), now.numbers.profile = take_number(1), take_lists(); break;
     case LIMITS: take_numbers(); break;
-    case SET_UP: take_numbers(), now.edition = take_number(4); break;
+    case SET_UP: take_stream(); break;
     case GRAPH:
         for (int i = 0; i < 3; i++) now.figures[i] = (int64_t)take_number(8);
         break;
     case CAPTURE: take_capture(); break;
     case NEXT_READ: take_wait(); break;
     case FEED: /* each call is taken in its turn */
-        take_numbers(), now.edition = take_number(4), now.feed_count = take_number(4);
+        take_stream(), now.feed_count = take_number(4);
         return 1;
     default: fprintf(stderr, "host: a case of no known call\n"), exit(2);
     }
@@ -864,9 +987,12 @@ static void tell_buffers(const uint64_t counts[BUFFERS], int last) {
     for (int i = 0; i <= last; i++) told(names[i], counts[i]);
 }
 
+static void tell_kinds(const uint64_t counts[KINDS]) {
+    told("whole", counts[0]), told("short", counts[1]), told("long", counts[2]), told("stamp", counts[3]);
+}
+
 static void tell_answers(const char *what, const struct said *said) {
-    printf("  rows of %s:", what);
-    told("whole", said->kinds[0]), told("short", said->kinds[1]), told("long", said->kinds[2]), told("stamp", said->kinds[3]);
+    printf("  rows of %s:", what), tell_kinds(said->kinds);
     told("broken with its first packet's place", said->placed_broken);
     printf("\n    network:"), told("pass", said->networks[0]), told("burst", said->networks[1]);
     printf("; buffer by edition 1:"), tell_buffers(said->buffers[0], VTIMING_BUFFER_OVER);
@@ -878,6 +1004,9 @@ static void tell_answers(const char *what, const struct said *said) {
     printf("; pass"), told("of several frames:", said->pass_of_several);
     printf("\n    by edition 2 broken, and by edition 1:"), tell_buffers(said->and_broken, VTIMING_BUFFER_OVER);
     printf("; by both the same:"), tell_buffers(said->same, VTIMING_BUFFER_OVER);
+    printf("\n    none as compressed, and as video by edition 1:"), tell_buffers(said->compressed[0], VTIMING_BUFFER_OVER);
+    printf("; by edition 2:"), tell_buffers(said->compressed[1], VTIMING_BUFFER_BROKEN);
+    printf("; its rows:"), tell_kinds(said->compressed_kinds);
     printf("\n");
 }
 
@@ -885,11 +1014,16 @@ static void tell_schedules(const char *what, const uint64_t by_schedule[2]) {
     printf("%s:", what), told("gapped", by_schedule[0]), told("linear", by_schedule[1]);
 }
 
-static void tell_meaning(const char *what, int call, const struct meaning *meaning) {
-    printf("    %s ", what);
-    tell_schedules("in version 1", class_0[call][1]), tell_schedules("; in 2", class_0[call][2]);
-    tell_schedules("; pass in 1 and burst in 2", meaning->bursts), tell_schedules("; pass in 1 and over in 2", meaning->overflows);
-    printf("\n");
+/* As compressed nothing is over. */
+static void tell_meaning(const char *what, int call, const struct meaning meanings[PROFILES]) {
+    for (int compressed = 0; compressed < PROFILES; compressed++) {
+        const struct meaning *meaning = &meanings[compressed];
+        printf("    %s%s ", what, compressed ? " as compressed" : "");
+        tell_schedules("in version 1", class_0[call][compressed][1]), tell_schedules("; in 2", class_0[call][compressed][2]);
+        tell_schedules("; pass in 1 and burst in 2", meaning->bursts);
+        if (!compressed) tell_schedules("; pass in 1 and over in 2", meaning->overflows);
+        printf("\n");
+    }
 }
 
 /* Request (viii): what class 0 means, and versions that there are not. */
@@ -897,10 +1031,13 @@ static void tell_versions(void) {
     static const int without_file[] = {LIMITS, SET_UP, FEED, CAPTURE, NEXT_READ};
     static const char *const names[OTHER_VERSIONS] = {"version 0", "version 3", "version 255"};
     printf("  class 0 accepted\n");
-    for (size_t i = 0; i < sizeof without_file / sizeof *without_file; i++)
-        printf(i ? "; " : "    "), tell_schedules(call_names[without_file[i]], class_0[without_file[i]][0]);
+    for (size_t i = 0; i < sizeof without_file / sizeof *without_file; i++) {
+        int call = without_file[i];
+        printf(i ? "; " : "    "), tell_schedules(call_names[call], class_0[call][0][0]);
+        if (takes_profile(call)) tell_schedules(", as compressed", class_0[call][1][0]);
+    }
     printf("\n");
-    tell_meaning("files", MEASURE, &as_read), tell_meaning("written", WRITE, &as_written);
+    tell_meaning("files", MEASURE, as_read), tell_meaning("written", WRITE, as_written);
     printf("  refused by 20: files");
     for (size_t i = 0; i < OTHER_VERSIONS; i++) told(names[i], with_version[MEASURE][i]);
     told("no byte", of_nothing);
@@ -918,6 +1055,32 @@ static void tell_edition(int call, const char *before, const char *after) {
     printf("\n");
 }
 
+static void tell_profile(int call, const char *before, const char *after) {
+    static const char *const names[OTHER_PROFILES] = {"profile 0", "profile 2", "profile 4", "profile 255"};
+    printf("    %s", call_names[call]);
+    for (size_t i = 0; i < OTHER_PROFILES; i++) told(names[i], with_profile[call][i]);
+    if (*before) printf("; not where"), tell_each(before_22[call], before), printf(" is given");
+    printf("; where else there is"), tell_each(after_22[call], after);
+    printf("\n");
+}
+
+/* Request (vii): profiles that there are not, and the kinds of records by which files are refused. */
+static void tell_profiles(void) {
+    static const char *const order[PROFILES][PROFILES] = {{"1 after 1", "3 after 1"}, {"1 after 3", "3 after 3"}};
+    printf("  refused by 22:\n");
+    tell_profile(WRITE, "20", "0 1 2 3 4 5 6 7 10 11 12 13 24");
+    tell_profile(CAPTURE, "", "0 1 2 3 4 5 6 7 8 12 13 15 30 31 32 33");
+    tell_profile(SET_UP, "", "0 1 2 3 4 5 6 7 8 15");
+    printf("    files of a wrong length with"), told("kind 1", wrong_length[1]), told("kind 2", wrong_length[2]);
+    told("kind 3", wrong_length[3]), printf("; parameters of"), told("kind 4", kind_4);
+    for (int later = 0; later < 2; later++) {
+        printf(later ? "; and with packets between:" : "\n  refused by 23: files with parameters of kind");
+        for (int first = 0; first < PROFILES; first++)
+            for (int second = 0; second < PROFILES; second++) told(order[first][second], again[first][second][later]);
+    }
+    printf("\n");
+}
+
 /* Request (vi): editions that there are not. */
 static void tell_editions(void) {
     printf("  refused by 8:\n");
@@ -931,18 +1094,19 @@ static int tell(void) {
     for (int i = MEASURE; i < CALLS; i++) all += cases[i];
     printf("outcomes seen (number: times):\n");
     tell_numbers(MEASURE, "0 1 2 3 4 5 6 7 8 11 12 13 15 20 21 22 23");
-    tell_numbers(WRITE, "0 1 2 3 4 5 6 7 10 11 12 13 20 24");
+    tell_numbers(WRITE, "0 1 2 3 4 5 6 7 10 11 12 13 20 22 24");
     tell_numbers(LIMITS, "0 1 2 3 4 5 6 7 15");
     tell_numbers(GRAPH, "0 15 16");
-    tell_numbers(SET_UP, "0 1 2 3 4 5 6 7 8 15");
+    tell_numbers(SET_UP, "0 1 2 3 4 5 6 7 8 15 22");
     tell_numbers(FEED, "0 9 10 11 12 13 14 15");
-    tell_numbers(CAPTURE, "0 1 2 3 4 5 6 7 8 12 13 15 30 31 32 33");
+    tell_numbers(CAPTURE, "0 1 2 3 4 5 6 7 8 12 13 15 22 30 31 32 33");
     tell_numbers(NEXT_READ, "0 1 2 3 4 5 6 7 12 13 15");
     tell_answers("files", &of_files);
     tell_answers("captures", &of_captures);
     tell_answers("lists that are fed", &of_feeds);
     tell_versions();
     tell_editions();
+    tell_profiles();
     printf("  captures that"), told("skip a frame", with_skipped);
     printf("; that hand on a frame with"), told("a tag", with_part[0]), told("options", with_part[1]);
     told("contributors", with_part[2]), told("an extension", with_part[3]);
