@@ -13,6 +13,7 @@ use crate::output::nine_numbers;
 use crate::packet::{first_refused, zip, Packet, Past, LONGEST_HISTORY, MOST_PACKETS};
 use crate::random::Random;
 use crate::ranges::{changed_nine, changes, Change, Stream, PACKETS, STATE_WORDS};
+use crate::stream::mended_numbers;
 use crate::Refusal;
 
 /// The numbers that sum up a state.
@@ -40,6 +41,34 @@ impl Lists {
     pub fn lent(&self) -> (&[u64], &[u32], &[u8]) {
         (&self.arrivals, &self.timestamps, &self.markers)
     }
+}
+
+/// What the writer refuses in a version that there is, where 50 bytes are lent, in the
+/// order of its refusals: all seven numbers wrong, mended one after the other, then
+/// lists that are wrong, and last good ones, which take 51 bytes.
+pub fn refused_writes() -> Vec<(Refusal, Numbers, Lists)> {
+    let lists = |arrivals: &[u64], timestamps: &[u32], markers: &[u8]| Lists {
+        arrivals: arrivals.to_vec(),
+        timestamps: timestamps.to_vec(),
+        markers: markers.to_vec(),
+    };
+    let uneven = lists(&[5, 4], &[0], &[2, 2]);
+    let mended = mended_numbers();
+    let accepted = mended[7];
+    let mut all: Vec<(Refusal, Numbers, Lists)> = (1..=7)
+        .zip(mended)
+        .map(|(number, numbers)| (Refusal::new(number, 0), numbers, uneven.clone()))
+        .collect();
+    for (number, place, lists) in [
+        (10, 0, uneven),
+        (11, 1, lists(&[5, 4], &[0, 0], &[0, 2])),
+        (12, 1, lists(&[5, 4], &[0, 0], &[0, 1])),
+        (13, 1, lists(&[5, LONGEST_HISTORY + 6], &[0, 0], &[0, 1])),
+        (24, 0, lists(&[5, 6], &[0, 0], &[0, 1])),
+    ] {
+        all.push((Refusal::new(number, place), accepted, lists));
+    }
+    all
 }
 
 /// One call, on the words that the last accepted call left.

@@ -6,7 +6,6 @@ use vtiming_reference::capture::NANOSECONDS;
 use vtiming_reference::generate::{file, under};
 use vtiming_reference::pcap::{Capture, Frame};
 use vtiming_reference::record::read;
-use vtiming_reference::stream::mended_numbers;
 use vtiming_reference::*;
 
 const GAPPED: u64 = 0;
@@ -400,32 +399,13 @@ fn the_reader_gives_20_before_all_else() {
 /// wrong, and then too little room: 20 comes before each.
 #[test]
 fn the_writer_gives_20_before_all_else() {
-    type Three<'a> = (&'a [u64], &'a [u32], &'a [u8]);
-    let good: Three = (&[5, 6], &[0, 0], &[0, 1]);
-    let uneven: Three = (&[5, 4], &[0], &[2, 2]);
-    let high: Three = (&[5, 4], &[0, 0], &[0, 2]);
-    let back: Three = (&[5, 4], &[0, 0], &[0, 1]);
-    let late: Three = (&[5, 600_000_000_006], &[0, 0], &[0, 1]);
-    let mended = mended_numbers();
-    let accepted = mended[7];
-    let mut wrong: Vec<(Refusal, Numbers, Three)> = (1..=7)
-        .zip(mended)
-        .map(|(number, numbers)| (refused(number, 0), numbers, uneven))
-        .collect();
-    wrong.extend([
-        (refused(10, 0), accepted, uneven),
-        (refused(11, 1), accepted, high),
-        (refused(12, 1), accepted, back),
-        (refused(13, 1), accepted, late),
-        (refused(24, 0), accepted, good),
-    ]);
-    for (refusal, numbers, lists) in wrong {
+    for (refusal, numbers, lists) in feed::refused_writes() {
         for version in [1, 2] {
-            assert_eq!(writer(version, &numbers, lists, 50), Err(refusal));
+            assert_eq!(writer(version, &numbers, lists.lent(), 50), Err(refusal));
         }
         for version in [0, 3, 255] {
             for room in [0, 50, 51, 1000] {
-                let answer = writer(version, &numbers, lists, room);
+                let answer = writer(version, &numbers, lists.lent(), room);
                 assert_eq!(answer, Err(refused(20, 0)));
             }
         }

@@ -9,6 +9,7 @@ use std::collections::BTreeMap;
 use vtiming_reference::bucket::{drain_instant, drains_by};
 use vtiming_reference::capture::{Carried, Why};
 use vtiming_reference::cases::{captures, cases, fixed, waits, Call, Case, ROUND};
+use vtiming_reference::feed::Feed;
 use vtiming_reference::fraction::Fraction;
 use vtiming_reference::frame::{closed_frames, t_cf, Kind};
 use vtiming_reference::generate::{as_profiles, file, under, FIRST_KIND};
@@ -1089,6 +1090,38 @@ fn look_at_measured(seen: &mut Seen, fixed: bool, all: &[Tried]) {
     }
 }
 
+/// A version that there is not is tried by all sorts of editions and as all sorts of
+/// profiles, an edition or a profile that there is not in both versions; and what is
+/// compressed in both, by both.
+const TRIED_IN_VERSIONS: [&str; 26] = [
+    "version 0 by 0",
+    "version 3 by 1",
+    "version 3 by 2",
+    "version 3 by 3",
+    "version 1 by 3",
+    "version 2 by 3",
+    "version 1 by 0",
+    "version 2 by 0",
+    "version 0 as 1",
+    "version 0 as 3",
+    "version 1 as 3",
+    "version 2 as 1",
+    "list version 0 as 0",
+    "list version 3 as 1",
+    "list version 3 as 3",
+    "list version 3 as 4",
+    "list version 1 as 0",
+    "list version 2 as 2",
+    "list version 1 as 4",
+    "list version 2 as 4",
+    "in 1",
+    "in 2",
+    "in 1 by 1",
+    "in 1 by 2",
+    "in 2 by 1",
+    "in 2 by 2",
+];
+
 /// Every file that has a version, and all lists: the fixed ones under 1, 2, 0, 3
 /// and 255, the generated ones under 1, 2 and one that there is not.
 #[test]
@@ -1111,37 +1144,7 @@ fn every_file_and_every_list_is_tried_in_both_versions() {
     assert!(seen.0["generated measure"] > 1000);
     assert_eq!(seen.0["generated write"], 400);
     assert!(seen.0["fixed measure"] > 500 && seen.0["fixed write"] > 200);
-    // A version that there is not is tried by all sorts of editions and as all sorts
-    // of profiles, an edition or a profile that there is not in both versions; and
-    // what is compressed in both, by both.
-    for what in [
-        "version 0 by 0",
-        "version 3 by 1",
-        "version 3 by 2",
-        "version 3 by 3",
-        "version 1 by 3",
-        "version 2 by 3",
-        "version 1 by 0",
-        "version 2 by 0",
-        "version 0 as 1",
-        "version 0 as 3",
-        "version 1 as 3",
-        "version 2 as 1",
-        "list version 0 as 0",
-        "list version 3 as 1",
-        "list version 3 as 3",
-        "list version 3 as 4",
-        "list version 1 as 0",
-        "list version 2 as 2",
-        "list version 1 as 4",
-        "list version 2 as 4",
-        "in 1",
-        "in 2",
-        "in 1 by 1",
-        "in 1 by 2",
-        "in 2 by 1",
-        "in 2 by 2",
-    ] {
+    for what in TRIED_IN_VERSIONS {
         for sort in ["fixed", "generated"] {
             let what = format!("{} {}", sort, what);
             assert!(seen.0.contains_key(&what), "never seen: {}", what);
@@ -1919,44 +1922,50 @@ fn generated_inputs_have_profiles_of_every_sort() {
     }
 }
 
-/// A state holds the profile as word 8: both sides of its range; and of a compressed
-/// state each number of reads, and each buffer answer, is 9 where it is not 0 or none.
-#[test]
-fn states_of_both_profiles_are_changed_on_both_sides() {
-    // reads, wait, top, late, deficit and the buffer answer.
-    let of_reads = [26, 27, 29, 30, 31, 32];
-    let mut seen = Seen::default();
-    for case in fixed_cases() {
-        let (profile, calls) = match case.call {
-            Call::Feed { numbers, calls, .. } => (numbers.profile, calls),
-            _ => continue,
-        };
-        for feed in calls.iter().filter(|feed| !feed.changes.is_empty()) {
-            let word = |word| feed.changes.iter().find(|(w, _)| *w == word);
-            let to = word(8).map_or(profile, |(_, to)| *to);
-            if feed.changes.len() == 1 && word(8).is_some() {
-                seen.add(&format!("{} to {}: {}", profile, to, feed.number));
-            }
-            for (at, value) in feed.changes.iter().filter(|(at, _)| of_reads.contains(at)) {
-                let to_some = if *value == 0 { "0" } else { "more" };
-                seen.add(&format!("{}, word {} {}: {}", to, at, to_some, feed.number));
-                assert!(to != COMPRESSED || *value == 0 || feed.number != 0);
-            }
+/// Words of a state: the profile; and those that a compressed state has as 0, which are
+/// reads, wait, top, late, deficit and the buffer answer.
+const PROFILE_WORD: u8 = 8;
+const WORDS_OF_READS: [u8; 6] = [26, 27, 29, 30, 31, 32];
+
+/// What is seen of the states of one list that are changed.
+fn look_at_changes(seen: &mut Seen, profile: u64, calls: &[Feed]) {
+    for feed in calls.iter().filter(|feed| !feed.changes.is_empty()) {
+        let word = feed.changes.iter().find(|(word, _)| *word == PROFILE_WORD);
+        let to = word.map_or(profile, |(_, to)| *to);
+        if feed.changes.len() == 1 && word.is_some() {
+            seen.add(&format!("{} to {}: {}", profile, to, feed.number));
+        }
+        let of_reads = |change: &&(u8, u64)| WORDS_OF_READS.contains(&change.0);
+        for (at, value) in feed.changes.iter().filter(of_reads) {
+            let some = if *value == 0 { "0" } else { "more" };
+            seen.add(&format!("{}, word {} {}: {}", to, at, some, feed.number));
+            assert!(to != COMPRESSED || *value == 0 || feed.number != 0);
         }
     }
-    let mut wanted: Vec<String> = [
+}
+
+/// A state holds the profile: both sides of its range; and of a compressed state each
+/// number of reads, and each buffer answer, is 9 where it is not 0 or none.
+#[test]
+fn states_of_both_profiles_are_changed_on_both_sides() {
+    let mut seen = Seen::default();
+    for case in fixed_cases() {
+        if let Call::Feed { numbers, calls, .. } = case.call {
+            look_at_changes(&mut seen, numbers.profile, &calls);
+        }
+    }
+    let both = [
         "1 to 1: 0",
         "1 to 3: 0",
         "1 to 3: 9",
         "3 to 1: 0",
         "3 to 3: 0",
-    ]
-    .map(str::to_string)
-    .to_vec();
+    ];
+    let mut wanted = both.map(str::to_string).to_vec();
     for other in [0, 2, 4, 255, 257, 259, (1 << 32) + 3, u64::MAX] {
         wanted.extend([1, 3].map(|own| format!("{} to {}: 9", own, other)));
     }
-    for word in of_reads {
+    for word in WORDS_OF_READS {
         wanted.push(format!("1, word {} more: 0", word));
         wanted.push(format!("3, word {} more: 9", word));
         wanted.push(format!("3, word {} 0: 0", word));

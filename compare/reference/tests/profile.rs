@@ -5,7 +5,7 @@
 
 use vtiming_reference::capture::NANOSECONDS;
 use vtiming_reference::cases::edition_streams;
-use vtiming_reference::feed::{cut_everywhere, Lists};
+use vtiming_reference::feed::{cut_everywhere, refused_writes, Lists};
 use vtiming_reference::generate::{as_profiles, file, under};
 use vtiming_reference::generate::{OTHER_EDITIONS, OTHER_PROFILES, OTHER_VERSIONS, WIDE_PROFILES};
 use vtiming_reference::pcap::{Capture, Frame};
@@ -417,41 +417,22 @@ fn a_list_and_a_call_are_refused_by_22_before_all_of_the_list() {
 /// The writer: 20, then 22, then 1 to 7, 10 to 13 and 24.
 #[test]
 fn the_writer_gives_22_after_20_and_before_1() {
-    type Three<'a> = (&'a [u64], &'a [u32], &'a [u8]);
-    let good: Three = (&[5, 6], &[0, 0], &[0, 1]);
-    let uneven: Three = (&[5, 4], &[0], &[2, 2]);
-    let high: Three = (&[5, 4], &[0, 0], &[0, 2]);
-    let back: Three = (&[5, 4], &[0, 0], &[0, 1]);
-    let late: Three = (&[5, 600_000_000_006], &[0, 0], &[0, 1]);
-    let accepted = mended_numbers()[7];
-    let mut wrong: Vec<(Refusal, Numbers, Three)> = (1..=7)
-        .zip(mended_numbers())
-        .map(|(number, numbers)| (refused(number, 0), numbers, uneven))
-        .collect();
-    wrong.extend([
-        (refused(10, 0), accepted, uneven),
-        (refused(11, 1), accepted, high),
-        (refused(12, 1), accepted, back),
-        (refused(13, 1), accepted, late),
-        (refused(24, 0), accepted, good),
-    ]);
-    for (refusal, numbers, lists) in wrong {
+    for (refusal, numbers, lists) in refused_writes() {
+        let answer = |version, profile, room| {
+            let numbers = numbers.of(profile);
+            writer(version, &numbers, lists.lent(), room).unwrap_err()
+        };
         for version in [1, 2] {
             for profile in PROFILES {
-                let answer = writer(version, &numbers.of(profile), lists, 50);
-                assert_eq!(answer, Err(refusal));
+                assert_eq!(answer(version, profile, 50), refusal);
             }
-            for profile in OTHER_PROFILES {
-                for room in [0, 50, 51] {
-                    let answer = writer(version, &numbers.of(profile), lists, room);
-                    assert_eq!(answer, Err(refused(22, 0)));
-                }
+            for (profile, room) in OTHER_PROFILES.into_iter().zip([0, 50, 51, 1000]) {
+                assert_eq!(answer(version, profile, room), refused(22, 0));
             }
         }
         for version in OTHER_VERSIONS {
-            for profile in [PROFILES.to_vec(), OTHER_PROFILES.to_vec()].concat() {
-                let answer = writer(version, &numbers.of(profile), lists, 51);
-                assert_eq!(answer, Err(refused(20, 0)));
+            for profile in PROFILES.into_iter().chain(OTHER_PROFILES) {
+                assert_eq!(answer(version, profile, 51), refused(20, 0));
             }
         }
     }
@@ -496,10 +477,9 @@ fn a_capture_as_compressed() {
     }
 }
 
-/// 22 comes before 1 to 7, 8, 33, 30, 31, 32, 12, 13 and 15, and its place is 0. Each
-/// of these captures is refused otherwise, or has too little room, as either profile.
-#[test]
-fn a_capture_is_refused_by_22_first_of_all() {
+/// Captures that are refused as either profile, where 87 bytes are lent: by which
+/// number and where, by which edition and with which offset.
+fn refused_captures() -> Vec<(Refusal, u32, u32, Vec<u8>)> {
     let good = captured();
     let second = 24 + 16 + 54;
     let changed = |place: usize, bytes: [u8; 4]| {
@@ -507,38 +487,46 @@ fn a_capture_is_refused_by_22_first_of_all() {
         capture[place..place + 4].copy_from_slice(&bytes);
         capture
     };
-    let after_22 = [
-        (15, 0, 1, 0, good.clone()),
-        (8, 0, 3, 100, good.clone()),
-        (33, 0, 1, 100, vec![]),
-        (30, 0, 2, 0, good[..23].to_vec()),
-        (31, 1, 1, 0, good[..second + 1].to_vec()),
-        (32, 1, 2, 0, changed(second + 4, [255; 4])),
-        (12, 1, 1, 0, changed(second + 4, [0; 4])),
-        (13, 1, 2, 0, changed(second, [89, 2, 0, 0])),
-    ];
-    for (number, place, edition, offset, bytes) in after_22 {
-        let asked = |profile| Asked {
-            offset,
-            ..asked(edition, profile)
+    vec![
+        (refused(15, 0), 1, 0, good.clone()),
+        (refused(8, 0), 3, 100, good.clone()),
+        (refused(33, 0), 1, 100, vec![]),
+        (refused(30, 0), 2, 0, good[..23].to_vec()),
+        (refused(31, 1), 1, 0, good[..second + 1].to_vec()),
+        (refused(32, 1), 2, 0, changed(second + 4, [255; 4])),
+        (refused(12, 1), 1, 0, changed(second + 4, [0; 4])),
+        (refused(13, 1), 2, 0, changed(second, [89, 2, 0, 0])),
+    ]
+}
+
+/// 22 comes before 1 to 7, 8, 33, 30, 31, 32, 12, 13 and 15, and its place is 0.
+#[test]
+fn a_capture_is_refused_by_22_first_of_all() {
+    for (refusal, edition, offset, bytes) in refused_captures() {
+        let answer = |numbers: Numbers, room| {
+            let asked = Asked {
+                offset,
+                numbers,
+                ..asked(edition, VIDEO)
+            };
+            let (number, place, filled) = expected_capture_call(&asked, &bytes, room);
+            assert_eq!(filled, None);
+            let text = expected_capture_output(&asked, &bytes);
+            assert_eq!(number == 22, text == "refused 22 0\n");
+            refused(number, place)
+        };
+        let late = Numbers {
+            tro: Some(20_000),
+            ..FOUR
         };
         for profile in PROFILES {
-            let answer = expected_capture_call(&asked(profile), &bytes, 87);
-            assert_eq!(answer, (number, place, None));
-            let mut wrong = asked(profile);
-            wrong.numbers.tro = Some(20_000);
-            assert_eq!(expected_capture_call(&wrong, &bytes, 87), (7, 0, None));
+            assert_eq!(answer(FOUR.of(profile), 87), refusal);
+            assert_eq!(answer(late.of(profile), 87), refused(7, 0));
         }
         for profile in OTHER_PROFILES.into_iter().chain(WIDE_PROFILES) {
-            let mut asked = asked(profile);
-            for room in [0, 87, 1000] {
-                let answer = expected_capture_call(&asked, &bytes, room);
-                assert_eq!(answer, (22, 0, None));
-            }
-            assert_eq!(expected_capture_output(&asked, &bytes), "refused 22 0\n");
-            for numbers in mended_numbers() {
-                asked.numbers = numbers.of(profile);
-                assert_eq!(expected_capture_call(&asked, &bytes, 0), (22, 0, None));
+            for numbers in mended_numbers().into_iter().chain([FOUR, late]) {
+                assert_eq!(answer(numbers.of(profile), 0), refused(22, 0));
+                assert_eq!(answer(numbers.of(profile), 1000), refused(22, 0));
             }
         }
     }
