@@ -210,7 +210,9 @@ pub fn cases(seed: u64, index: u64) -> Vec<Case> {
     // The files of `generate` depend on seed and number too; the other cases
     // must not repeat their choices.
     let mut random = Random::new(seed ^ 0x6361_7365, index);
-    let turn = (index + index / ROUND) as usize;
+    // Within one kind of call it goes on with every second round, as set-ups come in
+    // every second one.
+    let turn = (index / ROUND / 2 + index % ROUND) as usize;
     let others = Others::any(&mut Random::new(seed ^ 0x6f74_6865, index), turn);
     let calls = match index % ROUND {
         0..=11 => measured(&others, &file(seed, index)),

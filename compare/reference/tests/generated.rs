@@ -1285,7 +1285,7 @@ fn what_class_0_means_shows_in_the_cases() {
 /// By which editions and as which profiles an input without a version comes: as video
 /// by both, as compressed by both or by one, then by editions and as profiles that
 /// there are not.
-fn look_at_by(fixed: bool, by: &[(u32, u64)]) {
+fn look_at_by(seen: &mut Seen, what: &str, fixed: bool, by: &[(u32, u64)]) {
     let (compressed, others) = if fixed { (2, 5) } else { (1, 1) };
     assert_eq!(by.len(), 2 + compressed + 2 * others);
     assert_eq!(by[..2], [(EDITION_1, VIDEO), (EDITION_2, VIDEO)]);
@@ -1294,6 +1294,9 @@ fn look_at_by(fixed: bool, by: &[(u32, u64)]) {
         .iter()
         .all(|(edition, profile)| { !is_other_edition(*edition) && *profile == COMPRESSED }));
     assert!(!fixed || as_compressed[0] != as_compressed[1]);
+    for (edition, _) in as_compressed {
+        seen.add(&format!("{} as compressed by {}", what, edition));
+    }
     let (by_8, by_22) = rest.split_at(others);
     assert!(by_8
         .iter()
@@ -1342,7 +1345,8 @@ fn every_input_is_tried_by_both_editions_as_both_profiles_and_by_others() {
             continue;
         }
         let name = name_of(first);
-        seen.add(&format!("{} {}", sort_of(fixed), name));
+        let what = format!("{} {}", sort_of(fixed), name);
+        seen.add(&what);
         let tried: Vec<Tried> = input.iter().map(tried).collect();
         if name == "measure" {
             let editions: Vec<u32> = tried.iter().map(|tried| tried.edition.unwrap()).collect();
@@ -1356,7 +1360,7 @@ fn every_input_is_tried_by_both_editions_as_both_profiles_and_by_others() {
         let by = tried
             .iter()
             .map(|tried| (tried.edition.unwrap(), tried.profile.unwrap()));
-        look_at_by(fixed, &by.collect::<Vec<(u32, u64)>>());
+        look_at_by(&mut seen, &what, fixed, &by.collect::<Vec<(u32, u64)>>());
         if name == "feed" {
             look_at_fed(fixed, &input);
         } else {
@@ -1370,6 +1374,13 @@ fn every_input_is_tried_by_both_editions_as_both_profiles_and_by_others() {
     assert_eq!(seen.0["generated capture"], 1000);
     assert!(seen.0["generated measure"] > 10 && seen.0["fixed measure"] > 10);
     assert!(seen.0["fixed capture"] > 3000 && seen.0["fixed feed"] > 100);
+    // By turns, so about half of them by each edition.
+    for (name, count) in [("feed", 200), ("set-up", 50), ("capture", 1000)] {
+        for edition in EDITIONS {
+            let what = format!("generated {} as compressed by {}", name, edition);
+            assert!((count / 3..count).contains(&seen.0[&what]), "{}", what);
+        }
+    }
 }
 
 /// What a whole list is answered: the nine numbers and the rows.
