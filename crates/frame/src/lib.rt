@@ -178,18 +178,15 @@ impl Frame {
         requires { ⌜ self .held < 1000000000 ⌝ }
         ensures { λ r. ⌜ r ≡ tickedOf self stamp ⌝ }
     {
-        Frame {
-            held: self.held + 1,
-            first: self.first,
-            stamp: self.stamp,
-            phase: self.phase,
-            differs: self.differing(stamp),
-            reads: 0,
-            wait: 0,
-            top: 0,
-            deficit: 0,
-            late: 0,
-        }
+        let mut f = self;
+        f.differs = self.differing(stamp);
+        f.held = self.held + 1;
+        f.reads = 0;
+        f.wait = 0;
+        f.top = 0;
+        f.deficit = 0;
+        f.late = 0;
+        f
     }
 
     // One packet more, `gone` grains after the one before. What goes by is taken off the wait, so that nothing is long.
@@ -268,10 +265,11 @@ impl Frame {
     pub fn answer(self, plan: Plan, number: u64) -> Buffer
         ensures { λ r. ⌜ r ≡ answerOf plan number self ⌝ }
     {
-        if plan.buffered {
-            return self.judged(plan, number);
+        let judged = plan.buffered;
+        match judged {
+            true => self.judged(plan, number),
+            false => Buffer::None,
         }
-        Buffer::None
     }
 
     // A broken frame fails by being broken, or is not judged; of a whole one under goes first.
