@@ -87,13 +87,13 @@ pub kinds-known : (kindLength 1 ≡ 16) × (kindLength 2 ≡ 14) × (kindLength 
     × ((kind : ℕ) → (kind ≡ 1 → ⊥) → (kind ≡ 2 → ⊥) → (kind ≡ 3 → ⊥) → kindLength kind ≡ 0)
 kinds-known = of-file.lengths
 
--- F14, N1: "22 and 23 read with that kind too": of a record that is all there
+-- "22 and 23 read with that kind too" (document 02, vii): of a record that is all there
 module _ (l : List ℕ) (w : Whole (bodyLength l) (kindOf l) l) where
-  -- N1: 22 where its length is not its kind's, wherever it stands
+  -- N1, F14: 22 where its length is not its kind's, wherever it stands
   pub kind-22 : (first : Bool) → (bodyLength l ≡ kindLength (kindOf l) → ⊥) → formatRefusal first l ≡ 22
   kind-22 = of-file.wrong-length l w
 
-  -- N1: else 23 where it is the first and a packet
+  -- N1, F14: else 23 where it is the first and a packet
   pub packet-first-23 : bodyLength l ≡ kindLength (kindOf l) → isParameters (kindOf l) ≡ false → formatRefusal true l ≡ 23
   packet-first-23 = of-file.none-first l w
 

@@ -307,7 +307,7 @@ module _ (plan : Plan) (p : Planned plan) (h : History) (ordered : Climbs (h .ti
   pub decided-is : DecidedIs plan h (bufferAt plan h (h .packets))
   decided-is = buffer-to (h .packets) (omega arith)
 
--- V13: where the buffer is not judged no frame answers anything
+-- where the buffer is not judged no frame answers anything
 module _ (plan : Plan) (h : History) (unbuffered : plan .buffered ≡ false) where
   answer-none : (i : ℕ) → answerAt plan h i ≡ None
   unfolding answerOf

@@ -70,7 +70,7 @@ module _ {plan : Plan} {f g : Frame} {gone : ℕ} (t stamp : ℕ) (e : g ≡ ope
     waits = omega (arith, opened-timed .waits, bound-fits plan p, p .near, p .short);
   }
 
--- V13: what a push is, by whether the buffer is judged
+-- what a push is, by whether the buffer is judged
 module _ (plan : Plan) (f : Frame) (gone t stamp : ℕ) where
   abbrev o : Frame
   o = openedOf plan f t stamp
@@ -84,7 +84,7 @@ module _ (plan : Plan) (f : Frame) (gone t stamp : ℕ) where
   pub push-unjudged : plan .buffered ≡ false → tickedOf o stamp ≡ pushOf plan f gone t stamp
   push-unjudged e = ap by (sym e)
 
--- V13: and what a state may hold of reads
+-- and what a state may hold of reads
 module _ (plan : Plan) (held : ℕ) where
   abbrev bounds : Bool → Most
   bounds judged = record {
