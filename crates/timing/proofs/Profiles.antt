@@ -16,7 +16,7 @@ use Rattle.frame.specs.declared.Buffer.the-variants.{None}
 use Rattle.frame.specs.Step as F
 use Rattle.timing.specs.declared.Rules.{Rules}
 use Rattle.timing.specs.declared.State.{State}
-use Rattle.timing.specs.Step.{streamWith, rulesOf, freshOf, goneOf, arriveOf, markOf, stepOf, rowsOf, stateAfter, rowsAfter}
+use Rattle.timing.specs.Step.{streamWith, rulesOf, freshOf, withOther, goneOf, arriveOf, markOf, stepOf, rowsOf, stateAfter, rowsAfter}
 use Rattle.timing.specs.Profiles.{besideReads, compressed, besideLevels}
 
 module _ (edition : ℕ) (p : Parameters) where
@@ -38,34 +38,10 @@ module _ (edition : ℕ) (p : Parameters) where
 
   -- a state with another open frame, and with another answer
   abbrev with-open : State → Frame → State
-  with-open s f = record {
-    numbers = s .numbers;
-    past = s .past;
-    rest = s .rest;
-    bucket = s .bucket;
-    frames = record {
-      begun = s .frames .begun;
-      closed = s .frames .closed;
-      marked = s .frames .marked;
-      current = f;
-      buffer = s .frames .buffer;
-    };
-  }
+  with-open s f = withOther (s .numbers) f (s .frames .buffer) s
 
   abbrev with-answer : State → Buffer → State
-  with-answer s b = record {
-    numbers = s .numbers;
-    past = s .past;
-    rest = s .rest;
-    bucket = s .bucket;
-    frames = record {
-      begun = s .frames .begun;
-      closed = s .frames .closed;
-      marked = s .frames .marked;
-      current = s .frames .current;
-      buffer = b;
-    };
-  }
+  with-answer s b = withOther (s .numbers) (s .frames .current) b s
 
   arrive-alike : (s : State) (q : Packet)
       → compressed (arriveOf video s (q .time) (q .stamp)) ≡ arriveOf other (compressed s) (q .time) (q .stamp)

@@ -5,7 +5,7 @@ use Rattle.frame.specs.declared.Frame.{Frame}
 use Rattle.frame.specs.declared.Row.{Row}
 use Rattle.frame.specs.declared.Buffer.the-variants.{None}
 use Rattle.timing.specs.declared.State.{State}
-use Rattle.timing.specs.Step.{streamWith}
+use Rattle.timing.specs.Step.{streamWith, withOther}
 
 -- V13: an open frame without what is kept of reads
 abbrev pub besideReads : Frame → Frame
@@ -24,19 +24,8 @@ besideReads f = record {
 
 -- V13: a state as a compressed stream's: nothing of reads, and no answer of the buffer
 abbrev pub compressed : State → State
-compressed s = record {
-  numbers = streamWith Compressed (s .numbers .edition) (s .numbers .parameters);
-  past = s .past;
-  rest = s .rest;
-  bucket = s .bucket;
-  frames = record {
-    begun = s .frames .begun;
-    closed = s .frames .closed;
-    marked = s .frames .marked;
-    current = besideReads (s .frames .current);
-    buffer = None;
-  };
-}
+compressed s =
+    withOther (streamWith Compressed (s .numbers .edition) (s .numbers .parameters)) (besideReads (s .frames .current)) None s
 
 -- V13: a row "with peak and least 0"
 abbrev pub besideLevels : Row → Row

@@ -12,7 +12,9 @@ use Rattle.packet.specs.declared.Packet.{Packet}
 use Rattle.packet.specs.Paper.{marked}
 use Rattle.packet.specs.Step.{nothing, sinceOf, nextOf}
 use Rattle.bucket.specs.Step as B
+use Rattle.frame.specs.declared.Frame.{Frame}
 use Rattle.frame.specs.declared.Row.{Row}
+use Rattle.frame.specs.declared.Buffer.{Buffer}
 use Rattle.frame.specs.Step as F
 use Rattle.timing.specs.declared.StreamNumbers.{StreamNumbers}
 use Rattle.timing.specs.declared.Stated.{Stated}
@@ -70,6 +72,16 @@ rulesOf x = record {
 -- B7: the state before the first packet
 abbrev pub freshOf : StreamNumbers → State
 freshOf x = record { numbers = x; past = nothing; rest = 0; bucket = B.emptyOf; frames = F.noFrames }
+
+-- a state with other stream numbers, another open frame and another answer of the buffer, and all else as it is
+abbrev pub withOther : StreamNumbers → Frame → Buffer → State → State
+withOther x f b s = record {
+  numbers = x;
+  past = s .past;
+  rest = s .rest;
+  bucket = s .bucket;
+  frames = record { begun = s .frames .begun; closed = s .frames .closed; marked = s .frames .marked; current = f; buffer = b };
+}
 
 -- ---- one packet more
 
