@@ -125,8 +125,8 @@ module _ (edition : ℕ) (s : List ℕ) where
 
     -- F11: "version 1 files keep 0 as wide": the report of a file of version 1 is the one of its numbers with 0 read as 3
     pub version-one-measured : w .version ≡ 1 → let p = w .parameters in
-        bytesFor edition w ps
-        ≡ encoded (reportOf (streamWith (profileOf (w .kind)) edition (given (p .rate) (p .schedule) (firstClass (p .class)) (p .height) (p .n) (p .maxudp) (p .tro))) ps)
+        let wide = given (p .rate) (p .schedule) (firstClass (p .class)) (p .height) (p .n) (p .maxudp) (p .tro) in
+        bytesFor edition w ps ≡ encoded (reportOf (streamWith (profileOf (w .kind)) edition wide) ps)
     version-one-measured = file-proved.first-measured edition w ps
 
     -- C3: "Each number is 8 bytes, signed, big-endian": number k of the report is what its 8 bytes are, read as a signed number

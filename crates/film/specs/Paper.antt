@@ -41,7 +41,9 @@ module _ (t : Stated) (port offset : ℕ) (b : List ℕ) where
 
   -- R15: "Refused, nothing is written."
   abbrev pub filledFrom : List ℕ → Checked → List ℕ
-  filledFrom out (Fine y) = pick (leb (length (captureBytes x port offset b)) (length out)) (captureBytes x port offset b ++ drop (length (captureBytes x port offset b)) out) out
+  filledFrom out (Fine y) =
+      let bytes = captureBytes x port offset b in
+      pick (leb (length bytes) (length out)) (bytes ++ drop (length bytes) out) out
   filledFrom out (Refused number place) = out
 
   unfoldable pub captureFilled : List ℕ → List ℕ

@@ -132,7 +132,8 @@ fn film(numbers: StreamNumbers, port: u16, offset: u32, capture: &[u8], out: &mu
     )
 }
 
-// A whole capture of a profile, by an edition of the test plan: the refusal number and nothing written; or 0, and the eleven numbers and the rows stand in front.
+// A whole capture of a profile, by an edition of the test plan: the refusal number and nothing written; or 0, and the eleven numbers and the rows
+// stand in front.
 #[no_mangle]
 pub extern "C" fn vtiming_capture(
     capture: &[u8],

@@ -335,7 +335,8 @@ fn ask(
     }
 }
 
-// A stream set up: 22 for a kind that stands for no profile, 1 to 8, then 15 for too few words, and nothing written; or 0, and the fresh state's words stand in front.
+// A stream set up: 22 for a kind that stands for no profile, 1 to 8, then 15 for too few words, and nothing written; or 0, and the fresh
+// state's words stand in front.
 #[no_mangle]
 pub extern "C" fn vtiming_set_up(
     rate: u8,

@@ -121,8 +121,8 @@ module _ (edition : ℕ) (h k : Heading) (e : resolved h ≡ resolved k) (q : h 
 
 -- F11: a file of version 1, and that of version 2 whose class 0 is written as 3
 pub first-measured : (edition : ℕ) (w : Heading) (ps : List Packet) → w .version ≡ 1 → let p = w .parameters in
-    bytesFor edition w ps
-    ≡ encoded (reportOf (streamWith (profileOf (w .kind)) edition (given (p .rate) (p .schedule) (firstClass (p .class)) (p .height) (p .n) (p .maxudp) (p .tro))) ps)
+    let wide = given (p .rate) (p .schedule) (firstClass (p .class)) (p .height) (p .n) (p .maxudp) (p .tro) in
+    bytesFor edition w ps ≡ encoded (reportOf (streamWith (profileOf (w .kind)) edition wide) ps)
 unfolding classIn
 first-measured edition w ps e = rw e
 

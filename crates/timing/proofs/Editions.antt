@@ -35,7 +35,9 @@ module _ (profile : Profile) (p : Parameters) where
     unfolding stepOf arriveOf markOf rulesOf F.arriveOf F.closeOf F.openedOf F.countedOf F.tickedOf
     step-beside s q = go (marked q)
       where
-        go : (m : Bool) → besideBuffer (stepped (rulesOf (streamWith profile edition p)) s q m) ≡ besideBuffer (stepped (rulesOf (ofProfile profile p)) (besideBuffer s) q m)
+        go : (m : Bool)
+            → besideBuffer (stepped (rulesOf (streamWith profile edition p)) s q m)
+            ≡ besideBuffer (stepped (rulesOf (ofProfile profile p)) (besideBuffer s) q m)
         go true = refl
         go false = refl
 

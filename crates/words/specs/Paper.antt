@@ -61,8 +61,8 @@ insteadHeight = 0
 abbrev pub insteadTro : ℕ
 insteadTro = 4294967294
 
--- R18: "One that is too large for its place, as a height of 65,536, is refused as set-up refuses such a number (1 to 8), or by 33.", and a profile by 22: instead
--- of it stands a number that fits and is refused alike (output-as-given, proofs/AsGiven.antt)
+-- R18: "One that is too large for its place, as a height of 65,536, is refused as set-up refuses such a number (1 to 8), or by 33.", and a profile by
+-- 22: instead of it stands a number that fits and is refused alike (output-as-given, proofs/AsGiven.antt)
 unfoldable pub askedOf : Numbers → Asked
 askedOf x = record {
   stated = record {

@@ -79,8 +79,8 @@ returns c =
     let enough = weighed-enough _ _ _ _ _ (told .before .before .weigh .ensures) (told .weighed .given .1) in
     record {
       number-is = sym (ap (λ (a : Answer). a .number) (weighed-answer _ _ _ _ _ (told .before .before .weigh .ensures) (told .weighed .given .1)));
-      bytes-are = film-filled _ _ _ _ _ enough (stated-gives _ _ _ (numbers .numbers .ensures) (film .film .ensures)) (sum .put-summary .ensures) (ten .write64 .ensures)
-          (eleven .write642 .ensures);
+      bytes-are = film-filled _ _ _ _ _ enough (stated-gives _ _ _ (numbers .numbers .ensures) (film .film .ensures))
+          (sum .put-summary .ensures) (ten .write64 .ensures) (eleven .write642 .ensures);
     }
 
 returns-2 : tie.Need-returns-2
