@@ -8,7 +8,7 @@ ghost use Rattle.laws.specs.Choose.{pick};
 ghost use Rattle.laws.specs.Every.{every};
 ghost use Rattle.frame.specs.Paper.{nextReadOf, bufferNumber, bufferFrame, bufferPlace, hasFailed, isNone, brokenFails};
 ghost use Rattle.frame.specs.Step.{emptyOf, openedOf, goneOf, differsOf, countedOf, tickedOf, pushOf, kindOf, detailOf, wholeRow};
-ghost use Rattle.frame.specs.Step.{brokenRow, rowOf, numbersOf, rowWidth, closedRow, brokenAnswer, judgedOf, answerOf, joined};
+ghost use Rattle.frame.specs.Step.{brokenRow, rowOf, numbersOf, rowWidth, closedRow, brokenAnswer, answerOf, joined};
 ghost use Rattle.frame.specs.Step.{noFrames, arriveOf, closeOf};
 ghost use Rattle.frame.specs.Range.{Planned, PushAsks, NextAsks, RowAsks, FramesRowAsks, mostOf, ranges};
 use grain::NextRead;
@@ -195,10 +195,11 @@ impl Frame {
         ensures { λ r. ⌜ r ≡ pushOf plan self gone t stamp ⌝ }
     {
         let f = self.opened(plan, t, stamp);
+        let by = f.gone_by(gone) * plan.reads.den;
+        let reads = grain::reads_on(f.reads, f.wait, plan.packets, plan.reads.num, by);
+        let counted = f.counted(stamp, reads);
         if plan.buffered {
-            let by = f.gone_by(gone) * plan.reads.den;
-            let reads = grain::reads_on(f.reads, f.wait, plan.packets, plan.reads.num, by);
-            return f.counted(stamp, reads);
+            return counted;
         }
         f.ticked(stamp)
     }
@@ -261,21 +262,14 @@ impl Frame {
         }
     }
 
-    // What the frame answers: nothing, where the buffer is not judged.
+    // Nothing, where the buffer is not judged. A broken frame fails by being broken, or is not judged; of a whole one under goes first.
+    // In one function: an answer that another one hands on takes along the bytes between its tag and its numbers.
     pub fn answer(self, plan: Plan, number: u64) -> Buffer
         ensures { λ r. ⌜ r ≡ answerOf plan number self ⌝ }
     {
-        let judged = plan.buffered;
-        match judged {
-            true => self.judged(plan, number),
-            false => Buffer::None,
+        if !plan.buffered {
+            return Buffer::None;
         }
-    }
-
-    // A broken frame fails by being broken, or is not judged; of a whole one under goes first.
-    fn judged(self, plan: Plan, number: u64) -> Buffer
-        ensures { λ r. ⌜ r ≡ judgedOf plan number self ⌝ }
-    {
         let kind = self.kind(plan.packets);
         if kind != 0 {
             return broken_answer(plan.edition, number, kind);

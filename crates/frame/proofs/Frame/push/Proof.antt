@@ -16,39 +16,40 @@ gone-by-requires : tie.Need-gone-by-requires
 gone-by-requires c κs = search needs
 
 mul-by : tie.Need-mul-by
-mul-by c = let o = c .before .before .before in
+mul-by c = let o = c .before .before in
     let s = o .before in
     record { fits = rw (c .before .gone-by .ensures) (omega (arith, reach-fits _ _ (o .opened .ensures) (s .pre .0) (s .pre .1) .goes)) }
 
 reads-on-requires : tie.Need-reads-on-requires
-reads-on-requires c κs = let o = c .before .before .before in
+reads-on-requires c κs = let o = c .before .before in
     let s = o .before in
     rw (c .before .gone-by .ensures) (reach-fits _ _ (o .opened .ensures) (s .pre .0) (s .pre .1))
 
 counted-requires : tie.Need-counted-requires
-counted-requires c κs = let o = c .before .before .before .before in
+counted-requires c κs = let o = c .before .before .before in
     let s = o .before in
     opened-timed _ _ (o .opened .ensures) (s .pre .0) (s .pre .1) .few
 
 returns : tie.Need-returns
-returns c = let r = c .before in
+returns c = let d = c .before in
+    let r = d .before in
     let g = r .before .before in
-    let o = g .before .before in
+    let o = g .before in
     let a = o .before .args in
-    c .counted .ensures
+    d .counted .ensures
     ∙ ap (countedOf _ (a .stamp)) (r .reads-on .ensures
     ∙ ap (λ (x : ℕ). readsOn (o .opened .result .reads) (o .opened .result .wait) (a .plan .packets) (a .plan .reads .num)
     (x * a .plan .reads .den)) (g .gone-by .ensures))
     ∙ ap (λ (f : Frame). countedOf f (a .stamp) (readsOf (a .plan) f (a .gone))) (o .opened .ensures)
-    ∙ push-judged (a .plan) (a .self) (a .gone) (a .t) (a .stamp) (g .before .if1 .taken)
+    ∙ push-judged (a .plan) (a .self) (a .gone) (a .t) (a .stamp) (c .if1 .taken)
 
 ticked-requires : tie.Need-ticked-requires
-ticked-requires c κs = let o = c .before in
+ticked-requires c κs = let o = c .before .before .before .before .before in
     let s = o .before in
     opened-timed _ _ (o .opened .ensures) (s .pre .0) (s .pre .1) .few
 
 returns-2 : tie.Need-returns-2
-returns-2 c = let o = c .before .before in
+returns-2 c = let o = c .before .before .before .before .before .before in
     let a = o .before .args in
     c .ticked .ensures ∙ ap (λ (f : Frame). tickedOf f (a .stamp)) (o .opened .ensures)
     ∙ push-unjudged (a .plan) (a .self) (a .gone) (a .t) (a .stamp) (c .before .if1 .left)
