@@ -17,23 +17,17 @@ broken-answer-requires c κs = search needs
 returns-2 : tie.Need-returns-2
 returns-2 c =
     let told = c .before in
-    answer-judged _ _ _ (told .before .before .if1 .left)
+    answer-judged _ _ _ (search needs)
     (c .broken-answer .ensures ∙ judged-broken _ _ _ (told .before .kind .ensures) (told .if2 .taken))
 
 returns-3 : tie.Need-returns-3
-returns-3 c =
-    let kind = c .before .before .before in
-    answer-judged _ _ _ (kind .before .if1 .left) (judged-under _ _ _ (omega arith) (omega arith))
+returns-3 c = answer-judged _ _ _ (search needs) (judged-under _ _ _ (omega arith) (omega arith))
 
 returns-4 : tie.Need-returns-4
-returns-4 c =
-    let kind = c .before .before .before .before .before .before in
-    answer-judged _ _ _ (kind .before .if1 .left) (judged-over _ _ _ (omega arith) (omega arith) (omega arith))
+returns-4 c = answer-judged _ _ _ (search needs) (judged-over _ _ _ (omega arith) (omega arith) (omega arith))
 
 returns-5 : tie.Need-returns-5
-returns-5 c =
-    let kind = c .before .before .before .before .before .before in
-    answer-judged _ _ _ (kind .before .if1 .left) (judged-pass _ _ _ (omega arith) (omega arith) (omega arith))
+returns-5 c = answer-judged _ _ _ (search needs) (judged-pass _ _ _ (omega arith) (omega arith) (omega arith))
 
 pub answer-spec : {M : Type 1} → statement M
 answer-spec = tie.close (tie.spec returns kind-requires broken-answer-requires returns-2 returns-3 returns-4 returns-5)
