@@ -21,7 +21,7 @@ pub const ROW: usize = 11;
 // What a stream is measured by: frames start at multiples of `period` grains and have `packets` packets;
 // the reads lie at tro + j·num/den grains after the start, by their spacing; `full` is the most that the buffer may hold;
 // by the edition a frame that is not whole fails the buffer, or is not judged. `buffered`: the buffer is judged. Where it is
-// not, reads are not counted.
+// not, nothing of reads is kept.
 pub struct Plan {
     pub period: u64,
     pub packets: u64,
@@ -190,6 +190,7 @@ impl Frame {
     }
 
     // One packet more, `gone` grains after the one before. What goes by is taken off the wait, so that nothing is long.
+    // What is not judged is left out behind the counting: asked in front of it, a test costs more.
     pub fn push(self, plan: Plan, gone: u64, t: u64, stamp: u32) -> Frame
         requires { ⌜ Planned plan × PushAsks plan self gone ⌝ }
         ensures { λ r. ⌜ r ≡ pushOf plan self gone t stamp ⌝ }
