@@ -1,12 +1,12 @@
 -- Kind, row and answer of a frame, case by case, each from the facts that its branch of the code has found.
 use Rattle.laws.specs.Kit.{_≡_, refl, length, ℕ, _≤_, _<_, arith, eqb, ltb, lt-ltb, le-ltb, eq-eqb, ne-eqb}
-use Rattle.laws.specs.Kit.{true, false, not, not-true, not-false}
+use Rattle.laws.specs.Kit.{true, false, not, not-false}
 use Rattle.laws.proofs.Choose.{pick-either}
 use Rattle.frame.specs.declared.Plan.{Plan}
 use Rattle.frame.specs.declared.Frame.{Frame}
 use Rattle.frame.specs.declared.Row.{Row}
 use Rattle.frame.specs.declared.Buffer.{Buffer}
-use Rattle.frame.specs.declared.Buffer.the-variants.{None, Pass, Under, Over}
+use Rattle.frame.specs.declared.Buffer.the-variants.{Pass, Under, Over}
 use Rattle.frame.specs.Step.{kindOf, detailOf, wholeRow, brokenRow, rowOf, numbersOf, rowWidth, brokenAnswer, judgedOf, answerOf}
 
 module _ (f : Frame) (n : ℕ) where
@@ -68,10 +68,6 @@ module _ (plan : Plan) (number : ℕ) (f : Frame) where
   judged-pass e d t = rw (eq-eqb (kindOf f (plan .packets)) 0 e, le-ltb 0 (f .deficit) d, le-ltb (plan .full) (f .top) t)
 
   -- and what is judged is the answer, where something is
-  pub answer-none : not (plan .buffered) ≡ true → None ≡ answerOf plan number f
-  unfolding answerOf
-  answer-none e = rw (not-true (plan .buffered) e)
-
   pub answer-judged : {b : Buffer} → not (plan .buffered) ≡ false → b ≡ judgedOf plan number f → b ≡ answerOf plan number f
   unfolding answerOf
   answer-judged e j = rw (not-false (plan .buffered) e) j

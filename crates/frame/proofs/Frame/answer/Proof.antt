@@ -1,12 +1,14 @@
 -- None where the buffer is not judged; else the answer by the kind and the two tests, in order.
-use Rattle.laws.specs.Kit.{_∙_, arith}
-use Rattle.frame.proofs.FrameKinds.{judged-broken, judged-under, judged-over, judged-pass, answer-none, answer-judged}
+use Rattle.laws.specs.Kit.{_∙_, arith, not-true}
+use Rattle.frame.specs.Step.{answerOf}
+use Rattle.frame.proofs.FrameKinds.{judged-broken, judged-under, judged-over, judged-pass, answer-judged}
 use borrow.Author.Needs.{needs}
 use Rattle.frame.proofs.Frame.answer.Statement.{statement}
 use Rattle.frame.proofs.Frame.answer.Tie as tie
 
 returns : tie.Need-returns
-returns c = answer-none _ _ _ (c .if1 .taken)
+unfolding answerOf
+returns c = rw (not-true (c .before .before .args .plan .buffered) (c .if1 .taken))
 
 kind-requires : tie.Need-kind-requires
 kind-requires c κs = search needs
