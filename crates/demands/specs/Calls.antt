@@ -2,14 +2,14 @@
 -- equations with `answerOf`, `filledBy` and `roomOf` of report's Paper, and each theorem is a sentence about these. Then the next read of a
 -- packet (`vtiming_next_read`): `nextReadNumber` and `nextReadLeft` of the same page. Then set-up and calls in a row over a state in words
 -- (`vtiming_set_up`, `vtiming_feed`): `callOf` of probe's Calls, and `Dealt` of its Dealt.
-use Rattle.laws.specs.Kit.{_≡_, ap, _∙_, true, List, _∷_, _++_, map, ℕ, _+_, _*_, _≤_, _<_, arith, ℤ, pos, length, take, drop, getD}
+use Rattle.laws.specs.Kit.{_≡_, ap, _∙_, true, false, List, _∷_, _++_, map, ℕ, _+_, _*_, _≤_, _<_, arith, ℤ, pos, length, take, drop, getD}
 use Rattle.laws.specs.Kit.{le-leb, lt-leb}
 use mir.Syntax.{w64}
 use mir.Val.{toZ}
 use Rattle.laws.specs.Choose.{AllBelow}
 use Rattle.laws.specs.Count.{count}
 use Rattle.limits.specs.declared.Parameters.{Parameters}
-use Rattle.limits.specs.Paper.{profileOf, given}
+use Rattle.limits.specs.Paper.{isProfile, profileOf, given}
 use Rattle.limits.specs.Accepted.{KnownEdition}
 use Rattle.limits.specs.Steps.{ParametersHeld}
 use Rattle.packet.specs.declared.Packet.{Packet}
@@ -22,14 +22,14 @@ use Rattle.record.specs.Walk.{checkedOf, checkedNumber, checkedOffset}
 use Rattle.record.specs.Write.{fileLength}
 use Rattle.record.proofs.Editions.{known-edition, accepted-edition}
 use Rattle.record.proofs.WriteRead.{written-reads}
-use Rattle.timing.specs.declared.StreamNumbers.{StreamNumbers}
 use Rattle.timing.specs.declared.Stated.{Stated}
 use Rattle.timing.specs.declared.State.{State}
 use Rattle.timing.specs.declared.Fed.the-variants.{Accepted}
 use Rattle.timing.specs.Step.{streamWith, statedOf, statedAs, statedRefusal, freshOf, numbers}
 use Rattle.timing.specs.declared.Awaited.{Awaited}
-use Rattle.timing.specs.declared.Awaited.the-variants.{In, NoneLeft}
-use Rattle.timing.specs.Answers.{summaryWidth, summaryOf, fedNumber, fedPlace, nextOf, awaitedNumber}
+use Rattle.timing.specs.declared.Awaited.the-variants.{In, NoneLeft, Refused}
+use Rattle.timing.specs.Answers.{summaryWidth, summaryOf, fedNumber, fedPlace, nextOf, statedNext, awaitedNumber}
+use Rattle.timing.proofs.Awaiting.{stated-next, stated-next-22}
 use Rattle.timing.specs.Feed.{feedOf, feedAll, allOf, Rooms}
 use Rattle.timing.specs.History.{AcceptedHistory, reached, rowsOfAll}
 use Rattle.report.specs.Paper.{streamOf, rowsOf, reportOf, encoded, bytesFor, answer, answered, answerOf, roomFor, roomOf, numberBytes}
@@ -154,19 +154,24 @@ version-one-answered = file-proved.first-answered
 
 -- ---- the next read of a packet (`vtiming_next_read`)
 
-module _ (x : StreamNumbers) (first t : ℕ) (out : List ℕ) where
+module _ (x : Stated) (first t : ℕ) (out : List ℕ) where
+  -- C6, S12: where its kind chooses a profile, it is answered as the stream's numbers are (Measurement); 22 where it chooses none
+  pub next-read-stated : (isProfile (x .kind) ≡ true → statedNext x first t ≡ nextOf (statedOf x) first t)
+      × (isProfile (x .kind) ≡ false → statedNext x first t ≡ Refused 22)
+  next-read-stated = (stated-next x first t, stated-next-22 x first t)
+
   -- C6, N14: whatever number but 0 is returned, nothing is written
   pub next-read-stays : (nextReadNumber x first t (length out) ≡ 0 → ⊥) → nextReadLeft x first t out ≡ out
   next-read-stays = next-stays x first t out
 
   -- C6, P20: where a read is left: 1, numerator and denominator, and behind them what stood there
-  pub next-read-filled : (numerator denominator : ℕ) → 3 ≤ length out → nextOf x first t ≡ In numerator denominator
+  pub next-read-filled : (numerator denominator : ℕ) → 3 ≤ length out → statedNext x first t ≡ In numerator denominator
       → nextReadLeft x first t out ≡ 1 ∷ numerator ∷ denominator ∷ drop 3 out
   next-read-filled numerator denominator room e =
       next-filled x first t out room (ap awaitedNumber e) ∙ ap (λ (a : Awaited). awaitedNumbers a ++ drop 3 out) e
 
   -- C6, P21: where none is: three zeros, and not the next frame's first read
-  pub next-read-none : 3 ≤ length out → nextOf x first t ≡ NoneLeft → nextReadLeft x first t out ≡ 0 ∷ 0 ∷ 0 ∷ drop 3 out
+  pub next-read-none : 3 ≤ length out → statedNext x first t ≡ NoneLeft → nextReadLeft x first t out ≡ 0 ∷ 0 ∷ 0 ∷ drop 3 out
   next-read-none room e = next-filled x first t out room (ap awaitedNumber e) ∙ ap (λ (a : Awaited). awaitedNumbers a ++ drop 3 out) e
 
 -- ---- set-up and one call over words

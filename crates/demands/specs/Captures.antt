@@ -25,7 +25,7 @@ use Rattle.capture.proofs.InPieces as pieces
 use Rattle.capture.proofs.Offsets as offsets
 use Rattle.timing.specs.declared.Stated.{Stated}
 use Rattle.timing.specs.declared.State.{State}
-use Rattle.timing.specs.Step.{ofParameters, statedOf, statedAs, statedRefusal, rulesOf, freshOf}
+use Rattle.timing.specs.Step.{statedOf, firstStated, statedRefusal, rulesOf, freshOf}
 use Rattle.timing.specs.Range.{inRange}
 use Rattle.timing.specs.Feed.{feedAll}
 use Rattle.intake.specs.declared.Taken.the-variants.{Accepted, Refused}
@@ -142,9 +142,9 @@ pub refused-fills-nothing : (x : Stated) (port offset : ℕ) (b out : List ℕ)
     → (captureAnswer x port offset b (length out) .number ≡ 0 → ⊥) → captureFilled x port offset b out ≡ out
 refused-fills-nothing = film.refused-fills-nothing
 
--- X13: the room that is told of a capture, with no edition and no profile, is the room of each
-pub capture-room : (x : Stated) → isProfile (x .kind) ≡ true → KnownEdition (x .edition) → (port offset : ℕ) (b : List ℕ)
-    → captureRoom x port offset b ≡ captureRoom (statedAs (ofParameters (x .parameters))) port offset b
+-- X13: the room that is told of a capture, with no edition, is the room of each
+pub capture-room : (x : Stated) → KnownEdition (x .edition) → (port offset : ℕ) (b : List ℕ)
+    → captureRoom x port offset b ≡ captureRoom (firstStated (x .kind) (x .parameters)) port offset b
 capture-room = film-editions.room-alike
 
 -- ---- the program

@@ -1,13 +1,14 @@
 -- "Both sides of each limit": the twelve cases of document 01 as one list under one claim, that what the definitions give
--- is what document 01 gives. Each case stands under its words. Numbers of any kind are written as integers, one list a side.
+-- is what document 01 gives; and a list of the same kind for fields (document 02, ix). Each case stands under its words. Numbers of any kind are written as integers, one list a side.
 use Rattle.laws.specs.Kit.{_≡_, refl, List, [], _∷_, map, ℕ, ℤ, pos, negℤ}
 use Rattle.laws.specs.Choose.{pick}
 use Rattle.laws.specs.Count.{count}
 use Rattle.laws.specs.Fold.{fold}
 use Rattle.grain.specs.Paper.{grains, nearest, phase, firstPacketTime, latency}
 use Rattle.limits.specs.Fraction.{int}
-use Rattle.limits.specs.Paper.{rateOf, frameLength, activeRatio, classOf, cMax, vrxFull, defaultTro, troGrains, troFits, firstNo}
-use Rattle.limits.specs.Paper.{setUpRefusal, isProfile, profileOf, given}
+use Rattle.limits.specs.Paper.{rateOf, frameLength, activeRatio, classOf, cMax, vrxFull, defaultTro, troGrains, packetsFit, troFits, firstNo}
+use Rattle.limits.specs.Paper.{perPeriod, setUpRefusal, isProfile, profileOf, given}
+use Rattle.limits.specs.declared.Profile.the-variants.{Video, Interlaced}
 use Rattle.packet.specs.declared.Packet.{Packet}
 use Rattle.packet.specs.Step.{refusalOf}
 use Rattle.bucket.specs.Paper.{networkNumber, networkFirst, networkLast}
@@ -19,7 +20,7 @@ use Rattle.record.specs.Paper.{versionKnown, classIn, isParameters, kindLength,
 use Rattle.report.specs.Paper.{streamOf, reportOf}
 use Rattle.timing.specs.declared.StreamNumbers.{StreamNumbers}
 use Rattle.timing.specs.declared.State.{State}
-use Rattle.timing.specs.Step.{ofParameters, rulesOf, freshOf, arriveOf, markOf, stepOf, stateAfter, rowsAfter, numbers}
+use Rattle.timing.specs.Step.{ofParameters, ofProfile, rulesOf, freshOf, arriveOf, markOf, stepOf, stateAfter, rowsAfter, numbers}
 use Rattle.timing.specs.Answers.{summaryWith}
 use Rattle.timing.specs.History.{frameHistory}
 
@@ -93,11 +94,11 @@ the-file =
 unfoldable pub cases : List Case
 cases =
     -- K1: "Rate 6: TRO 19,999 accepted, 20,000 refused."
-    (one (setUpRefusal (given 6 0 1 1080 4320 1460 19999)) gives one 0)
-    ∷ (one (setUpRefusal (given 6 0 1 1080 4320 1460 20000)) gives one 7)
+    (one (setUpRefusal Video (given 6 0 1 1080 4320 1460 19999)) gives one 0)
+    ∷ (one (setUpRefusal Video (given 6 0 1 1080 4320 1460 20000)) gives one 7)
     -- K2: "Rate 7: 16,683 accepted, 16,684 refused."
-    ∷ (one (setUpRefusal (given 7 0 1 1080 4320 1460 16683)) gives one 0)
-    ∷ (one (setUpRefusal (given 7 0 1 1080 4320 1460 16684)) gives one 7)
+    ∷ (one (setUpRefusal Video (given 7 0 1 1080 4320 1460 16683)) gives one 0)
+    ∷ (one (setUpRefusal Video (given 7 0 1 1080 4320 1460 16684)) gives one 7)
     -- K3: "Rate 6 narrow: n 4147 gives C_MAX 4, 4148 gives 5."
     ∷ (one (cMax (classOf 1 0) 0 (frameLength 6) 4147) gives one 4)
     ∷ (one (cMax (classOf 1 0) 0 (frameLength 6) 4148) gives one 5)
@@ -134,8 +135,69 @@ cases =
 
 -- K1, K2, K3, K4, K5, K6, K7, K8, K9, K10, K11, K12: what the definitions give is what document 01 gives
 pub cases-hold : map (λ c. c .got) cases ≡ map (λ c. c .want) cases
-unfolding cases setUpRefusal firstNo troFits rateOf frameLength activeRatio classOf cMax vrxFull int troGrains defaultTro nearest phase latency
+unfolding cases setUpRefusal firstNo packetsFit troFits rateOf frameLength activeRatio classOf cMax vrxFull int troGrains defaultTro nearest phase latency
     count fold rulesOf arriveOf markOf stepOf rowsAfter numbers summaryWith B.stepOf F.openedOf F.countedOf F.kindOf F.wholeRow
     F.rowOf F.judgedOf F.answerOf F.joined F.arriveOf F.closeOf F.rowsOf since readingOf packetsBy formatRefusal versionKnown classIn
     isProfile profileOf isParameters kindLength numberOf refusalOf
 cases-hold = refl
+
+-- ---- fields
+
+-- what set-up refuses of an interlaced stream of a rate, with n and TRO
+abbrev fields : ℕ → ℕ → ℕ → ℕ
+fields rate n tro = setUpRefusal Interlaced (given rate 0 1 1080 n 1460 tro)
+
+-- of eight TROs, one a rate, in the order of the codes
+abbrev by-rate : (a b c d e f g h : ℕ) → List ℤ
+by-rate a b c d e f g h =
+    map pos
+    (fields 1 4320 a
+    ∷ fields 2 4320 b
+    ∷ fields 3 4320 c
+    ∷ fields 4 4320 d
+    ∷ fields 5 4320 e
+    ∷ fields 6 4320 f
+    ∷ fields 7 4320 g
+    ∷ fields 8 4320 h
+    ∷ [])
+
+abbrev eight : ℕ → List ℤ
+eight n = pos n ∷ pos n ∷ pos n ∷ pos n ∷ pos n ∷ pos n ∷ pos n ∷ pos n ∷ []
+
+-- half a frame at rate 6, 10 ms
+abbrev half : ℕ
+half = perPeriod Interlaced (frameLength 6)
+
+-- a field of two packets in the period from 10 ms on, whose reads lie 4.8 ms apart from 19 ms on: the second packet and its read come after the next
+-- period has begun
+abbrev field : ℕ → List Packet
+field second = packet 9000000 0 1 ∷ packet 10700000 900 0 ∷ packet second 900 1 ∷ []
+
+unfoldable pub field-cases : List Case
+field-cases =
+    -- K13: "TRO must be given"; "7 also for a default TRO or one of F/2 and above": the last that is accepted at each rate, and one more
+    (by-rate 20854 20833 19999 16683 16666 9999 8341 8333 gives eight 0)
+    ∷ (by-rate 20855 20834 20000 16684 16667 10000 8342 8334 gives eight 7)
+    ∷ (one (fields 6 4320 4294967295) gives one 7)
+    -- K14: "5 also for odd n here": the least is 2
+    ∷ (one (fields 6 1 700) gives one 5)
+    ∷ (one (fields 6 2 700) gives one 0)
+    ∷ (one (fields 6 4319 700) gives one 5)
+    ∷ (one (fields 6 20000 700) gives one 0)
+    -- K15: "FPT is at least −F/4 and below F/4": at rate 6 a quarter of a frame is 5 ms
+    ∷ ((firstPacketTime (grains 5000000) half ∷ []) gives (negℤ (pos 135000000) ∷ []))
+    ∷ ((firstPacketTime (grains 4999999) half ∷ []) gives (pos 134999973 ∷ []))
+    -- K16: "reads are spaced R·F/n apart from the field's own first read": of n 4 and TRO 9,000 read 1 is at 23.8 ms, and a packet then is in time
+    ∷ (rows (ofProfile Interlaced (given 6 0 1 1080 4 1460 9000)) (field 23800000)
+    gives (pos 0 ∷ pos 0 ∷ pos 0 ∷ pos 18900000 ∷ pos 0 ∷ pos 18900000 ∷ pos 224100000 ∷ pos 45900000 ∷ pos 1 ∷ pos 0 ∷ pos 1 ∷ []))
+    -- and one nanosecond later the field runs dry
+    ∷ (rows (ofProfile Interlaced (given 6 0 1 1080 4 1460 9000)) (field 23800001)
+    gives (pos 0 ∷ pos 0 ∷ pos 0 ∷ pos 18900000 ∷ pos 0 ∷ pos 18900000 ∷ pos 224100000 ∷ pos 45900000 ∷ pos 1 ∷ negℤ (pos 1) ∷ pos 1 ∷ []))
+    ∷ []
+
+-- K13, K14, K15, K16: what the definitions give is what the request gives
+pub field-cases-hold : map (λ c. c .got) field-cases ≡ map (λ c. c .want) field-cases
+unfolding field-cases setUpRefusal firstNo packetsFit troFits rateOf frameLength activeRatio classOf cMax vrxFull int troGrains defaultTro nearest
+    phase latency count fold rulesOf arriveOf markOf stepOf rowsAfter numbers B.stepOf F.openedOf F.countedOf F.kindOf F.wholeRow F.rowOf F.judgedOf
+    F.answerOf F.joined F.arriveOf F.closeOf F.rowsOf since
+field-cases-hold = refl

@@ -28,16 +28,18 @@ use Rattle.report.proofs.Answering as report
 
 -- S11, N2: "Refusals: 8 for an edition other than 1 or 2, after 7.": exactly where none of 1 to 7 is given
 pub edition-refused : (profile : Profile) (p : Parameters) (edition : ℕ)
-    → (setUpOf (streamWith profile edition p) ≡ 8) ↔ ((setUpRefusal p ≡ 0) × (KnownEdition edition → ⊥))
-edition-refused profile = limits.refused-8
+    → (setUpOf (streamWith profile edition p) ≡ 8) ↔ ((setUpRefusal profile p ≡ 0) × (KnownEdition edition → ⊥))
+edition-refused = limits.refused-8
 
 -- S11, N2: where one of them is, the edition is not asked
-pub edition-after : (profile : Profile) (p : Parameters) (edition : ℕ) → 0 < setUpRefusal p → setUpOf (streamWith profile edition p) ≡ setUpRefusal p
-edition-after profile = limits.in-first
+pub edition-after : (profile : Profile) (p : Parameters) (edition : ℕ) → 0 < setUpRefusal profile p
+    → setUpOf (streamWith profile edition p) ≡ setUpRefusal profile p
+edition-after = limits.in-first
 
 -- S11: and editions 1 and 2 are refused for nothing that set-up did not refuse before
-pub edition-accepted : (profile : Profile) (p : Parameters) (edition : ℕ) → KnownEdition edition → setUpOf (streamWith profile edition p) ≡ setUpRefusal p
-edition-accepted profile = limits.in-known
+pub edition-accepted : (profile : Profile) (p : Parameters) (edition : ℕ) → KnownEdition edition
+    → setUpOf (streamWith profile edition p) ≡ setUpRefusal profile p
+edition-accepted = limits.in-known
 
 -- ---- the buffer answer of an accepted history whose stream has a buffer
 

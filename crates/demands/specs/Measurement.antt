@@ -2,6 +2,7 @@
 -- the work. To believe it, read the definitions that it names: of timing, Feed (the call, and calls in a row), Range (refusal 9), Answers
 -- (set-up, verdict, graph, and the number that each answer stands for) and History (an accepted history: its state, its plan, its frames,
 -- its arrivals); and the Paper.antt of each crate below.
+-- "Demands 2 and 3 read with fields for frames" where the stream is interlaced (document 02, ix): what a frame is here is the plan's (Profiles).
 use Rattle.laws.specs.Kit.{_≡_, _↔_, true, false, List, [], _∷_, _++_, ℕ, suc, _+_, _-_, _*_, _≤_, _<_, ℤ, _-ℤ_, length, take, drop, sets}
 use Rattle.laws.specs.Kit.{eqb}
 use Rattle.laws.specs.Choose.{pick}

@@ -5,6 +5,7 @@
 use Rattle.laws.specs.Kit.{_≡_, refl, _↔_, [], _∷_, map, ℕ, _*_, _/_}
 use Rattle.limits.specs.Fraction.{whole, _·_, _÷_, Same}
 use Rattle.limits.specs.declared.Parameters.{Parameters}
+use Rattle.limits.specs.declared.Profile.{Profile}
 use Rattle.limits.specs.Paper.{rateOf, frameLength, setUpRefusal}
 use Rattle.limits.specs.Accepted.{KnownRate}
 use Rattle.limits.proofs.Rates as proved
@@ -22,21 +23,21 @@ the-question = (refl, refl)
 
 -- ---- Of the parameters of any stream that set-up accepts.
 
-module _ (p : Parameters) (fine : setUpRefusal p ≡ 0) where
+module _ (profile : Profile) (p : Parameters) (fine : setUpRefusal profile p ≡ 0) where
   -- G3, D2a: the frame length is 27,000,000,000 times the rate's denominator over its numerator, and the division leaves nothing over
   pub nothing-over : frameLength (p .rate) * rateOf (p .rate) .num ≡ 27000000000 * rateOf (p .rate) .den
-  nothing-over = proved.frame-exact (set-up.accepted p fine .rate-known)
+  nothing-over = proved.frame-exact (set-up.accepted profile p fine .rate-known)
 
   -- G3, D2a: the rate in frames a second, times the frame length, is one second
   pub one-second : Same (rateOf (p .rate) · whole (frameLength (p .rate))) (whole 27000000000)
-  one-second = proved.one-second (set-up.accepted p fine .rate-known)
+  one-second = proved.one-second (set-up.accepted profile p fine .rate-known)
 
   -- G3: half and a quarter of a frame are whole grains
   pub quarters : 4 * (frameLength (p .rate) / 4) ≡ frameLength (p .rate)
-  quarters = proved.frame-quarters (set-up.accepted p fine .rate-known)
+  quarters = proved.frame-quarters (set-up.accepted profile p fine .rate-known)
 
 -- G3, N2: set-up refuses by 1 exactly the codes outside of the table, whatever the other numbers are
-pub refused-outside : (p : Parameters) → (setUpRefusal p ≡ 1) ↔ (KnownRate (p .rate) → ⊥)
+pub refused-outside : (profile : Profile) (p : Parameters) → (setUpRefusal profile p ≡ 1) ↔ (KnownRate (p .rate) → ⊥)
 refused-outside = set-up.refused-outside
 
 -- G3: and such a code has no frame

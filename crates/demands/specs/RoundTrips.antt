@@ -45,7 +45,7 @@ written-accepted = written-reads
 
 -- ---- "an accepted file, read and written, gives the same bytes."
 
--- D2e, F12, F14: for every accepted file, of either version and kind, writing what was read gives the same bytes
+-- D2e, F12, F14: for every accepted file, of either version and any kind, writing what was read gives the same bytes
 pub writing-read : (bytes : List ℕ) → AllBelow 256 bytes → (s : Heading) (ps : List Packet) → fileOf bytes ≡ file s ps
     → bytesIn s ps ≡ bytes
 writing-read bytes b = file-again bytes (bytes-all bytes b)

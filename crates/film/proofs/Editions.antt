@@ -1,33 +1,32 @@
--- The room of a capture's answer depends neither on the edition nor on the profile: what is checked does not, and the check's count of frames
--- tells the room.
-use Rattle.laws.specs.Kit.{_≡_, refl, sym, ap, _∙_, true, List, ℕ}
+-- The room of a capture's answer does not depend on the edition: what is checked does not, and the check's count of frames tells the room.
+use Rattle.laws.specs.Kit.{_≡_, refl, sym, ap, _∙_, List, ℕ}
 use Rattle.limits.specs.declared.Parameters.{Parameters}
-use Rattle.limits.specs.Paper.{isProfile}
+use Rattle.limits.specs.Paper.{profileOf}
 use Rattle.limits.specs.Accepted.{KnownEdition}
 use Rattle.limits.proofs.Editions.{in-known, in-one}
 use Rattle.capture.specs.declared.Checked.{Checked}
 use Rattle.capture.specs.declared.Checked.the-variants.{Fine, Refused}
 use Rattle.timing.specs.declared.Stated.{Stated}
-use Rattle.timing.specs.Step.{ofParameters, statedAs, statedRefusal}
-use Rattle.timing.proofs.Stating.{stated-known, stated-as}
+use Rattle.timing.specs.Step.{firstStated, statedRefusal}
 use Rattle.film.specs.Paper.{captureChecked, roomBy, captureRoom}
 use Rattle.film.proofs.Filming.{checked-fine, film-long}
 
-module _ (t : Stated) (profile : isProfile (t .kind) ≡ true) (known : KnownEdition (t .edition)) (port offset : ℕ) (b : List ℕ) where
-  -- the same with neither told
+module _ (t : Stated) (known : KnownEdition (t .edition)) (port offset : ℕ) (b : List ℕ) where
+  -- the same with no edition told
   abbrev plain : Stated
-  plain = statedAs (ofParameters (t .parameters))
+  plain = firstStated (t .kind) (t .parameters)
 
   refused-alike : statedRefusal t ≡ statedRefusal plain
+  unfolding statedRefusal
   refused-alike =
-      stated-known t profile ∙ in-known (t .parameters) (t .edition) known
-      ∙ sym (stated-as (ofParameters (t .parameters)) ∙ in-one (t .parameters))
+      let profile = profileOf (t .kind) in
+      rw (in-known profile (t .parameters) (t .edition) known, in-one profile (t .parameters))
 
   checked-alike : captureChecked t port offset b ≡ captureChecked plain port offset b
   unfolding captureChecked
   checked-alike = rw refused-alike
 
-  -- X13: the room that is told without an edition and a profile is that of each
+  -- X13: the room that is told without an edition is that of each
   pub room-alike : captureRoom t port offset b ≡ captureRoom plain port offset b
   unfolding captureRoom
   room-alike = ap (roomBy t port offset b) checked-alike ∙ go (captureChecked plain port offset b) refl

@@ -9,7 +9,6 @@ use capture::Sought;
 use endian::write64;
 use limits::FIRST_EDITION;
 use limits::Parameters;
-use limits::VIDEO;
 use packet::Past;
 use report::NUMBER;
 use report::SUMMARY_BYTES;
@@ -20,7 +19,7 @@ use timing::Stated;
 use timing::StreamNumbers;
 ghost use Rattle.laws.specs.Kit.{_≡_, length, drop};
 ghost use Rattle.timing.specs.Feed.{RunAsks, RunGives};
-ghost use Rattle.timing.specs.Step.{ofParameters, statedAs, rulesOf, freshOf};
+ghost use Rattle.timing.specs.Step.{firstStated, rulesOf, freshOf};
 ghost use Rattle.limits.specs.Paper.{given};
 ghost use Rattle.capture.specs.Paper.{headerBytes};
 ghost use Rattle.capture.specs.Step.{handedIn};
@@ -225,7 +224,7 @@ pub extern "C" fn vtiming_capture_place(
     }
 }
 
-// How many lent bytes are enough for a capture's report, whatever the edition and the profile; 0 for one that is refused.
+// How many lent bytes are enough for a capture's report, whatever the edition; 0 for one that is refused.
 #[no_mangle]
 pub extern "C" fn vtiming_capture_room(
     capture: &[u8],
@@ -238,8 +237,9 @@ pub extern "C" fn vtiming_capture_room(
     n: u32,
     maxudp: u16,
     tro: u32,
+    profile: u8,
 ) -> u64
-    ensures { λ r. ⌜ r ≡ captureRoom (statedAs (ofParameters (given rate schedule class height n maxudp tro))) port offset
+    ensures { λ r. ⌜ r ≡ captureRoom (firstStated profile (given rate schedule class height n maxudp tro)) port offset
         (now (capture .entry)) ⌝ }
 {
     let told = Parameters {
@@ -252,7 +252,7 @@ pub extern "C" fn vtiming_capture_room(
         tro,
     };
     let plain = Stated {
-        kind: VIDEO,
+        kind: profile,
         parameters: told,
         edition: FIRST_EDITION,
     };

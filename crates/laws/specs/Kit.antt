@@ -8,7 +8,7 @@ pub use Prim.Native.Nat.{_%_, _*_, _+_, _-_, _/_, _<_, _^_, _≤_, max, min, pre
 pub use native.Mathlib.Omega.{arith}
 pub use native.Mathlib.Nat.{add-assoc, add-mul, add-sub-of-le, add-zero, div-add-mod, div-add-mod', div-div-eq-div-mul, div-eq-of-lt}
 pub use native.Mathlib.Nat.{div-eq-of-lt-le, div-le-of-le-mul, div-lt-iff-lt-mul, div-mul-le-self, div-one, div-zero, le-div-iff-mul-le}
-pub use native.Mathlib.Nat.{le-suc-iff, le-trans, lt-div-mul-add, mod-eq-of-lt, mod-lt, mul-add, mul-add-mod-self-left}
+pub use native.Mathlib.Nat.{le-suc-iff, le-trans, lt-div-mul-add, mod-eq-of-lt, mod-lt, mod-one, mul-add, mul-add-mod-self-left}
 pub use native.Mathlib.Nat.{mul-assoc, mul-comm, mul-div-mul-left, mul-le-mul, mul-le-mul-left, mul-le-mul-right, mul-left-comm, mul-one}
 pub use native.Mathlib.Nat.{not-suc-le-zero, one-le-pow, one-mul, pow-suc, pow-succ', sub-eq-zero-of-le, sub-self}
 pub use native.Mathlib.Nat.{sub-zero, suc-inj, suc-mul, zero-add, zero-div, zero-mul, zero-sub}

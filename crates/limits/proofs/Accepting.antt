@@ -1,15 +1,18 @@
 -- Set-up refuses nothing exactly where each of the seven numbers is in its place, and by 1 exactly where the rate's code is not in the table:
--- each test is its fact, both ways.
+-- each test is its fact, both ways. And what fields ask beside frames.
 use Rattle.laws.specs.Kit.{_≡_, refl, sym, _∙_, _↔_, _⊎_, inl, inr, Bool, true, false, _&&_, _||_, List, [], _∷_, ℕ, zero, suc, _*_, _≤_}
-use Rattle.laws.specs.Kit.{_<_, arith, leb-true, le-leb, leb-false, eqb-true, ltb-true, lt-ltb, leb, ltb, eqb}
+use Rattle.laws.specs.Kit.{_%_, mod-one, or-true, eq-eqb, _<_, arith, leb-true, le-leb, leb-false, eqb-true, ltb-true, lt-ltb, leb, ltb, eqb}
 use Rattle.laws.specs.Choose.{pick}
 use Rattle.laws.proofs.Choose.{false-true}
 use Rattle.laws.proofs.Every.{and-left, and-right}
 use Rattle.limits.specs.declared.Parameters.{Parameters}
-use Rattle.limits.specs.Paper.{microsecond, rateOf, frameLength, senderClass, allOnes}
-use Rattle.limits.specs.Paper.{within, classFits, maxudpKnown, troFits, firstNo, setUpRefusal}
+use Rattle.limits.specs.declared.Profile.{Profile}
+use Rattle.limits.specs.declared.Profile.the-variants.{Video, Interlaced}
+use Rattle.limits.specs.Paper.{microsecond, rateOf, frameLength, senderClass, allOnes, periods, hasDefault}
+use Rattle.limits.specs.Paper.{within, classFits, maxudpKnown, packetsFit, troFits, firstNo, setUpRefusal}
 use Rattle.limits.specs.Accepted.{KnownRate, Accepted}
 use Rattle.limits.proofs.Laws.{past-rates}
+use Rattle.limits.proofs.Rates.{frame-most}
 
 -- tests as facts
 
@@ -35,50 +38,70 @@ facts-udp : (x : ℕ) → (x ≡ 1460) ⊎ (x ≡ 8960) → maxudpKnown x ≡ tr
 facts-udp x (inl e) = rw e
 facts-udp x (inr e) = rw e
 
-tro-facts : (F tro : ℕ) → troFits F tro ≡ true → (tro ≡ allOnes) ⊎ (microsecond * tro < F)
-unfolding troFits
-tro-facts F tro e = go (one-of (eqb tro allOnes) (ltb (microsecond * tro) F) e)
-  where
-    go : (eqb tro allOnes ≡ true) ⊎ (ltb (microsecond * tro) F ≡ true) → (tro ≡ allOnes) ⊎ (microsecond * tro < F)
-    go (inl f) = inl (eqb-true tro allOnes f)
-    go (inr f) = inr (ltb-true (microsecond * tro) F f)
+module _ (profile : Profile) where
+  -- what a TRO that fits is: a default where the profile has one, or below one period
+  abbrev TroFact : ℕ → ℕ → Type 0
+  TroFact F tro = ((hasDefault profile ≡ true) × (tro ≡ allOnes)) ⊎ (periods profile * (microsecond * tro) < F)
 
-facts-tro : (F tro : ℕ) → (tro ≡ allOnes) ⊎ (microsecond * tro < F) → troFits F tro ≡ true
-unfolding troFits
-facts-tro F tro (inl e) = rw e
-facts-tro F tro (inr h) = rw (lt-ltb (microsecond * tro) F h) (go (eqb tro allOnes))
-  where
-    go : (t : Bool) → (t || true) ≡ true
-    go true = refl
-    go false = refl
+  tro-facts : (F tro : ℕ) → troFits profile F tro ≡ true → TroFact F tro
+  unfolding troFits
+  tro-facts F tro e = go (one-of default below e)
+    where
+      default : Bool
+      default = hasDefault profile && eqb tro allOnes
+
+      below : Bool
+      below = ltb (periods profile * (microsecond * tro)) F
+
+      go : (default ≡ true) ⊎ (below ≡ true) → TroFact F tro
+      go (inl f) =
+          inl
+          (and-left (hasDefault profile) (eqb tro allOnes) f, eqb-true tro allOnes (and-right (hasDefault profile) (eqb tro allOnes) f))
+      go (inr f) = inr (ltb-true (periods profile * (microsecond * tro)) F f)
+
+  facts-tro : (F tro : ℕ) → TroFact F tro → troFits profile F tro ≡ true
+  unfolding troFits
+  facts-tro F tro (inl e) = rw (e .0, e .1)
+  facts-tro F tro (inr h) = rw (lt-ltb (periods profile * (microsecond * tro)) F h) (or-true (hasDefault profile && eqb tro allOnes))
+
+  packets-facts : (n : ℕ) → packetsFit profile n ≡ true → ((1 ≤ n) × (n ≤ 20000)) × (n % periods profile ≡ 0)
+  unfolding packetsFit
+  packets-facts n e =
+      let whole = eqb (n % periods profile) 0 in
+      (within-facts 1 20000 n (and-left (within 1 20000 n) whole e), eqb-true _ _ (and-right (within 1 20000 n) whole e))
+
+  facts-packets : (n : ℕ) → (1 ≤ n) × (n ≤ 20000) → n % periods profile ≡ 0 → packetsFit profile n ≡ true
+  unfolding packetsFit
+  facts-packets n h w = rw (facts-within 1 20000 n (h .0) (h .1), eq-eqb (n % periods profile) 0 w)
 
 -- a list of questions that stops at no number, counted from one, has no question answered no
 answered : (t : Bool) (k r : ℕ) → pick t r (suc k) ≡ 0 → (t ≡ true) × (r ≡ 0)
 answered true k r e = (refl, e)
 answered false k r e = absurd (omega arith)
 
-module _ (p : Parameters) where
-  pub accepted : setUpRefusal p ≡ 0 → Accepted p
+module _ (profile : Profile) (p : Parameters) where
+  pub accepted : setUpRefusal profile p ≡ 0 → Accepted profile p
   unfolding setUpRefusal firstNo
   accepted e0 =
       let e1 = answered (within 1 8 (p .rate)) 0 _ e0 in
       let e2 = answered (within 0 1 (p .schedule)) 1 _ (e1 .1) in
       let e3 = answered (classFits (senderClass p) (p .schedule)) 2 _ (e2 .1) in
       let e4 = answered (within 1 65535 (p .height)) 3 _ (e3 .1) in
-      let e5 = answered (within 1 20000 (p .n)) 4 _ (e4 .1) in
+      let e5 = answered (packetsFit profile (p .n)) 4 _ (e4 .1) in
       let e6 = answered (maxudpKnown (p .maxudp)) 5 _ (e5 .1) in
-      let e7 = answered (troFits (frameLength (p .rate)) (p .tro)) 6 _ (e6 .1) in
+      let e7 = answered (troFits profile (frameLength (p .rate)) (p .tro)) 6 _ (e6 .1) in
       record {
         rate-known = within-facts 1 8 (p .rate) (e1 .0);
         schedule-known = within-facts 0 1 (p .schedule) (e2 .0) .1;
         class-fits = e3 .0;
         height-fits = within-facts 1 65535 (p .height) (e4 .0);
-        n-fits = within-facts 1 20000 (p .n) (e5 .0);
+        n-fits = packets-facts profile (p .n) (e5 .0) .0;
+        n-whole = packets-facts profile (p .n) (e5 .0) .1;
         maxudp-known = udp-facts (p .maxudp) (e6 .0);
-        tro-fits = tro-facts (frameLength (p .rate)) (p .tro) (e7 .0);
+        tro-fits = tro-facts profile (frameLength (p .rate)) (p .tro) (e7 .0);
       }
 
-  pub accepts : Accepted p → setUpRefusal p ≡ 0
+  pub accepts : Accepted profile p → setUpRefusal profile p ≡ 0
   unfolding setUpRefusal firstNo
   accepts a =
       rw (
@@ -86,9 +109,9 @@ module _ (p : Parameters) where
         facts-within 0 1 (p .schedule) (omega arith) (a .schedule-known),
         a .class-fits,
         facts-within 1 65535 (p .height) (a .height-fits .0) (a .height-fits .1),
-        facts-within 1 20000 (p .n) (a .n-fits .0) (a .n-fits .1),
+        facts-packets profile (p .n) (a .n-fits) (a .n-whole),
         facts-udp (p .maxudp) (a .maxudp-known),
-        facts-tro (frameLength (p .rate)) (p .tro) (a .tro-fits),
+        facts-tro profile (frameLength (p .rate)) (p .tro) (a .tro-fits),
       )
 
 -- ---- refused by 1
@@ -114,9 +137,9 @@ outside code = (λ e known. false-true (sym e ∙ facts-within 1 8 code (known .
     go true f other = absurd (other (within-facts 1 8 code f))
 
 -- G3, N2: 1 refuses exactly the codes outside of the table
-pub refused-outside : (p : Parameters) → (setUpRefusal p ≡ 1) ↔ (KnownRate (p .rate) → ⊥)
+pub refused-outside : (profile : Profile) (p : Parameters) → (setUpRefusal profile p ≡ 1) ↔ (KnownRate (p .rate) → ⊥)
 unfolding setUpRefusal
-refused-outside p =
+refused-outside profile p =
     let first = first-no 0 (within 1 8 (p .rate)) _ in
     let out = outside (p .rate) in
     (λ e. out .0 (first .0 e), λ other. first .1 (out .1 other))
@@ -130,3 +153,45 @@ no-frame (suc i) other = go (leb (suc i) 8) refl
     go : (t : Bool) → leb (suc i) 8 ≡ t → frameLength (suc i) ≡ 0
     go true e = absurd (other (omega arith, leb-true (suc i) 8 e))
     go false e = sym (past-rates (suc i) (leb-false (suc i) 8 e))
+
+-- ---- fields
+
+-- S13: set-up takes numbers as interlaced exactly where it takes them as video, n is even, TRO is given, and it lies below half a frame
+pub interlaced-takes : (p : Parameters) → (setUpRefusal Interlaced p ≡ 0)
+    ↔ ((setUpRefusal Video p ≡ 0) × (p .n % 2 ≡ 0) × ¬ (p .tro ≡ allOnes) × (2 * (microsecond * p .tro) < frameLength (p .rate)))
+interlaced-takes p = (λ e. go (accepted Interlaced p e), λ x. accepts Interlaced p (back (accepted Video p (x .0)) (x .1) (x .3)))
+  where
+    given-below : TroFact Interlaced (frameLength (p .rate)) (p .tro) → 2 * (microsecond * p .tro) < frameLength (p .rate)
+    given-below (inl f) = absurd (false-true (f .0))
+    given-below (inr f) = f
+
+    go : Accepted Interlaced p
+        → (setUpRefusal Video p ≡ 0) × (p .n % 2 ≡ 0) × ¬ (p .tro ≡ allOnes) × (2 * (microsecond * p .tro) < frameLength (p .rate))
+    go a =
+        let below = given-below (a .tro-fits) in (
+          accepts Video p (record {
+            rate-known = a .rate-known;
+            schedule-known = a .schedule-known;
+            class-fits = a .class-fits;
+            height-fits = a .height-fits;
+            n-fits = a .n-fits;
+            n-whole = mod-one (p .n);
+            maxudp-known = a .maxudp-known;
+            tro-fits = inr (omega (arith, below));
+          }),
+          a .n-whole,
+          λ e. omega (arith, e, below, frame-most (p .rate)),
+          below,
+        )
+
+    back : Accepted Video p → p .n % 2 ≡ 0 → 2 * (microsecond * p .tro) < frameLength (p .rate) → Accepted Interlaced p
+    back a even below = record {
+      rate-known = a .rate-known;
+      schedule-known = a .schedule-known;
+      class-fits = a .class-fits;
+      height-fits = a .height-fits;
+      n-fits = a .n-fits;
+      n-whole = even;
+      maxudp-known = a .maxudp-known;
+      tro-fits = inr below;
+    }

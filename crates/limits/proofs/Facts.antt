@@ -3,14 +3,18 @@
 use Rattle.laws.specs.Kit.{_≡_, refl, _⊎_, inl, inr, Bool, true, false, ℕ, _+_, _*_, _-_, _/_, _%_, _≤_, _<_, arith}
 use Rattle.laws.specs.Kit.{mul-one, div-lt-iff-lt-mul, div-mul-le-self, le-div-iff-mul-le, eqb-true, eqb-false, leb, eqb}
 use Rattle.laws.specs.Choose.{pick}
-use Rattle.laws.proofs.Choose.{pick-either}
+use Rattle.laws.proofs.Choose.{pick-either, false-true}
 use Rattle.laws.specs.Every.{Test, at-most, is, after}
 use Rattle.limits.specs.Fraction.{Fraction, whole, _÷_, Same, int}
 use Rattle.limits.specs.Paper.{microsecond, lengthAt, frameLength, activeRatio, allOnes, defaultTro, troGrains}
 use Rattle.limits.specs.Paper.{readSpacing, readNum, readDen}
+use Rattle.limits.specs.Paper.{periods, perPeriod, hasDefault}
 use Rattle.limits.specs.declared.Parameters.{Parameters}
+use Rattle.limits.specs.declared.Profile.{Profile}
+use Rattle.limits.specs.declared.Profile.the-variants.{Video, Compressed, Interlaced}
 use Rattle.limits.specs.Accepted.{Accepted}
 use Rattle.limits.proofs.Laws.{exact}
+use Rattle.limits.proofs.Periods.{period-most, period-whole}
 use Rattle.limits.proofs.Rates.{any-code, frame-most, frame-least}
 
 -- S1: "R = 24/25, from 1080/1125"
@@ -56,19 +60,27 @@ default-below F height h =
     (λ e. div-lt-iff-lt-mul (omega arith) .1 (omega arith))
     (λ e. div-lt-iff-lt-mul (omega arith) .1 (omega arith))
 
--- S6: "TRO: given in whole microseconds, below one frame, or default": so any TRO that set-up takes lies below one frame
-pub tro-below : {p : Parameters} → Accepted p → troGrains (frameLength (p .rate)) (p .height) (p .tro) < frameLength (p .rate)
+-- S6, S13: so any TRO that set-up takes lies below one period: one that is given by what set-up asks, and where there is a default the period is
+-- the frame
+pub tro-below : {profile : Profile} {p : Parameters} → Accepted profile p
+    → troGrains (frameLength (p .rate)) (p .height) (p .tro) < perPeriod profile (frameLength (p .rate))
 unfolding troGrains
-tro-below {p} a = go (eqb (p .tro) allOnes) refl (a .tro-fits)
+tro-below {profile} {p} a = go profile (period-whole profile (a .rate-known)) (eqb (p .tro) allOnes) refl (a .tro-fits)
   where
     F : ℕ
     F = frameLength (p .rate)
 
-    go : (t : Bool) → eqb (p .tro) allOnes ≡ t → (p .tro ≡ allOnes) ⊎ (microsecond * p .tro < F)
-        → pick t (int (defaultTro F (p .height))) (microsecond * p .tro) < F
-    go true e f = default-below F (p .height) (omega (arith, frame-least (a .rate-known)))
-    go false e (inl f) = absurd (eqb-false (p .tro) allOnes e f)
-    go false e (inr f) = f
+    go : (q : Profile) → periods q * perPeriod q F ≡ F → (t : Bool) → eqb (p .tro) allOnes ≡ t
+        → ((hasDefault q ≡ true) × (p .tro ≡ allOnes)) ⊎ (periods q * (microsecond * p .tro) < F)
+        → pick t (int (defaultTro F (p .height))) (microsecond * p .tro) < perPeriod q F
+    go Video w true e f = omega (arith, default-below F (p .height) (omega (arith, frame-least (a .rate-known))), w)
+    go Compressed w true e f = omega (arith, default-below F (p .height) (omega (arith, frame-least (a .rate-known))), w)
+    go Interlaced w true e (inl f) = absurd (false-true (f .0))
+    go Interlaced w true e (inr f) = absurd (omega (arith, f, eqb-true (p .tro) allOnes e, frame-most (p .rate)))
+    go q w false e (inl f) = absurd (eqb-false (p .tro) allOnes e (f .1))
+    go Video w false e (inr f) = omega (arith, f, w)
+    go Compressed w false e (inr f) = omega (arith, f, w)
+    go Interlaced w false e (inr f) = omega (arith, f, w)
 
 -- S6, S7: a default is less than half of its frame, whatever the frame length
 default-half : (F height : ℕ) → 2 * int (defaultTro F height) ≤ F
@@ -86,20 +98,22 @@ longest-tro : (rate : ℕ) → 2 * microsecond * ((frameLength rate - 1) / micro
 unfolding frameLength after
 longest-tro = any-code (λ rate. at-most (2 * microsecond * ((lengthAt rate - 1) / microsecond) + lengthAt rate) 3378357000) refl
 
--- P23: so of any TRO that set-up takes
-pub tro-most : {p : Parameters} → Accepted p
-    → 2 * troGrains (frameLength (p .rate)) (p .height) (p .tro) + frameLength (p .rate) ≤ 3378357000
+-- P23: so of any TRO that set-up takes: it lies below the frame too
+pub tro-most : {profile : Profile} {p : Parameters} → Accepted profile p
+    → 2 * troGrains (frameLength (p .rate)) (p .height) (p .tro) + perPeriod profile (frameLength (p .rate)) ≤ 3378357000
 unfolding troGrains
-tro-most {p} a = go (eqb (p .tro) allOnes) refl (a .tro-fits)
+tro-most {profile} {p} a = go (eqb (p .tro) allOnes) refl (tro-below a)
   where
     F : ℕ
     F = frameLength (p .rate)
 
-    go : (t : Bool) → eqb (p .tro) allOnes ≡ t → (p .tro ≡ allOnes) ⊎ (microsecond * p .tro < F)
-        → 2 * pick t (int (defaultTro F (p .height))) (microsecond * p .tro) + F ≤ 3378357000
-    go true e f = omega (arith, default-half F (p .height), frame-most (p .rate))
-    go false e (inl f) = absurd (eqb-false (p .tro) allOnes e f)
-    go false e (inr f) =
+    period : ℕ
+    period = perPeriod profile F
+
+    go : (t : Bool) → eqb (p .tro) allOnes ≡ t → pick t (int (defaultTro F (p .height))) (microsecond * p .tro) < period
+        → 2 * pick t (int (defaultTro F (p .height))) (microsecond * p .tro) + period ≤ 3378357000
+    go true e f = omega (arith, default-half F (p .height), frame-most (p .rate), period-most profile F)
+    go false e f =
         let whole : p .tro ≤ (F - 1) / microsecond =
-        le-div-iff-mul-le {k = microsecond} {x = p .tro} {y = F - 1} (omega arith) .1 (omega arith) in
-        omega (arith, longest-tro (p .rate), whole)
+        le-div-iff-mul-le {k = microsecond} {x = p .tro} {y = F - 1} (omega arith) .1 (omega (arith, f, period-most profile F)) in
+        omega (arith, longest-tro (p .rate), whole, period-most profile F)

@@ -1,12 +1,12 @@
 -- The numbers that a stream is set up with, and the limits that follow from them, each under its sentence of document 01.
-use Rattle.laws.specs.Kit.{Bool, true, false, _&&_, _||_, List, [], _∷_, ℕ, zero, suc, _*_, _/_, max, ltb, leb, eqb, getD}
+use Rattle.laws.specs.Kit.{Bool, true, false, _&&_, _||_, List, [], _∷_, ℕ, zero, suc, _*_, _/_, _%_, max, ltb, leb, eqb, getD}
 use Rattle.laws.specs.Choose.{pick, orElse}
 use Rattle.grain.specs.Paper.{grains}
 use Rattle.limits.specs.Fraction.{Fraction, whole, _over_, _·_, _÷_, int}
 use Rattle.limits.specs.declared.Class.{Class}
 use Rattle.limits.specs.declared.Parameters.{Parameters}
 use Rattle.limits.specs.declared.Profile.{Profile}
-use Rattle.limits.specs.declared.Profile.the-variants.{Video, Compressed}
+use Rattle.limits.specs.declared.Profile.the-variants.{Video, Compressed, Interlaced}
 use Rattle.limits.specs.declared.Class.the-variants.{Narrow, NarrowLinear, Wide, Unknown}
 
 -- G1: "Every duration is a whole number of grains; 27 grains are one nanosecond."
@@ -101,6 +101,50 @@ readNum schedule F = activeRatio schedule .num * F
 abbrev pub readDen : ℕ → ℕ → ℕ
 readDen schedule n = activeRatio schedule .den * n
 
+-- The profile of a stream. It is told by a number, the kind of its parameter record.
+
+-- S12: "ST 2110-22 senders, to which the receiver buffer model does not apply" (document 02, vii)
+abbrev pub hasBuffer : Profile → Bool
+hasBuffer Video = true
+hasBuffer Compressed = false
+hasBuffer Interlaced = true
+
+-- S13: "each marker closes a field [..]: field periods start at multiples of F/2, the field has n/2 packets" (document 02, ix): how many
+-- periods a frame has, each with a marker of its own
+abbrev pub periods : Profile → ℕ
+periods Video = 1
+periods Compressed = 1
+periods Interlaced = 2
+
+-- P24: what one period has of a frame's grains, and of its packets: F and n; of an interlaced stream F/2 and n/2. Nothing is left over:
+-- `period-whole` and `packets-whole` in proofs/Periods.antt
+abbrev pub perPeriod : Profile → ℕ → ℕ
+perPeriod profile all = all / periods profile
+
+-- S13: "TRO must be given.", for fields
+abbrev pub hasDefault : Profile → Bool
+hasDefault Video = true
+hasDefault Compressed = true
+hasDefault Interlaced = false
+
+-- S12, S13: "a parameter record of kind 3, laid out as kind 1, chooses it", and "of kind 4"
+abbrev pub profileKind : Profile → ℕ
+profileKind Video = 1
+profileKind Compressed = 3
+profileKind Interlaced = 4
+
+-- S12, S13: the kinds that choose a profile. Both ways: proofs/Profiles.antt
+unfoldable pub isProfile : ℕ → Bool
+isProfile kind = eqb kind 1 || (eqb kind 3 || eqb kind 4)
+
+-- S12, S13: and the one that they choose; a kind that chooses none, which is refused before, goes with video
+unfoldable pub profileOf : ℕ → Profile
+profileOf kind = pick (eqb kind 3) Compressed (pick (eqb kind 4) Interlaced Video)
+
+-- N1: "22 unknown kind": a profile has no refusal number of its own
+unfoldable pub profileRefusal : ℕ → ℕ
+profileRefusal kind = pick (isProfile kind) 0 22
+
 -- The seven questions of set-up, each true where its number may stand.
 
 abbrev pub within : ℕ → ℕ → ℕ → Bool
@@ -117,21 +161,26 @@ classFits Unknown schedule = false
 abbrev pub maxudpKnown : ℕ → Bool
 maxudpKnown maxudp = eqb maxudp 1460 || eqb maxudp 8960
 
--- S6: "TRO: given in whole microseconds, below one frame, or default"
-unfoldable pub troFits : ℕ → ℕ → Bool
-troFits F tro = eqb tro allOnes || ltb (microsecond * tro) F
+-- S4, S13: "Packets per frame n, 1 to 20,000."; "5 also for odd n here": the periods of a frame have equally many
+unfoldable pub packetsFit : Profile → ℕ → Bool
+packetsFit profile n = within 1 20000 n && eqb (n % periods profile) 0
+
+-- S6, S13: "TRO: given in whole microseconds, below one frame, or default"; "7 also for a default TRO or one of F/2 and above": below one
+-- period, in exact fractions
+unfoldable pub troFits : Profile → ℕ → ℕ → Bool
+troFits profile F tro = (hasDefault profile && eqb tro allOnes) || ltb (periods profile * (microsecond * tro)) F
 
 -- N1, N2, S3, S4: "set-up, in this order: rate, schedule, class (unknown or against the schedule), height, n, MAXUDP, TRO"
--- "Height 1 to 65,535. Packets per frame n, 1 to 20,000."
-abbrev pub questions : Parameters → List Bool
-questions p =
+-- "Height 1 to 65,535."
+abbrev pub questions : Profile → Parameters → List Bool
+questions profile p =
     within 1 8 (p .rate)
     ∷ within 0 1 (p .schedule)
     ∷ classFits (senderClass p) (p .schedule)
     ∷ within 1 65535 (p .height)
-    ∷ within 1 20000 (p .n)
+    ∷ packetsFit profile (p .n)
     ∷ maxudpKnown (p .maxudp)
-    ∷ troFits (frameLength (p .rate)) (p .tro)
+    ∷ troFits profile (frameLength (p .rate)) (p .tro)
     ∷ []
 
 -- the number, counted from k, of the first question that is answered no; 0 where there is none
@@ -139,9 +188,9 @@ unfoldable pub firstNo : ℕ → List Bool → ℕ
 firstNo k [] = 0
 firstNo k (answer ∷ more) = pick answer (firstNo (suc k) more) k
 
--- N2: the refusals 1 to 7 of set-up, and 0 for what is accepted
-unfoldable pub setUpRefusal : Parameters → ℕ
-setUpRefusal p = firstNo 1 (questions p)
+-- N2: the refusals 1 to 7 of set-up, and 0 for what is accepted, by the profile
+unfoldable pub setUpRefusal : Profile → Parameters → ℕ
+setUpRefusal profile p = firstNo 1 (questions profile p)
 
 -- The edition of the test plan, which set-up is told beside the parameters.
 
@@ -150,32 +199,8 @@ unfoldable pub editionRefusal : ℕ → ℕ
 editionRefusal edition = pick (within 1 2 edition) 0 8
 
 -- N1, N2: "8 for an edition other than 1 or 2, after 7"
-unfoldable pub setUpIn : Parameters → ℕ → ℕ
-setUpIn p edition = orElse (setUpRefusal p) (editionRefusal edition)
-
--- The profile of a stream. It is told by a number, the kind of its parameter record.
-
--- S12: "ST 2110-22 senders, to which the receiver buffer model does not apply" (document 02, vii)
-abbrev pub hasBuffer : Profile → Bool
-hasBuffer Video = true
-hasBuffer Compressed = false
-
--- S12: "a parameter record of kind 3, laid out as kind 1, chooses it"
-abbrev pub profileKind : Profile → ℕ
-profileKind Video = 1
-profileKind Compressed = 3
-
--- S12: the kinds that choose a profile. Both ways: proofs/Profiles.antt
-unfoldable pub isProfile : ℕ → Bool
-isProfile kind = eqb kind 1 || eqb kind 3
-
--- S12: and the one that they choose; a kind that chooses none, which is refused before, goes with video
-unfoldable pub profileOf : ℕ → Profile
-profileOf kind = pick (eqb kind 3) Compressed Video
-
--- N1: "22 unknown kind": a profile has no refusal number of its own
-unfoldable pub profileRefusal : ℕ → ℕ
-profileRefusal kind = pick (isProfile kind) 0 22
+unfoldable pub setUpIn : Profile → Parameters → ℕ → ℕ
+setUpIn profile p edition = orElse (setUpRefusal profile p) (editionRefusal edition)
 
 -- the seven numbers put together, as a call that is given each by itself does
 abbrev pub given : (rate schedule class height n maxudp tro : ℕ) → Parameters

@@ -9,8 +9,8 @@ ghost use Rattle.laws.specs.Kit.{_≡_, _/_, _<_, max};
 ghost use Rattle.limits.specs.Fraction.{whole, _·_, _÷_, int};
 ghost use Rattle.limits.specs.Steps.{Divides};
 ghost use Rattle.limits.specs.Paper.{frameLength, activeRatio, seconds, strictOn, classOf, cMax, vrxFull, troGrains, readNum, readDen};
-ghost use Rattle.limits.specs.Paper.{within, classFits, maxudpKnown, troFits, setUpRefusal, editionRefusal, setUpIn};
-ghost use Rattle.limits.specs.Paper.{hasBuffer, profileKind, isProfile, profileOf, profileRefusal};
+ghost use Rattle.limits.specs.Paper.{within, classFits, maxudpKnown, packetsFit, troFits, setUpRefusal, editionRefusal, setUpIn};
+ghost use Rattle.limits.specs.Paper.{hasBuffer, periods, perPeriod, hasDefault, profileKind, isProfile, profileOf, profileRefusal};
 
 const MICROSECOND: u64 = 1000 * grain::GRAINS_PER_NANOSECOND;
 
@@ -21,9 +21,6 @@ const GAPPED: u8 = 0;
 const LINEAR: u8 = 1;
 
 const DEFAULT_TRO: u32 = 4294967295;
-
-// The kind of parameter record whose profile is meant where none is told.
-pub const VIDEO: u8 = 1;
 
 // The edition of the test plan that is meant where none is told.
 pub const FIRST_EDITION: u32 = 1;
@@ -59,10 +56,12 @@ impl Parameters {
     const FRAME_60: u64 = SECOND * 1 / 60;
 }
 
-// What a stream is: video, as in the base; or compressed, to which the receiver buffer model does not apply.
+// What a stream is: video, as in the base; compressed, to which the receiver buffer model does not apply; or interlaced, whose
+// markers close fields, two a frame.
 pub enum Profile {
     Video,
     Compressed,
+    Interlaced,
 }
 
 // An unknown class is refused at set-up; the limits give it 0, so that they answer for any number.
@@ -81,6 +80,18 @@ impl Profile {
         match self {
             Profile::Video => true,
             Profile::Compressed => false,
+            Profile::Interlaced => true,
+        }
+    }
+
+    // Whether a default TRO may stand: it has to be given for fields.
+    fn has_default(self) -> bool
+        ensures { λ r. ⌜ r ≡ hasDefault self ⌝ }
+    {
+        match self {
+            Profile::Video => true,
+            Profile::Compressed => true,
+            Profile::Interlaced => false,
         }
     }
 
@@ -91,7 +102,26 @@ impl Profile {
         match self {
             Profile::Video => 1,
             Profile::Compressed => 3,
+            Profile::Interlaced => 4,
         }
+    }
+
+    // How many periods a frame has.
+    fn periods(self) -> u64
+        ensures { λ r. ⌜ r ≡ periods self ⌝ }
+    {
+        match self {
+            Profile::Video => 1,
+            Profile::Compressed => 1,
+            Profile::Interlaced => 2,
+        }
+    }
+
+    // What one period has of a frame's grains, or of its packets: all; of an interlaced stream half, since its periods are fields.
+    pub fn per_period(self, all: u64) -> u64
+        ensures { λ r. ⌜ r ≡ perPeriod self all ⌝ }
+    {
+        all / self.periods()
     }
 }
 
@@ -100,7 +130,9 @@ pub fn is_profile(kind: u8) -> bool
     ensures { λ r. ⌜ r ≡ isProfile kind ⌝ }
 {
     match kind {
-        1 | 3 => true,
+        1 => true,
+        3 => true,
+        4 => true,
         _ => false,
     }
 }
@@ -111,6 +143,7 @@ pub fn profile_of(kind: u8) -> Profile
 {
     match kind {
         3 => Profile::Compressed,
+        4 => Profile::Interlaced,
         _ => Profile::Video,
     }
 }
@@ -163,9 +196,9 @@ fn strict_on(schedule: u8) -> Class
 }
 
 impl Parameters {
-    // The first of them, in document 01's order, that is refused; 0 where none is.
-    pub fn refusal(self) -> u8
-        ensures { λ r. ⌜ r ≡ setUpRefusal self ⌝ }
+    // The first of them, in document 01's order, that is refused of a profile; 0 where none is.
+    pub fn refusal(self, profile: Profile) -> u8
+        ensures { λ r. ⌜ r ≡ setUpRefusal profile self ⌝ }
     {
         if !is_within(1, 8, self.rate as u32) {
             return 1;
@@ -179,13 +212,13 @@ impl Parameters {
         if !is_within(1, 65535, self.height as u32) {
             return 4;
         }
-        if !is_within(1, 20000, self.n) {
+        if !packets_fit(profile, self.n) {
             return 5;
         }
         if !maxudp_known(self.maxudp) {
             return 6;
         }
-        if !tro_fits(frame_length(self.rate), self.tro) {
+        if !tro_fits(profile, frame_length(self.rate), self.tro) {
             return 7;
         }
         0
@@ -194,10 +227,10 @@ impl Parameters {
 
 impl Parameters {
     // What set-up refuses: 1 to 7 of these, and then 8 of the edition that it is told beside them; 0 where it refuses nothing.
-    pub fn refusal_in(self, edition: u32) -> u8
-        ensures { λ r. ⌜ r ≡ setUpIn self edition ⌝ }
+    pub fn refusal_in(self, profile: Profile, edition: u32) -> u8
+        ensures { λ r. ⌜ r ≡ setUpIn profile self edition ⌝ }
     {
-        let of_numbers = self.refusal();
+        let of_numbers = self.refusal(profile);
         let of_edition = edition_refusal(edition);
         laws::first_of(of_numbers, of_edition)
     }
@@ -235,10 +268,19 @@ fn maxudp_known(maxudp: u16) -> bool
     }
 }
 
-fn tro_fits(frame: u64, tro: u32) -> bool
-    ensures { λ r. ⌜ r ≡ troFits frame tro ⌝ }
+// The packets of a frame, n: where it has two fields, each has half of them.
+fn packets_fit(profile: Profile, n: u32) -> bool
+    ensures { λ r. ⌜ r ≡ packetsFit profile n ⌝ }
 {
-    tro == DEFAULT_TRO || MICROSECOND * (tro as u64) < frame
+    is_within(1, 20000, n) && (n as u64) % profile.periods() == 0
+}
+
+// A TRO lies below one period: its grains in all periods of a frame are below the frame's, so that nothing is divided.
+fn tro_fits(profile: Profile, frame: u64, tro: u32) -> bool
+    ensures { λ r. ⌜ r ≡ troFits profile frame tro ⌝ }
+{
+    (profile.has_default() & (tro == DEFAULT_TRO))
+        | (profile.periods() * (MICROSECOND * (tro as u64)) < frame)
 }
 
 // TRO in grains. The bound keeps 43·F within 64 bits: 2^32 grains are 159 ms, the longest frame 42 ms.

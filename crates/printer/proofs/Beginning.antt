@@ -7,6 +7,7 @@ use Rattle.packet.specs.Step.{nothing}
 use Rattle.text.specs.Lines.{refusalLine}
 use Rattle.record.specs.declared.Cursor.{Cursor}
 use Rattle.limits.specs.declared.Parameters.{Parameters}
+use Rattle.limits.specs.declared.Profile.{Profile}
 use Rattle.limits.specs.Paper.{setUpRefusal}
 use Rattle.limits.proofs.Editions.{in-one}
 use Rattle.record.specs.declared.Head.{Head}
@@ -59,28 +60,31 @@ module _ (w v : List ℕ) (last : Bool) (l : last ≡ true → v ≡ []) where
     abbrev numbers : Parameters
     numbers = stream .parameters
 
-    fresh-tells : setUpRefusal numbers ≡ 0 → Tells w v (Opens (record { at = c; state = freshOf stream }))
+    abbrev profile : Profile
+    profile = stream .profile
+
+    fresh-tells : setUpRefusal profile numbers ≡ 0 → Tells w v (Opens (record { at = c; state = freshOf stream }))
     unfolding outputOf restOf
     fresh-tells fine =
         let rules = rulesOf stream in
         let state = freshOf stream in (
-          record { sound = sound-fresh stream (in-one numbers ∙ fine); offset = ap (λ (d : Cursor). d .at) (here .next-19) },
+          record { sound = sound-fresh stream (in-one profile numbers ∙ fine); offset = ap (λ (d : Cursor). d .at) (here .next-19) },
           ap outputBy (reads-packets here fine)
               ∙ ap (λ (m : List ℕ). linesOf rules state (packetsIn nothing headBytes m)) (drop-append-le headBytes w v nineteen)
               ∙ ap (λ (d : Cursor). linesOf rules state (packetsIn nothing (d .at) (drop headBytes w ++ v))) (sym (here .next-19)),
         )
 
-    refused-tells : 0 < setUpRefusal numbers → Tells w v (Unopened (setUpRefusal numbers) 1)
+    refused-tells : 0 < setUpRefusal profile numbers → Tells w v (Unopened (setUpRefusal profile numbers) 1)
     unfolding outputOf
-    refused-tells some = ap outputBy (reads-refused here (setUpRefusal numbers) refl some)
+    refused-tells some = ap outputBy (reads-refused here (setUpRefusal profile numbers) refl some)
 
     set-up-tells : Tells w v (readyBy (setUpAs stream) c)
     unfolding setUpAs
     set-up-tells =
-        rw (in-one numbers)
-        (pick-either (λ (a : SetUp). Tells w v (readyBy a c)) (eqb (setUpRefusal numbers) 0)
-        (λ g. fresh-tells (eqb-true (setUpRefusal numbers) 0 g))
-        (λ g. refused-tells (some (setUpRefusal numbers) (eqb-false (setUpRefusal numbers) 0 g))))
+        rw (in-one profile numbers)
+        (pick-either (λ (a : SetUp). Tells w v (readyBy a c)) (eqb (setUpRefusal profile numbers) 0)
+        (λ g. fresh-tells (eqb-true (setUpRefusal profile numbers) 0 g))
+        (λ g. refused-tells (some (setUpRefusal profile numbers) (eqb-false (setUpRefusal profile numbers) 0 g))))
       where
         some : (n : ℕ) → (n ≡ 0 → ⊥) → 0 < n
         some n h = omega arith

@@ -5,12 +5,14 @@ use Rattle.laws.specs.Kit.{arith, length, drop, getD, length-drop}
 use Rattle.laws.specs.Choose.{pick}
 use Rattle.record.specs.declared.Next.the-variants.{More}
 use Rattle.record.specs.Paper.{headBytes, Heading, resolved, heading, isParameters}
+use Rattle.record.specs.declared.FileNumbers.{FileNumbers}
+use Rattle.record.specs.Walk.{numbersOf}
 use Rattle.record.specs.Step.{nextPiece}
 use Rattle.record.proofs.InPieces.{last-answers, window-suffices}
 use Rattle.text.specs.Lines.{lineRoom, summaryLine, refusalLine}
+use Rattle.timing.specs.declared.StreamNumbers.{StreamNumbers}
 use Rattle.timing.specs.declared.State.{State}
 use Rattle.timing.specs.Step.{rulesOf, ofProfile, freshOf}
-use Rattle.limits.specs.Paper.{profileOf}
 use Rattle.timing.specs.Answers.{answersOf, verdictOf}
 use Rattle.timing.specs.Range.{Sound}
 use Rattle.timing.proofs.InRange.{of-sound}
@@ -25,7 +27,7 @@ use Rattle.printer.proofs.Inside.{take-inside}
 use Rattle.printer.proofs.Progress.{take-stuck, take-moves}
 use Rattle.printer.proofs.Beginning.{Tells, begin-tells, Answered, begin-answered}
 use Rattle.record.specs.Layout.{headOf}
-use Rattle.record.proofs.Versions.{Held, read-alike, first-held, second-held, second-kept}
+use Rattle.record.proofs.Versions.{Held, read-alike, first-held, second-held, first-as-second}
 use Rattle.limits.specs.declared.Parameters.{Parameters}
 use Rattle.limits.specs.Steps.{ParametersHeld}
 
@@ -163,18 +165,19 @@ file-printed file = go (beginOf file true) refl (begin-tells file [] true (λ e.
         (subst (Drives walk (drop headBytes file ++ [])) (sym (output ∙ u .1)) (rest-driven walk (drop headBytes file ++ []) (u .0)))
 
 -- F11: two files that set up alike print the same, whatever bytes follow their heads
-pub outputs-alike : (h k : Heading) → resolved h ≡ resolved k → h .kind ≡ k .kind → (l : List ℕ) → Held h → Held k
+pub outputs-alike : (h k : Heading) → numbersOf h ≡ numbersOf k → (l : List ℕ) → Held h → Held k
     → outputOf (headOf h ++ l) ≡ outputOf (headOf k ++ l)
 unfolding outputOf
-outputs-alike h k e q l =
-    read-alike h k e outputBy
-    (λ r. ap (λ (p : Parameters). linesOf (rulesOf (ofProfile (profileOf (h .kind)) p)) (freshOf (ofProfile (profileOf (h .kind)) p)) r) e
-    ∙ ap (λ (kind : ℕ). linesOf (rulesOf (ofProfile (profileOf kind) (resolved k))) (freshOf (ofProfile (profileOf kind) (resolved k))) r) q) l
+outputs-alike h k e l =
+    read-alike h k e outputBy (λ r. ap (λ (x : FileNumbers). linesOf (rulesOf (stream x)) (freshOf (stream x)) r) e) l
+  where
+    stream : FileNumbers → StreamNumbers
+    stream x = ofProfile (x .profile) (x .parameters)
 
 -- F11: so a file of version 1 prints what that of version 2 prints whose class 0 is written as 3
 pub first-printed : (kind : ℕ) (p : Parameters) (l : List ℕ) → isParameters kind ≡ true → ParametersHeld p
     → outputOf (headOf (heading 1 kind p) ++ l) ≡ outputOf (headOf (heading 2 kind (resolved (heading 1 kind p))) ++ l)
 first-printed kind p l holds held =
     let q = resolved (heading 1 kind p) in
-    outputs-alike (heading 1 kind p) (heading 2 kind q) (sym (second-kept kind q)) refl l (first-held kind p holds held)
+    outputs-alike (heading 1 kind p) (heading 2 kind q) (first-as-second kind p) l (first-held kind p holds held)
     (second-held kind p holds held)

@@ -31,7 +31,7 @@ use Rattle.probe.proofs.Carrying.{narrow-after, laid-hold}
 -- an edition that set-up accepts fits, and so do the parameters' types
 narrow-fresh : (x : StreamNumbers) → ParametersHeld (x .parameters) → setUpOf x ≡ 0 → Narrow (freshOf x)
 narrow-fresh x f e =
-    record { numbers = f; edition = omega (arith, in-fine (x .parameters) (x .edition) e .1 .1); stamp = omega arith }
+    record { numbers = f; edition = omega (arith, in-fine (x .profile) (x .parameters) (x .edition) e .1 .1); stamp = omega arith }
 
 -- the words that set-up leaves hold the fresh state
 pub set-up-holds : (x : Stated) (words : List ℕ) → ParametersHeld (x .parameters) → statedRefusal x ≡ 0 → stateWords ≤ length words

@@ -12,7 +12,7 @@ use Rattle.timing.specs.declared.State.{State}
 use Rattle.laws.specs.Every.{flag}
 use Rattle.limits.specs.declared.Parameters.{Parameters}
 use Rattle.limits.specs.declared.Profile.{Profile}
-use Rattle.limits.specs.declared.Profile.the-variants.{Video, Compressed}
+use Rattle.limits.specs.declared.Profile.the-variants.{Video, Compressed, Interlaced}
 use Rattle.limits.specs.Paper.{profileKind, profileOf, given}
 use Rattle.limits.specs.Steps.{ParametersHeld}
 use Rattle.probe.specs.declared.Held.the-variants.{Known, Nothing}
@@ -68,6 +68,7 @@ profile-again : (p : Profile) → profileOf (profileKind p % 256) ≡ p
 unfolding profileOf
 profile-again Video = refl
 profile-again Compressed = refl
+profile-again Interlaced = refl
 
 flag-again : (b : Bool) → eqb (flag b) 1 ≡ b
 flag-again true = refl

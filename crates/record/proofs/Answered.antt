@@ -5,7 +5,6 @@ use Rattle.laws.specs.Choose.{pick}
 use Rattle.laws.proofs.Choose.{false-true, second, before}
 use Rattle.laws.specs.Fold.{fold}
 use Rattle.limits.specs.declared.Parameters.{Parameters}
-use Rattle.limits.specs.Paper.{setUpRefusal}
 use Rattle.packet.specs.declared.Past.{Past}
 use Rattle.packet.specs.declared.Packet as packet
 use Rattle.packet.specs.Step.{nothing, nextOf, numberOf}
@@ -14,7 +13,7 @@ use Rattle.record.specs.declared.Head.{Head}
 use Rattle.record.specs.declared.Head.the-variants as head
 use Rattle.record.specs.declared.Next.{Next}
 use Rattle.record.specs.declared.Next.the-variants.{Packet, End, More, Refused}
-use Rattle.record.specs.Paper.{packetBytes, headBytes, packetAt, Heading, heading, resolved, formatRefusal, packetRefusal}
+use Rattle.record.specs.Paper.{packetBytes, headBytes, packetAt, Heading, heading, resolved, formatRefusal, packetRefusal, numbersRefusal}
 use Rattle.record.specs.Paper.{Ending, done, stopped, Packets, packetsIn, Reading, unread, read, readingOf, file, endedFile, asFile}
 use Rattle.record.specs.Step.{cursor, after, packetOf, headRead, nextRead}
 use Rattle.record.specs.Pieces.{goesOn, nextAt, taken, Heard, heard, callsOf, allCalls, answers, allAnswers}
@@ -123,11 +122,11 @@ rest-answers s j w h = go (headRead s) (head-says s)
     l : List ℕ
     l = drop headBytes s
 
-    stood : (version kind : ℕ) (x : Parameters) (c : Cursor) → Stood s version kind x c → Dec (setUpRefusal (resolved (heading version kind x)) ≡ 0)
+    stood : (version kind : ℕ) (x : Parameters) (c : Cursor) → Stood s version kind x c → Dec (numbersRefusal (heading version kind x) ≡ 0)
         → Answered (readingOf s) (heard (head.Ready version kind x c) (λ at. answers j at (drop headBytes s)))
     stood version kind x c q (no n) =
         subst (λ (r : Reading). Answered r (heard (head.Ready version kind x c) (λ at. answers j at (drop headBytes s))))
-        (sym (reads-refused q (setUpRefusal (resolved (heading version kind x))) refl (omega arith))) (refl, refl)
+        (sym (reads-refused q (numbersRefusal (heading version kind x)) refl (omega arith))) (refl, refl)
     stood version kind x c q (yes z) =
         let size : length (drop headBytes s) + headBytes ≡ length s = omega (arith, length-drop headBytes s, q .nineteen) in
         let told = packets-told j nothing headBytes (drop headBytes s) (omega (arith, size)) (omega (arith, size)) in
@@ -135,7 +134,7 @@ rest-answers s j w h = go (headRead s) (head-says s)
         (sym (reads-packets q z)) (rw (q .next-19), rw (q .next-19) told)
 
     go : (y : Head) → SaysHead s y → Answered (readingOf s) (heard y (λ at. answers j at (drop headBytes s)))
-    go (head.Ready version kind x c) q = stood version kind x c q (ℕ-discrete (setUpRefusal (resolved (heading version kind x))) 0)
+    go (head.Ready version kind x c) q = stood version kind x c q (ℕ-discrete (numbersRefusal (heading version kind x)) 0)
     go head.More q = absurd q
     go (head.Refused n o) q =
         subst (λ (r : Reading). Answered r (heard (head.Refused n o) (λ at. answers j at (drop headBytes s)))) (sym q) (refl, refl)

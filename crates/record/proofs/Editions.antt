@@ -10,7 +10,8 @@ use Rattle.packet.specs.declared.Scanned.{Scanned}
 use Rattle.packet.specs.declared.Scanned.the-variants as scan
 use Rattle.packet.specs.Step.{nothing, nextOf, elapsedOf, refusalOf, numberOf, scanOf, scannedOf}
 use Rattle.limits.specs.declared.Parameters.{Parameters}
-use Rattle.limits.specs.Paper.{setUpRefusal, editionRefusal, isProfile, profileRefusal}
+use Rattle.limits.specs.declared.Profile.{Profile}
+use Rattle.limits.specs.Paper.{setUpRefusal, editionRefusal, isProfile, profileOf, profileRefusal}
 use Rattle.limits.specs.Accepted.{KnownEdition}
 use Rattle.limits.proofs.Editions.{edition-fine, edition-known, edition-8, at-most-7}
 use Rattle.record.specs.declared.Written.{Written}
@@ -81,8 +82,8 @@ number-other past p =
     pick-either Not-8 (ltb 600000000000 (elapsedOf past (p .time))) (λ e z. omega arith) (λ e.
     pick-either Not-8 (leb 1000000000 (past .packets)) (λ e z. omega arith) (λ e z. omega arith))))
 
-set-up-other : (p : Parameters) → Not-8 (setUpRefusal p)
-set-up-other p e = omega (arith, at-most-7 p)
+set-up-other : (profile : Profile) (p : Parameters) → Not-8 (setUpRefusal profile p)
+set-up-other profile p e = omega (arith, at-most-7 profile p)
 
 abbrev Ends-other : Ending → Type 0
 Ends-other done = Unit
@@ -107,7 +108,7 @@ reading-other s =
     pick-either Reads-other (versionFits s) (λ e.
     pick-either Reads-other (eqb (parametersRefusal (versionOf s) (drop 1 s)) 0)
     (λ e. packets-other _ nothing _ _)
-    (λ e. or-else _ _ (format-other true (drop 1 s)) (set-up-other (resolvedIn (versionOf s) (parametersAt (drop 1 s))))))
+    (λ e. or-else _ _ (format-other true (drop 1 s)) (set-up-other (profileOf (kindOf (drop 1 s))) (resolvedIn (versionOf s) (parametersAt (drop 1 s))))))
     (λ e z. omega arith)
 
 -- F13: a file by itself is never refused by 8
@@ -165,7 +166,7 @@ never-written h ts ss ms room =
     pick-either (λ (w : Written). Not-8 (writtenNumber w)) (eqb (headingRefusal h) 0)
     (λ e. go (scannedOf nothing false ts ss ms) (scanned-other ts ss ms))
     (λ e. or-else _ _ (pick-either Not-8 (versionKnown (h .version)) (λ e z. omega arith) (λ e z. omega arith))
-    (or-else _ _ (pick-either Not-8 (isProfile (h .kind)) (λ e z. omega arith) (λ e z. omega arith)) (set-up-other (resolved h))))
+    (or-else _ _ (pick-either Not-8 (isProfile (h .kind)) (λ e z. omega arith) (λ e z. omega arith)) (set-up-other (profileOf (h .kind)) (resolved h))))
   where
     go : (a : Scanned) → Scans-other a → Not-8 (writtenNumber (scanning a (fileLength (length ts)) room))
     go (scan.Fine closed) x =

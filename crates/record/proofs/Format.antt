@@ -1,11 +1,11 @@
 -- How a record is framed, and by which of 21, 22, 23 it is refused, from what stands in front: a scrap, a length of 0, a record that is
 -- cut short, or a whole one; and what none of the three says of a record. By the tests, one after the other.
-use Rattle.laws.specs.Kit.{_≡_, refl, sym, _∙_, ⊎-elim, Bool, true, false, _&&_, List, ℕ, _+_, _≤_, _<_, arith, ℕ-discrete, decLe, ltb, eqb, length}
+use Rattle.laws.specs.Kit.{_≡_, refl, sym, _∙_, Bool, true, false, _&&_, List, ℕ, _+_, _≤_, _<_, arith, ℕ-discrete, decLe, ltb, eqb, length}
 use Rattle.laws.specs.Kit.{lt-ltb, le-ltb, eq-eqb, ne-eqb, ltb-false, eqb-true, eqb-false}
 use Rattle.laws.specs.Choose.{pick}
 use Rattle.laws.proofs.Choose.{pick-either}
 use Rattle.endian.specs.Number.{Room}
-use Rattle.limits.proofs.Profiles.{profile-kinds, no-other}
+use Rattle.limits.proofs.Profiles.{kind-most, no-other}
 use Rattle.record.specs.declared.Framed.the-variants as framed
 use Rattle.record.specs.Paper.{parametersLength, packetLength, parametersBytes, packetBytes}
 use Rattle.record.specs.Paper.{bodyLength, kindOf, isParameters, kindLength, lone, inPlace, formatRefusal}
@@ -13,14 +13,14 @@ use Rattle.record.specs.Step.{scrapOf, framedOf, Whole}
 
 -- ---- kinds
 
--- F14: 1 or 3, which one byte holds
+-- F14: 4 at most, which one byte holds
 pub kind-small : (kind : ℕ) → isParameters kind ≡ true → kind < 256
 unfolding isParameters
-kind-small kind e = ⊎-elim (λ z. omega arith) (λ z. omega arith) (profile-kinds kind e)
+kind-small kind e = omega (arith, kind-most kind e)
 
 pub packet-2 : isParameters 2 ≡ false
 unfolding isParameters
-packet-2 = sym (no-other 2 (λ e. omega arith) (λ e. omega arith))
+packet-2 = sym (no-other 2 (λ e. omega arith) (λ e. omega arith) (λ e. omega arith))
 
 pub length-16 : (kind : ℕ) → isParameters kind ≡ true → kindLength kind ≡ parametersLength
 unfolding kindLength

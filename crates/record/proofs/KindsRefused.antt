@@ -1,21 +1,24 @@
 -- What 22 and 23 say of each kind of record, by the tests of a record that is all there.
-use Rattle.laws.specs.Kit.{_≡_, refl, sym, _∙_, inl, inr, Bool, true, false, List, ℕ, eq-eqb, ne-eqb}
+use Rattle.laws.specs.Kit.{_≡_, refl, sym, _∙_, Bool, true, false, List, ℕ, eq-eqb, ne-eqb}
+use Rattle.limits.specs.declared.Profile.the-variants.{Video, Compressed, Interlaced}
 use Rattle.limits.specs.Paper.{isProfile}
-use Rattle.limits.proofs.Profiles.{first-or-third, no-other}
+use Rattle.limits.proofs.Profiles.{is-chosen, no-other}
 use Rattle.record.specs.Paper.{parametersLength, packetLength, bodyLength, kindOf, isParameters, kindLength, formatRefusal}
 use Rattle.record.specs.Step.{Whole}
 use Rattle.record.proofs.Format.{length-16, length-14, there}
 use Rattle.record.proofs.Ways.{length-none}
 
--- F3, F4, F14: kinds 1 and 3 have 16 bytes, 2 has 14, and no other has a length that a record has
+-- F3, F4, F14: kinds 1, 3 and 4 have 16 bytes, 2 has 14, and no other has a length that a record has
 pub lengths : (kindLength 1 ≡ parametersLength) × (kindLength 2 ≡ packetLength) × (kindLength 3 ≡ parametersLength)
-    × ((kind : ℕ) → (kind ≡ 1 → ⊥) → (kind ≡ 2 → ⊥) → (kind ≡ 3 → ⊥) → kindLength kind ≡ 0)
+    × (kindLength 4 ≡ parametersLength)
+    × ((kind : ℕ) → (kind ≡ 1 → ⊥) → (kind ≡ 2 → ⊥) → (kind ≡ 3 → ⊥) → (kind ≡ 4 → ⊥) → kindLength kind ≡ 0)
 unfolding isParameters
 lengths = (
-  length-16 1 (sym (first-or-third 1 (inl refl))),
+  length-16 1 (is-chosen Video),
   length-14,
-  length-16 3 (sym (first-or-third 3 (inr refl))),
-  λ kind a b c. length-none kind (sym (no-other kind a c)) b,
+  length-16 3 (is-chosen Compressed),
+  length-16 4 (is-chosen Interlaced),
+  λ kind a b c d. length-none kind (sym (no-other kind a c d)) b,
 )
 
 module _ (l : List ℕ) (w : Whole (bodyLength l) (kindOf l) l) where
@@ -28,6 +31,6 @@ module _ (l : List ℕ) (w : Whole (bodyLength l) (kindOf l) l) where
     pub none-first : isParameters (kindOf l) ≡ false → formatRefusal true l ≡ 23
     none-first k = there true l w ∙ rw (eq-eqb (bodyLength l) (kindLength (kindOf l)) fits, k)
 
-    -- N1: "or parameters again", of either kind
+    -- N1: "or parameters again", of any kind that holds them
     pub again : isParameters (kindOf l) ≡ true → formatRefusal false l ≡ 23
     again k = there false l w ∙ rw (eq-eqb (bodyLength l) (kindLength (kindOf l)) fits, k)

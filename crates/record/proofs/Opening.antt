@@ -3,6 +3,7 @@ use Rattle.laws.specs.Kit.{_≡_, refl, sym, ap, subst, _∙_, List, [], _∷_,
 use types.Run.{OneOf, miss}
 use denote.Enum.Declared.{tagOf}
 use Rattle.limits.specs.declared.Parameters.{Parameters}
+use Rattle.limits.specs.declared.Profile.{Profile}
 use Rattle.limits.specs.Paper.{setUpRefusal, editionRefusal, setUpIn}
 use Rattle.limits.proofs.Editions.{in-first, in-edition, in-fine, edition-fine}
 use Rattle.packet.specs.Step.{nothing, noPackets}
@@ -12,7 +13,7 @@ use Rattle.record.specs.declared.FileNumbers.{FileNumbers}
 use Rattle.record.specs.declared.Head.{Head}
 use Rattle.record.specs.declared.Head.the-variants.{Ready, More, Refused}
 use Rattle.record.specs.declared.Checked.the-variants as answer
-use Rattle.record.specs.Paper.{headBytes, Heading, heading, resolved, Ending, done, stopped, Packets, packetsIn, endedFile}
+use Rattle.record.specs.Paper.{headBytes, Heading, heading, resolved, Ending, done, stopped, Packets, packetsIn, endedFile, numbersRefusal}
 use Rattle.record.specs.Step.{headRead}
 use Rattle.record.specs.Walk.{numbersOf, asChecked, checkedOf, finishBy, finish, refusedBy}
 use Rattle.record.proofs.Head.{the-type}
@@ -53,33 +54,36 @@ module _ (edition : ℕ) (s : List ℕ) where
         abbrev numbers : Parameters
         numbers = set .parameters
 
+        abbrev profile : Profile
+        profile = set .profile
+
         -- its parameters are refused as those of the file are
-        same-refusal : setUpRefusal (resolved (heading version kind parameters)) ≡ setUpRefusal numbers
-        same-refusal = sym (ap (λ (x : FileNumbers). setUpRefusal (x .parameters)) q)
+        same-refusal : numbersRefusal (heading version kind parameters) ≡ setUpRefusal profile numbers
+        same-refusal = sym (ap (λ (x : FileNumbers). setUpRefusal (x .profile) (x .parameters)) q)
 
         -- 1 to 7 by the file itself, 8 by what stands beside it
-        own-refused : 0 < setUpRefusal numbers → answer.Refused (setUpIn numbers edition) 1 ≡ checkedOf edition s
+        own-refused : 0 < setUpRefusal profile numbers → answer.Refused (setUpIn profile numbers edition) 1 ≡ checkedOf edition s
         unfolding checkedOf
         own-refused p =
-            rw (in-first numbers edition p, reads-refused here (setUpRefusal numbers) same-refusal p)
+            rw (in-first profile numbers edition p, reads-refused here (setUpRefusal profile numbers) same-refusal p)
 
-        edition-refused : setUpRefusal numbers ≡ 0 → 0 < editionRefusal edition → answer.Refused (setUpIn numbers edition) 1 ≡ checkedOf edition s
+        edition-refused : setUpRefusal profile numbers ≡ 0 → 0 < editionRefusal edition → answer.Refused (setUpIn profile numbers edition) 1 ≡ checkedOf edition s
         unfolding checkedOf
         edition-refused f p =
-            rw (in-edition numbers edition f, reads-packets here (same-refusal ∙ f), ne-eqb (editionRefusal edition) 0 (λ z. omega arith))
+            rw (in-edition profile numbers edition f, reads-packets here (same-refusal ∙ f), ne-eqb (editionRefusal edition) 0 (λ z. omega arith))
 
-        pub opens-refused : (n : ℕ) → setUpIn numbers edition ≡ n → 0 < n → answer.Refused n 1 ≡ checkedOf edition s
-        opens-refused n f p = rw (sym f) (go (ℕ-discrete (setUpRefusal numbers) 0))
+        pub opens-refused : (n : ℕ) → setUpIn profile numbers edition ≡ n → 0 < n → answer.Refused n 1 ≡ checkedOf edition s
+        opens-refused n f p = rw (sym f) (go (ℕ-discrete (setUpRefusal profile numbers) 0))
           where
-            go : Dec (setUpRefusal numbers ≡ 0) → answer.Refused (setUpIn numbers edition) 1 ≡ checkedOf edition s
-            go (yes z) = edition-refused z (omega (arith, in-edition numbers edition z))
+            go : Dec (setUpRefusal profile numbers ≡ 0) → answer.Refused (setUpIn profile numbers edition) 1 ≡ checkedOf edition s
+            go (yes z) = edition-refused z (omega (arith, in-edition profile numbers edition z))
             go (no z) = own-refused (omega arith)
 
-        pub opens-fine : setUpIn numbers edition ≡ 0
+        pub opens-fine : setUpIn profile numbers edition ≡ 0
             → finish set noPackets (packetsIn nothing (c .at) (drop (c .at) s)) ≡ checkedOf edition s
         unfolding checkedOf
         opens-fine f =
-            let fine = in-fine numbers edition f in
+            let fine = in-fine profile numbers edition f in
             rw (reads-packets here (same-refusal ∙ fine .0), edition-fine edition (fine .1), here .next-19)
             (ap (λ (x : FileNumbers). finish x noPackets (packetsIn nothing headBytes (drop headBytes s))) q
             ∙ finish-checked (heading version kind parameters) (packetsIn nothing headBytes (drop headBytes s)))

@@ -14,8 +14,7 @@ use Rattle.packet.proofs.Turn.{scan-ends, scan-goes, lengths-same}
 use Rattle.record.specs.declared.Written.{Written}
 use Rattle.record.specs.declared.Written.the-variants.{Done}
 use Rattle.record.specs.Write.{fileLength, headingRefusal, WriteGives}
-use Rattle.limits.specs.Paper.{setUpRefusal}
-use Rattle.record.specs.Paper.{parametersBytes, packetBytes, headBytes}
+use Rattle.record.specs.Paper.{parametersBytes, packetBytes, headBytes, numbersRefusal}
 use Rattle.record.specs.Paper.{versionOf, versionFits, kindOf, parametersAt, packetAt, Heading, resolved, formatRefusal, parametersRefusal}
 use Rattle.record.specs.Paper.{packetRefusal}
 use Rattle.record.specs.Paper.{Ending, done, stopped, Packets, packetsIn, file, refused, endedFile, asFile, fileOf}
@@ -98,7 +97,7 @@ pub record FileHolds (s : List ℕ) (h : Heading) (ps : List Packet) : Type 0 wh
   pub version-fits : versionFits s ≡ true
   pub parameters-fine : parametersRefusal (versionOf s) (drop 1 s) ≡ 0
   pub heading-is : headingOf s ≡ h
-  pub set-up : setUpRefusal (resolved h) ≡ 0
+  pub set-up : numbersRefusal h ≡ 0
   pub writable : headingRefusal h ≡ 0
   pub all-read : packetsIn nothing headBytes (drop headBytes s) ≡ record { accepted = ps; ending = done }
   pub closed : ℕ
@@ -117,14 +116,14 @@ file-holds s h ps e = go (versionFits s) refl (ℕ-discrete (parametersRefusal (
         let e-heading : headingOf s ≡ h = cc in
         let e-packets : r .accepted ≡ ps = cc in
         let scans = packets-scan (length (drop headBytes s)) nothing false 0 headBytes (drop headBytes s) (omega arith) q in
-        let both = neither (formatRefusal true (drop 1 s)) (setUpRefusal (resolved (headingOf s))) z in
+        let both = neither (formatRefusal true (drop 1 s)) (numbersRefusal (headingOf s)) z in
         let kind = parameters-here (drop 1 s) (both .0) .kind-holds in
         let fine = both .1 in
         record {
           version-fits = v;
           parameters-fine = z;
           heading-is = e-heading;
-          set-up = sym (ap (λ (x : Heading). setUpRefusal (resolved x)) e-heading) ∙ fine;
+          set-up = sym (ap numbersRefusal e-heading) ∙ fine;
           writable = sym (ap headingRefusal e-heading) ∙ sym (heading-set-up (versionOf s) (kindOf (drop 1 s)) (parametersAt (drop 1 s)) v kind) ∙ fine;
           all-read = λ j. record { accepted = e-packets j; ending = q j };
           closed = scans .0;

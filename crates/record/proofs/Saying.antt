@@ -4,7 +4,6 @@ use Rattle.laws.specs.Kit.{drop}
 use Rattle.laws.specs.Choose.{pick}
 use Rattle.laws.proofs.Choose.{pick-either, second, before}
 use Rattle.limits.specs.declared.Parameters.{Parameters}
-use Rattle.limits.specs.Paper.{setUpRefusal}
 use Rattle.packet.specs.Step.{nothing}
 use Rattle.record.specs.declared.Cursor.{Cursor}
 use Rattle.record.specs.declared.Framed.{Framed}
@@ -12,7 +11,7 @@ use Rattle.record.specs.declared.Head.{Head}
 use Rattle.record.specs.declared.Head.the-variants as head
 use Rattle.record.specs.declared.Next.{Next}
 use Rattle.record.specs.declared.Next.the-variants.{Packet, End, More, Refused}
-use Rattle.record.specs.Paper.{packetBytes, headBytes}
+use Rattle.record.specs.Paper.{packetBytes, headBytes, numbersRefusal}
 use Rattle.record.specs.Paper.{versionKnown, versionOf, versionFits, bodyLength, kindOf, isParameters, kindLength, parametersAt}
 use Rattle.record.specs.Paper.{formatRefusal}
 use Rattle.record.specs.Paper.{Heading, heading, resolved, parametersRefusal, packetsIn, unread, read, readingOf}
@@ -128,13 +127,13 @@ module _ {s : List ℕ} {version kind : ℕ} {parameters : Parameters} {c : Curs
   heading-is : headingOf s ≡ heading version kind parameters
   heading-is = rw (h .version-is, h .kind-is, h .parameters-are)
 
-  set-up-is : parametersRefusal (versionOf s) (drop 1 s) ≡ setUpRefusal (resolved (heading version kind parameters))
-  set-up-is = second _ _ (h .format-fits) ∙ ap (λ (x : Heading). setUpRefusal (resolved x)) heading-is
+  set-up-is : parametersRefusal (versionOf s) (drop 1 s) ≡ numbersRefusal (heading version kind parameters)
+  set-up-is = second _ _ (h .format-fits) ∙ ap numbersRefusal heading-is
 
-  pub reads-refused : (n : ℕ) → setUpRefusal (resolved (heading version kind parameters)) ≡ n → 0 < n → readingOf s ≡ unread n 1
+  pub reads-refused : (n : ℕ) → numbersRefusal (heading version kind parameters) ≡ n → 0 < n → readingOf s ≡ unread n 1
   reads-refused n e p = reading-stop s n (h .version-fits) (set-up-is ∙ e) p
 
-  pub reads-packets : setUpRefusal (resolved (heading version kind parameters)) ≡ 0
+  pub reads-packets : numbersRefusal (heading version kind parameters) ≡ 0
       → readingOf s ≡ read (heading version kind parameters) (packetsIn nothing headBytes (drop headBytes s))
   reads-packets e =
       reading-go s (h .version-fits) (set-up-is ∙ e)

@@ -5,14 +5,16 @@ use Rattle.laws.specs.Choose.{pick}
 use Rattle.laws.proofs.Choose.{second, before}
 use Rattle.limits.specs.declared.Class.the-variants.{Narrow, NarrowLinear, Wide, Unknown}
 use Rattle.limits.specs.declared.Parameters.{Parameters}
-use Rattle.limits.specs.Paper.{classOf, setUpRefusal}
+use Rattle.limits.specs.Paper.{classOf, profileOf, setUpRefusal}
 use Rattle.limits.specs.Steps.{ParametersHeld}
 use Rattle.packet.specs.Step.{nothing}
-use Rattle.record.specs.Paper.{parametersLength, parametersBytes, headBytes, versionKnown, Heading, heading, firstClass, classIn, resolvedIn}
-use Rattle.record.specs.Paper.{isParameters, resolved}
+use Rattle.record.specs.Paper.{parametersLength, parametersBytes, headBytes, versionKnown, Heading, heading, firstClass, classIn, numbersRefusal}
+use Rattle.record.specs.Paper.{parametersAt, isParameters, resolved}
 use Rattle.record.specs.Paper.{formatRefusal, parametersRefusal, Packets, packetsIn, Reading, unread, read, readingOf, refused}
 use Rattle.record.specs.Paper.{asFile, fileOf}
+use Rattle.record.specs.declared.FileNumbers.{FileNumbers}
 use Rattle.record.specs.Layout.{parameterRecord, headOf}
+use Rattle.record.specs.Walk.{numbersOf}
 use Rattle.record.specs.Step.{Whole}
 use Rattle.record.proofs.Format.{lone-23, kind-small, length-16, there}
 use Rattle.record.proofs.Reading.{reading-20, reading-stop, reading-go}
@@ -43,10 +45,10 @@ pub record Held (h : Heading) : Type 0 where
 -- what it reads as: set-up refuses it, or the packets follow
 abbrev pub headed : Heading → List ℕ → Reading
 headed h l =
-    pick (eqb (setUpRefusal (resolved h)) 0) (read h (packetsIn nothing headBytes l)) (unread (setUpRefusal (resolved h)) 1)
+    pick (eqb (numbersRefusal h) 0) (read h (packetsIn nothing headBytes l)) (unread (numbersRefusal h) 1)
 
 pub reading-headed : (h : Heading) (l : List ℕ) → Held h → readingOf (headOf h ++ l) ≡ headed h l
-reading-headed h rest held = go (ℕ-discrete (setUpRefusal (resolved h)) 0)
+reading-headed h rest held = go (ℕ-discrete (numbersRefusal h) 0)
   where
     x : Parameters
     x = h .parameters
@@ -71,31 +73,37 @@ reading-headed h rest held = go (ℕ-discrete (setUpRefusal (resolved h)) 0)
         } in
         there true l here ∙ rw (length-16 (h .kind) (held .kind), held .kind)
 
-    set-up : parametersRefusal (h .version) l ≡ setUpRefusal (resolved h)
-    set-up = second _ _ format ∙ ap (λ (q : Parameters). setUpRefusal (resolvedIn (h .version) q)) (back .same)
+    set-up : parametersRefusal (h .version) l ≡ numbersRefusal h
+    set-up =
+        second _ _ format
+        ∙ ap (λ (kind : ℕ). numbersRefusal (heading (h .version) kind (parametersAt l))) (back .kind-is)
+        ∙ ap (λ (q : Parameters). numbersRefusal (heading (h .version) (h .kind) q)) (back .same)
 
-    go : Dec (setUpRefusal (resolved h) ≡ 0) → readingOf (headOf h ++ rest) ≡ headed h rest
+    go : Dec (numbersRefusal h ≡ 0) → readingOf (headOf h ++ rest) ≡ headed h rest
     go (yes e) =
         reading-go (h .version ∷ l) (held .known) (set-up ∙ e)
-        ∙ rw (back .same, back .kind-is, drop-at (parameterRecord (h .kind) x) rest parametersBytes long, eq-eqb (setUpRefusal (resolved h)) 0 e)
+        ∙ rw (back .same, back .kind-is, drop-at (parameterRecord (h .kind) x) rest parametersBytes long, eq-eqb (numbersRefusal h) 0 e)
     go (no n) =
-        reading-stop (h .version ∷ l) (setUpRefusal (resolved h)) (held .known) set-up (omega arith)
-        ∙ rw (ne-eqb (setUpRefusal (resolved h)) 0 n)
+        reading-stop (h .version ∷ l) (numbersRefusal h) (held .known) set-up (omega arith)
+        ∙ rw (ne-eqb (numbersRefusal h) 0 n)
 
 -- ---- two files that set up alike, with the same bytes behind their heads
 
-module _ (h k : Heading) (e : resolved h ≡ resolved k) where
+module _ (h k : Heading) (e : numbersOf h ≡ numbersOf k) where
   -- what cannot tell their headings apart
   abbrev pub Untold : {A : Type 0} → (Reading → A) → Type 0
   Untold f = (r : Packets) → f (read h r) ≡ f (read k r)
 
   headed-alike : {A : Type 0} (f : Reading → A) → Untold f → (l : List ℕ) → f (headed h l) ≡ f (headed k l)
   headed-alike f same l =
-      ap (λ (p : Parameters). f (pick (eqb (setUpRefusal p) 0) (read h r) (unread (setUpRefusal p) 1))) e
-      ∙ go (eqb (setUpRefusal (resolved k)) 0) (setUpRefusal (resolved k))
+      ap (λ (x : FileNumbers). f (pick (eqb (refusalOf x) 0) (read h r) (unread (refusalOf x) 1))) e
+      ∙ go (eqb (numbersRefusal k) 0) (numbersRefusal k)
     where
       r : Packets
       r = packetsIn nothing headBytes l
+
+      refusalOf : FileNumbers → ℕ
+      refusalOf x = setUpRefusal (x .profile) (x .parameters)
 
       go : (t : Bool) (n : ℕ) → f (pick t (read h r) (unread n 1)) ≡ f (pick t (read k r) (unread n 1))
       go true n = same r
@@ -133,6 +141,12 @@ second-held kind p k h = record {
     go : (class : ℕ) → class < 256 → firstClass class < 256
     go zero h = omega arith
     go (suc class) h = h
+
+-- F11: the two set up alike
+pub first-as-second : (kind : ℕ) (p : Parameters) → let q = resolved (heading 1 kind p) in
+    numbersOf (heading 1 kind p) ≡ numbersOf (heading 2 kind q)
+first-as-second kind p =
+    ap (λ (q : Parameters). record { profile = profileOf kind; parameters = q }) (sym (second-kept kind (resolved (heading 1 kind p))))
 
 -- ---- the byte itself
 

@@ -11,8 +11,7 @@ use Rattle.packet.specs.Paper.{marked, packets}
 use Rattle.packet.specs.Step.{nothing, numberOf, nextOf, closes, scanOf}
 use Rattle.packet.proofs.Refusals.{accepted}
 use Rattle.packet.proofs.Turn.{scan-goes, ready-accepted, fine-ready, scanned-fine}
-use Rattle.limits.specs.Paper.{setUpRefusal}
-use Rattle.record.specs.Paper.{packetLength, packetBytes, headBytes}
+use Rattle.record.specs.Paper.{packetLength, packetBytes, headBytes, numbersRefusal}
 use Rattle.record.specs.Paper.{packetAt, Heading, resolved, formatRefusal, packetRefusal}
 use Rattle.record.specs.Paper.{done, Packets, more, packetsIn, read, readingOf, file, asFile, fileOf}
 use Rattle.endian.specs.Fields.{Fit}
@@ -79,7 +78,7 @@ unfolding bytesIn
 file-written s ps n hs hp e f =
     let fine = heading-fine s e in
     reading-headed s (recordsOf ps) (record { fields = hs; known = fine .known; kind = fine .kind })
-    ∙ rw (eq-eqb (setUpRefusal (resolved s)) 0 (fine .set-up), packets-written ps nothing false 0 n headBytes hp f)
+    ∙ rw (eq-eqb (numbersRefusal s) 0 (fine .set-up), packets-written ps nothing false 0 n headBytes hp f)
 
 -- what the writer writes reads as what it was given
 pub written-reads : (s : Heading) (ts ss ms out after : List ℕ) (n : ℕ) → ParametersHeld (s .parameters)

@@ -18,14 +18,15 @@ use Rattle.endian.specs.Fields.{fieldBytes}
 use Rattle.laws.proofs.Lay.{sets-join}
 use Rattle.endian.proofs.Width.{length-bytes}
 use Rattle.limits.specs.declared.Parameters.{Parameters}
-use Rattle.limits.specs.Paper.{setUpRefusal, profileRefusal}
+use Rattle.limits.specs.declared.Profile.{Profile}
+use Rattle.limits.specs.Paper.{setUpRefusal, profileOf, profileRefusal}
 use Rattle.limits.proofs.Profiles.{profile-fine, profile-known, profile-22}
 use Rattle.record.specs.declared.Written.{Written}
 use Rattle.record.specs.declared.Written.the-variants.{Done, Refused}
 use Rattle.record.specs.Layout.{packetRecord, headOf, recordsOf, bytesIn, PacketsHeld}
 use Rattle.record.specs.Write.{fileLength, versionRefusal, headingRefusal, scanning, writtenOf, WriteGives}
 use Rattle.record.proofs.Stores.{length-packet}
-use Rattle.record.specs.Paper.{packetBytes, headBytes, versionKnown, Heading, heading, resolved, isParameters}
+use Rattle.record.specs.Paper.{packetBytes, headBytes, versionKnown, Heading, heading, resolved, isParameters, numbersRefusal}
 
 pub length-head : (s : Heading) → length (headOf s) ≡ headBytes
 unfolding fieldBytes
@@ -69,21 +70,22 @@ module _ (version kind : ℕ) (s : Parameters) where
   heading-22 e k = sym (rw (e, profile-22 kind .1 k))
 
   pub heading-set-up : versionKnown version ≡ true → isParameters kind ≡ true
-      → setUpRefusal (resolved (heading version kind s)) ≡ headingRefusal (heading version kind s)
+      → numbersRefusal (heading version kind s) ≡ headingRefusal (heading version kind s)
   unfolding headingRefusal versionRefusal isParameters
   heading-set-up e k = sym (rw (e, profile-known kind k))
 
   -- the three numbers as the code finds them
-  pub heading-all : {a b c : ℕ} {numbers : Parameters} → a ≡ versionRefusal version → b ≡ profileRefusal kind
-      → numbers ≡ resolved (heading version kind s) → c ≡ setUpRefusal numbers → orElse a (orElse b c) ≡ headingRefusal (heading version kind s)
+  pub heading-all : {a b c : ℕ} {numbers : Parameters} {profile : Profile} → a ≡ versionRefusal version → b ≡ profileRefusal kind
+      → numbers ≡ resolved (heading version kind s) → profile ≡ profileOf kind → c ≡ setUpRefusal profile numbers
+      → orElse a (orElse b c) ≡ headingRefusal (heading version kind s)
   unfolding headingRefusal
-  heading-all e k q f = rw (e, k, f, q)
+  heading-all e k q o f = rw (e, k, f, q, o)
 
 -- a heading that is not refused
 pub record Fine (s : Heading) : Type 0 where
   pub known : versionKnown (s .version) ≡ true
   pub kind : isParameters (s .kind) ≡ true
-  pub set-up : setUpRefusal (resolved s) ≡ 0
+  pub set-up : numbersRefusal s ≡ 0
 
 version-fine : (version : ℕ) → versionRefusal version ≡ 0 → versionKnown version ≡ true
 unfolding versionRefusal

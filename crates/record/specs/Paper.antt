@@ -2,7 +2,7 @@
 -- `l` is the rest of a file from one record's length on, and `at` that record's offset.
 use Rattle.laws.specs.Kit.{Bool, true, false, not, _&&_, _||_, List, [], _∷_, ℕ, zero, suc, _+_, ltb, eqb, length, drop, getD}
 use Rattle.laws.specs.Choose.{pick, orElse}
-use Rattle.limits.specs.Paper.{setUpRefusal, editionRefusal, isProfile, given}
+use Rattle.limits.specs.Paper.{setUpRefusal, editionRefusal, isProfile, profileOf, given}
 use Rattle.packet.specs.declared.Past.{Past}
 use Rattle.packet.specs.declared.Packet.{Packet}
 use Rattle.packet.specs.Step.{nothing, numberOf, nextOf}
@@ -87,8 +87,8 @@ resolved h = resolvedIn (h .version) (h .parameters)
 abbrev pub packetAt : List ℕ → Packet
 packetAt l = record { time = numberAt 8 l 3; stamp = numberAt 4 l 11; marker = getD l 15 0 }
 
--- F14: "a parameter record of kind 3, laid out as kind 1, chooses it" (document 02, vii): the kinds whose records hold the parameters are those
--- that choose a profile
+-- F14: "a parameter record of kind 3, laid out as kind 1, chooses it" (document 02, vii), and one "of kind 4" (ix): the kinds whose records hold
+-- the parameters are those that choose a profile
 unfoldable pub isParameters : ℕ → Bool
 isParameters kind = isProfile kind
 
@@ -100,7 +100,7 @@ kindLength kind = pick (isParameters kind) parametersLength (pick (eqb kind 2) p
 abbrev pub lone : Bool → List ℕ → Bool
 lone first l = first && eqb (length l) 0
 
--- N1, F14: what 23 is not: "no parameters first, or parameters again", of either kind
+-- N1, F14: what 23 is not: "no parameters first, or parameters again", of any kind that holds them
 abbrev pub inPlace : Bool → ℕ → Bool
 inPlace first kind = pick first (isParameters kind) (not (isParameters kind))
 
@@ -116,9 +116,13 @@ formatRefusal first l =
     (pick (inPlace first (kindOf l)) 0 23)
     22))))
 
+-- N2, F11, F14: 1 to 7 of set-up, of what a file tells before its packets, by the profile that its kind chooses
+abbrev pub numbersRefusal : Heading → ℕ
+numbersRefusal h = setUpRefusal (profileOf (h .kind)) (resolved h)
+
 -- F7: 21 to 23 come "before set-up and packet refusals"
 abbrev pub parametersRefusal : ℕ → List ℕ → ℕ
-parametersRefusal version l = orElse (formatRefusal true l) (setUpRefusal (resolved (heading version (kindOf l) (parametersAt l))))
+parametersRefusal version l = orElse (formatRefusal true l) (numbersRefusal (heading version (kindOf l) (parametersAt l)))
 
 abbrev pub packetRefusal : Past → List ℕ → ℕ
 packetRefusal past l = orElse (formatRefusal false l) (numberOf past (packetAt l))

@@ -1,7 +1,6 @@
 -- A file read by the cursor, call after call: whole, and in pieces, where the next piece is put behind what is held if more is wanted.
 use Rattle.laws.specs.Kit.{_≡_, Bool, true, false, List, [], _∷_, _++_, ℕ, zero, suc, _+_, _*_, _<_, length, drop}
 use Rattle.laws.specs.Choose.{pick}
-use Rattle.limits.specs.Paper.{setUpRefusal}
 use Rattle.packet.specs.declared.Past.{Past}
 use Rattle.packet.specs.declared.Packet as packet
 use Rattle.packet.specs.Step.{nothing, numberOf}
@@ -10,7 +9,7 @@ use Rattle.record.specs.declared.Head.{Head}
 use Rattle.record.specs.declared.Head.the-variants as head
 use Rattle.record.specs.declared.Next.{Next}
 use Rattle.record.specs.declared.Next.the-variants.{Packet, End, More, Refused}
-use Rattle.record.specs.Paper.{packetBytes, headBytes, Heading, heading, resolved, Ending, done, stopped, Reading, unread, read}
+use Rattle.record.specs.Paper.{packetBytes, headBytes, Heading, heading, numbersRefusal, Ending, done, stopped, Reading, unread, read}
 use Rattle.record.specs.Step.{cursor, headPiece, headRead, nextPiece, nextRead}
 
 -- whether reading goes on after an answer, at what offset, and how many bytes it took
@@ -146,7 +145,7 @@ told h ps = record { head = toldHead h; after = toldPackets headBytes ps ++ (End
 -- a head is refused with this number and offset: by the reader itself, or by set-up, which refuses the parameters at offset 1
 abbrev pub HeadRefused : ℕ → ℕ → Head → Type 0
 HeadRefused number offset (head.Ready version kind parameters c) =
-    (setUpRefusal (resolved (heading version kind parameters)) ≡ number) × (offset ≡ 1)
+    (numbersRefusal (heading version kind parameters) ≡ number) × (offset ≡ 1)
 HeadRefused number offset head.More = ⊥
 HeadRefused number offset (head.Refused n o) = (n ≡ number) × (o ≡ offset)
 

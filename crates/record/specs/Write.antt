@@ -7,9 +7,9 @@ use Rattle.packet.specs.Paper.{packets, OneLength}
 use Rattle.packet.specs.Step.{nothing, scannedOf}
 use Rattle.record.specs.declared.Written.{Written}
 use Rattle.record.specs.declared.Written.the-variants.{Done, Refused}
-use Rattle.limits.specs.Paper.{setUpRefusal, profileRefusal}
+use Rattle.limits.specs.Paper.{profileRefusal}
 use Rattle.record.specs.Layout.{bytesIn}
-use Rattle.record.specs.Paper.{packetBytes, headBytes, versionKnown, Heading, resolved}
+use Rattle.record.specs.Paper.{packetBytes, headBytes, versionKnown, Heading, numbersRefusal}
 
 -- the bytes of a file of so many packets
 abbrev pub fileLength : ℕ → ℕ
@@ -25,7 +25,7 @@ versionRefusal version = pick (versionKnown version) 0 20
 
 -- F14: 22 for a kind that holds no parameters stands between
 unfoldable pub headingRefusal : Heading → ℕ
-headingRefusal h = orElse (versionRefusal (h .version)) (orElse (profileRefusal (h .kind)) (setUpRefusal (resolved h)))
+headingRefusal h = orElse (versionRefusal (h .version)) (orElse (profileRefusal (h .kind)) (numbersRefusal h))
 
 -- N12: 10 to 14, "the packet's place in the history (0 for 1 to 10 and 24)"
 abbrev pub scanning : Scanned → ℕ → ℕ → Written

@@ -467,7 +467,8 @@ pub fn check(edition: u32, s: &[u8]) -> Checked
     };
     let numbers = set_with(version, kind, parameters);
     let set = numbers.parameters;
-    let number = set.refusal_in(edition);
+    let profile = numbers.profile;
+    let number = set.refusal_in(profile, edition);
     if number != 0 {
         return Checked::Refused {
             number: number,
@@ -570,7 +571,7 @@ fn heading_refusal(version: u8, kind: u8, written: Parameters) -> u8
     let of_version = version_refusal(version);
     let of_kind = limits::profile_refusal(kind);
     let numbers = resolved(version, written);
-    let of_numbers = numbers.refusal();
+    let of_numbers = numbers.refusal(limits::profile_of(kind));
     let later = laws::first_of(of_kind, of_numbers);
     laws::first_of(of_version, later)
 }

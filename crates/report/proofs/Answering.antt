@@ -15,16 +15,18 @@ use Rattle.timing.proofs.InRange.{sound-fresh, of-sound}
 use Rattle.timing.proofs.Scanning.{numbers-length, scan-runs}
 use Rattle.record.specs.Paper.{Heading, File, file, refused, resolved, Ending, done, stopped, Packets, unread, read, asFile, heading}
 use Rattle.record.specs.Paper.{firstClass, classIn, isParameters, besideEdition, fileIn}
-use Rattle.record.specs.Walk.{asChecked, checkedOf, checkedNumber, checkedOffset}
+use Rattle.record.specs.declared.FileNumbers.{FileNumbers}
+use Rattle.record.specs.Walk.{numbersOf, asChecked, checkedOf, checkedNumber, checkedOffset}
 use Rattle.record.proofs.Editions.{accepted-edition}
 use Rattle.report.proofs.Asking.{holds-in}
 use Rattle.report.specs.Paper.{streamOf, stateOf, rowsOf, encoded, bytesFor, answer, answered, answerOf}
 use Rattle.report.specs.Paper.{Answer, reportOf, filled, filledBy}
 use Rattle.record.specs.Layout.{headOf}
 use Rattle.record.proofs.Writing.{length-head}
-use Rattle.record.proofs.Versions.{Held, Untold, read-alike, first-held, second-held, second-kept}
+use Rattle.record.proofs.Versions.{Held, Untold, read-alike, first-held, second-held, first-as-second}
 use Rattle.limits.specs.declared.Parameters.{Parameters}
 use Rattle.limits.specs.Paper.{editionRefusal, profileOf, given}
+use Rattle.report.specs.Step.{streamIn}
 use Rattle.limits.proofs.Editions.{in-known}
 use Rattle.limits.specs.Steps.{ParametersHeld}
 
@@ -75,7 +77,7 @@ as-fed edition s w ps e rows same =
       stateOf x ps,
       all,
       rw (
-        of-sound (freshOf x) (sound-fresh x (in-known (resolved w) edition known ∙ holds .set-up)),
+        of-sound (freshOf x) (sound-fresh x (in-known (profileOf (w .kind)) (resolved w) edition known ∙ holds .set-up)),
         holds .scan-fine,
         le-leb (holds .closed * rowWidth) (length rows) room,
         in-order,
@@ -84,7 +86,7 @@ as-fed edition s w ps e rows same =
     )
 
 -- two files that set up alike are answered alike, whatever bytes follow their heads
-module _ (edition : ℕ) (h k : Heading) (e : resolved h ≡ resolved k) (q : h .kind ≡ k .kind) where
+module _ (edition : ℕ) (h k : Heading) (e : numbersOf h ≡ numbersOf k) where
   file-untold : {A : Type 0} (g : File → A) → ((ps : List Packet) → g (file h ps) ≡ g (file k ps)) → Untold h k e (λ r. g (asFile (besideEdition edition r)))
   file-untold g same r = go (r .ending) (eqb (editionRefusal edition) 0)
     where
@@ -98,9 +100,7 @@ module _ (edition : ℕ) (h k : Heading) (e : resolved h ≡ resolved k) (q : h 
       go d false = refl
 
   bytes-alike : (ps : List Packet) → bytesFor edition h ps ≡ bytesFor edition k ps
-  bytes-alike ps =
-      ap (λ (p : Parameters). encoded (reportOf (streamWith (profileOf (h .kind)) edition p) ps)) e
-      ∙ ap (λ (kind : ℕ). encoded (reportOf (streamWith (profileOf kind) edition (resolved k)) ps)) q
+  bytes-alike ps = ap (λ (x : FileNumbers). encoded (reportOf (streamIn edition x) ps)) e
 
   module _ (l : List ℕ) (a : Held h) (b : Held k) where
     -- F11: the same number and offset
@@ -132,11 +132,11 @@ pub first-answered : (edition kind : ℕ) (p : Parameters) (l out : List ℕ) �
     (answerOf edition s (length out) ≡ answerOf edition t (length out)) × (filledBy edition s out ≡ filledBy edition t out)
 first-answered edition kind p l out holds held =
     let q = resolved (heading 1 kind p) in
-    let same : q ≡ resolved (heading 2 kind q) = sym (second-kept kind q) in
+    let same = first-as-second kind p in
     let a = first-held kind p holds held in
     let b = second-held kind p holds held in (
-      answers-alike edition (heading 1 kind p) (heading 2 kind q) same refl l a b (length out),
-      filled-alike edition (heading 1 kind p) (heading 2 kind q) same refl l a b out,
+      answers-alike edition (heading 1 kind p) (heading 2 kind q) same l a b (length out),
+      filled-alike edition (heading 1 kind p) (heading 2 kind q) same l a b out,
     )
 
 -- ---- two editions

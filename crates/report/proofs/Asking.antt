@@ -24,6 +24,7 @@ use Rattle.record.specs.Walk.{numbersOf, asChecked, checkedOf}
 use Rattle.record.specs.Write.{fileLength}
 use Rattle.record.proofs.Writing.{length-file}
 use Rattle.record.proofs.Editions.{known-edition, accepted-edition}
+use Rattle.limits.specs.Paper.{profileOf}
 use Rattle.limits.proofs.Editions.{in-known}
 use Rattle.record.proofs.ReadWrite.{FileHolds, file-holds, file-again}
 use Rattle.report.specs.declared.Asked.{Asked}
@@ -229,7 +230,7 @@ module _ (edition : ℕ) (s : List ℕ) (room : ℕ) where
       let known = accepted-edition edition s (h .written) (h .ps) (h .is-file) .0 in
       let long = length-report (streamOf edition (h .written)) (h .ps) in
       record {
-        set-up = rw (← h .stream) (in-known (resolved (h .written)) edition known ∙ holds .set-up);
+        set-up = rw (← h .stream) (in-known (profileOf (h .written .kind)) (resolved (h .written)) edition known ∙ holds .set-up);
         whole = ap (λ (r : Packets). r .ending) (holds .all-read);
         fits = rw (← h .stream, fits-packets x h)
             (omega (arith, h .enough, long, length-encoded (numbers (rowsOf (streamOf edition (h .written)) (h .ps)))));

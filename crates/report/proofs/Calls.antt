@@ -14,15 +14,15 @@ use Rattle.packet.specs.declared.Scanned.the-variants as scan
 use Rattle.packet.specs.Paper.{packets}
 use Rattle.packet.specs.Step.{nothing, scannedOf}
 use Rattle.packet.proofs.Turn.{scanned-some}
-use Rattle.timing.specs.declared.StreamNumbers.{StreamNumbers}
+use Rattle.timing.specs.declared.Stated.{Stated}
 use Rattle.timing.specs.declared.Graph.{Graph}
 use Rattle.timing.specs.declared.Drawn.{Drawn}
 use Rattle.timing.specs.declared.Drawn.the-variants.{Figures, Refused as Not-Drawn}
 use Rattle.timing.specs.declared.Awaited.{Awaited}
 use Rattle.timing.specs.declared.Awaited.the-variants.{Refused as Not-Awaited}
-use Rattle.timing.specs.Step.{setUpOf}
-use Rattle.timing.specs.Answers.{graphOf, nextOf, awaitedNumber}
-use Rattle.timing.proofs.Awaiting.{refused-some}
+use Rattle.timing.specs.Step.{statedOf, statedRefusal}
+use Rattle.timing.specs.Answers.{graphOf, statedNext, awaitedNumber}
+use Rattle.timing.proofs.Awaiting.{stated-some}
 use Rattle.timing.proofs.Answering.{set-up-first, room-short, room-there}
 use Rattle.record.specs.declared.Written.{Written}
 use Rattle.record.specs.declared.Written.the-variants.{Done}
@@ -67,26 +67,27 @@ written-whole s ts ss ms out h =
 
 -- ---- the limits
 
-module _ (x : StreamNumbers) (out : List ℕ) where
+module _ (x : Stated) (out : List ℕ) where
   by-number : (n : ℕ) → limitsNumber x (length out) ≡ n → 0 < n → LimitsGives x out n out
   unfolding limitsLeft
   by-number n e p = record { number-is = sym e; numbers-are = sym (rw (e, ne-eqb n 0 (λ z. omega arith))) }
 
-  pub limits-refused : (n : ℕ) → setUpOf x ≡ n → 0 < n → LimitsGives x out n out
+  pub limits-refused : (n : ℕ) → statedRefusal x ≡ n → 0 < n → LimitsGives x out n out
   unfolding limitsNumber
-  limits-refused n e p = by-number n (set-up-first x 4 (length out) e p) p
+  limits-refused n e p = by-number n (set-up-first (statedRefusal x) 4 (length out) e p) p
 
-  pub limits-short : setUpOf x ≡ 0 → length out < 4 → LimitsGives x out 15 out
+  pub limits-short : statedRefusal x ≡ 0 → length out < 4 → LimitsGives x out 15 out
   unfolding limitsNumber
-  limits-short e h = by-number 15 (room-short x 4 (length out) e h) (omega arith)
+  limits-short e h = by-number 15 (room-short (statedRefusal x) 4 (length out) e h) (omega arith)
 
-  pub limits-done : {after : List ℕ} → setUpOf x ≡ 0 → 4 ≤ length out → after ≡ sets out 0 (limitsOf x) → LimitsGives x out 0 after
+  pub limits-done : {after : List ℕ} → statedRefusal x ≡ 0 → 4 ≤ length out → after ≡ sets out 0 (limitsOf (statedOf x))
+      → LimitsGives x out 0 after
   unfolding limitsNumber limitsLeft
   limits-done e h f =
-      let fine : limitsNumber x (length out) ≡ 0 = room-there x 4 (length out) e h in
+      let fine : limitsNumber x (length out) ≡ 0 = room-there (statedRefusal x) 4 (length out) e h in
       record {
         number-is = sym fine;
-        numbers-are = f ∙ sets-eq (limitsOf x) out 0 (omega arith) ∙ sym (rw (fine));
+        numbers-are = f ∙ sets-eq (limitsOf (statedOf x)) out 0 (omega arith) ∙ sym (rw (fine));
       }
 
 -- ---- the next read
@@ -101,12 +102,12 @@ module _ (a b c : ℕ) (out : List ℕ) where
       let enough = le-leb 3 (length out) h in
       record { number-is = rw enough; numbers-are = f ∙ sets-eq (a ∷ b ∷ c ∷ []) out 0 (omega arith) ∙ sym (rw enough) }
 
-module _ (x : StreamNumbers) (first t : ℕ) (out : List ℕ) {d : Awaited} (e : d ≡ nextOf x first t) where
+module _ (x : Stated) (first t : ℕ) (out : List ℕ) {d : Awaited} (e : d ≡ statedNext x first t) where
   pub next-refused : {n : ℕ} → d ≡ Not-Awaited n → NextReadGives x first t out n out
   unfolding nextReadNumber nextReadLeft
   next-refused {n} f =
-      let told : nextOf x first t ≡ Not-Awaited n = sym e ∙ f in
-      let some = ne-eqb n 0 (refused-some first t x told) in
+      let told : statedNext x first t ≡ Not-Awaited n = sym e ∙ f in
+      let some = ne-eqb n 0 (stated-some x first t told) in
       record { number-is = sym (rw (told, some)); numbers-are = sym (rw (told, some, some)) }
 
   pub next-told : {a b c n : ℕ} {after : List ℕ} → awaitedNumber d ≡ 0 → awaitedNumbers d ≡ a ∷ b ∷ c ∷ [] → ThreeGive a b c out n after
@@ -114,10 +115,10 @@ module _ (x : StreamNumbers) (first t : ℕ) (out : List ℕ) {d : Awaited} (e :
   unfolding nextReadNumber nextReadLeft
   next-told {a} {b} {c} {n} {after} fine three gives = go (leb 3 (length out)) refl
     where
-      number : awaitedNumber (nextOf x first t) ≡ 0
+      number : awaitedNumber (statedNext x first t) ≡ 0
       number = ap awaitedNumber (sym e) ∙ fine
 
-      numbers : awaitedNumbers (nextOf x first t) ≡ a ∷ b ∷ c ∷ []
+      numbers : awaitedNumbers (statedNext x first t) ≡ a ∷ b ∷ c ∷ []
       numbers = ap awaitedNumbers (sym e) ∙ three
 
       go : (z : Bool) → leb 3 (length out) ≡ z → NextReadGives x first t out n after
@@ -131,13 +132,13 @@ module _ (x : StreamNumbers) (first t : ℕ) (out : List ℕ) {d : Awaited} (e :
       }
 
 -- what it leaves: refused, all as it was; else the three numbers in front
-module _ (x : StreamNumbers) (first t : ℕ) (out : List ℕ) where
+module _ (x : Stated) (first t : ℕ) (out : List ℕ) where
   pub next-stays : (nextReadNumber x first t (length out) ≡ 0 → ⊥) → nextReadLeft x first t out ≡ out
   unfolding nextReadLeft
   next-stays some = rw (ne-eqb (nextReadNumber x first t (length out)) 0 some)
 
-  pub next-filled : 3 ≤ length out → awaitedNumber (nextOf x first t) ≡ 0
-      → nextReadLeft x first t out ≡ awaitedNumbers (nextOf x first t) ++ drop 3 out
+  pub next-filled : 3 ≤ length out → awaitedNumber (statedNext x first t) ≡ 0
+      → nextReadLeft x first t out ≡ awaitedNumbers (statedNext x first t) ++ drop 3 out
   unfolding nextReadNumber nextReadLeft
   next-filled room fine = rw (fine, le-leb 3 (length out) room)
 

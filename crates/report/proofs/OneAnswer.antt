@@ -4,7 +4,7 @@ use Rattle.record.specs.Paper.{Heading}
 use Rattle.laws.specs.Kit.{_≡_, List, ℕ, ℤ}
 use lib.Ieee.{Float}
 use Rattle.laws.proofs.Unique.{one-answer}
-use Rattle.timing.specs.declared.StreamNumbers.{StreamNumbers}
+use Rattle.timing.specs.declared.Stated.{Stated}
 use Rattle.report.specs.Step.{CallGives, WriteGives, LimitsGives, NextReadGives, DrawGives}
 
 -- ---- the C functions: the number, and what the lent slice holds then
@@ -17,10 +17,10 @@ pub writes-unique : (s : Heading) (ts ss ms out : List ℕ) (a b : ℕ) (p q : L
     → WriteGives s ts ss ms out b q → (a ≡ b) × (p ≡ q)
 writes-unique s ts ss ms out a b p q x y = (one-answer (x .number-is) (y .number-is), one-answer (x .bytes-are) (y .bytes-are))
 
-pub limits-unique : (x : StreamNumbers) (out : List ℕ) (a b : ℕ) (p q : List ℕ) → LimitsGives x out a p → LimitsGives x out b q → (a ≡ b) × (p ≡ q)
+pub limits-unique : (x : Stated) (out : List ℕ) (a b : ℕ) (p q : List ℕ) → LimitsGives x out a p → LimitsGives x out b q → (a ≡ b) × (p ≡ q)
 limits-unique x out a b p q y z = (one-answer (y .number-is) (z .number-is), one-answer (y .numbers-are) (z .numbers-are))
 
-pub next-unique : (x : StreamNumbers) (first t : ℕ) (out : List ℕ) (a b : ℕ) (p q : List ℕ) → NextReadGives x first t out a p
+pub next-unique : (x : Stated) (first t : ℕ) (out : List ℕ) (a b : ℕ) (p q : List ℕ) → NextReadGives x first t out a p
     → NextReadGives x first t out b q → (a ≡ b) × (p ≡ q)
 next-unique x first t out a b p q y z = (one-answer (y .number-is) (z .number-is), one-answer (y .numbers-are) (z .numbers-are))
 

@@ -15,6 +15,7 @@ use Rattle.timing.proofs.InRange.{sound-fresh}
 use Rattle.timing.proofs.Dealing.{sound-after}
 use Rattle.timing.proofs.Scanning.{scan-runs}
 use Rattle.timing.proofs.Fitting.{summary-fits, rows-fit}
+use Rattle.limits.specs.Paper.{profileOf}
 use Rattle.limits.proofs.Editions.{in-known}
 use Rattle.record.specs.Paper.{Heading, resolved, file, fileIn}
 use Rattle.record.proofs.Editions.{accepted-edition}
@@ -29,7 +30,7 @@ report-fits edition s w ps e =
     let x = streamOf edition w in
     let holds = holds-in edition s w ps e in
     let known = accepted-edition edition s w ps e .0 in
-    let sound = sound-fresh x (in-known (resolved w) edition known ∙ holds .set-up) in
+    let sound = sound-fresh x (in-known (profileOf (w .kind)) (resolved w) edition known ∙ holds .set-up) in
     let passes = scan-runs ps (rulesOf x) (freshOf x) 0 (holds .closed) (holds .scan-fine) .0 in
     fit-append (map pos (summaryOf (stateOf x ps))) _ (summary-fits (stateOf x ps) (sound-after ps (freshOf x) sound passes))
     (rows-fit ps (freshOf x) sound passes)

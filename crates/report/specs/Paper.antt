@@ -8,11 +8,12 @@ use Rattle.endian.specs.Number.{bytesOf}
 use Rattle.packet.specs.declared.Packet.{Packet}
 use Rattle.limits.specs.Paper.{profileOf}
 use Rattle.timing.specs.declared.StreamNumbers.{StreamNumbers}
+use Rattle.timing.specs.declared.Stated.{Stated}
 use Rattle.timing.specs.declared.State.{State}
-use Rattle.timing.specs.Step.{streamWith, rulesOf, freshOf, stateAfter, rowsAfter, numbers}
+use Rattle.timing.specs.Step.{streamWith, statedOf, statedRefusal, frameOf, rulesOf, freshOf, stateAfter, rowsAfter, numbers}
 use Rattle.timing.specs.declared.Awaited.{Awaited}
 use Rattle.timing.specs.declared.Awaited.the-variants.{In, NoneLeft, Refused}
-use Rattle.timing.specs.Answers.{summaryWidth, summaryOf, setUpAs, setUpNumber, nextOf, awaitedNumber}
+use Rattle.timing.specs.Answers.{summaryWidth, summaryOf, statedNext, awaitedNumber}
 use Rattle.frame.specs.declared.Row.{Row}
 use Rattle.record.specs.Paper.{Heading, resolved, File, file, refused, fileOf, fileIn}
 
@@ -96,14 +97,14 @@ filledBy edition s out = filled edition out (fileIn edition s)
 
 -- X2: a stream's frame length and TRO in grains, C_MAX and VRX_FULL in packets
 abbrev pub limitsOf : StreamNumbers → List ℕ
-limitsOf x = rulesOf x .plan .period ∷ rulesOf x .plan .tro ∷ rulesOf x .limit ∷ rulesOf x .plan .full ∷ []
+limitsOf x = frameOf x ∷ rulesOf x .plan .tro ∷ rulesOf x .limit ∷ rulesOf x .plan .full ∷ []
 
--- X2: 1 to 7 of set-up; then 15 where fewer than the four numbers are lent
-unfoldable pub limitsNumber : StreamNumbers → ℕ → ℕ
-limitsNumber x room = orElse (setUpNumber (setUpAs x)) (pick (leb 4 room) 0 15)
+-- X2, S13: 22 for a kind that chooses no profile, 1 to 7 of set-up; then 15 where fewer than the four numbers are lent
+unfoldable pub limitsNumber : Stated → ℕ → ℕ
+limitsNumber x room = orElse (statedRefusal x) (pick (leb 4 room) 0 15)
 
-unfoldable pub limitsLeft : StreamNumbers → List ℕ → List ℕ
-limitsLeft x out = pick (eqb (limitsNumber x (length out)) 0) (limitsOf x ++ drop 4 out) out
+unfoldable pub limitsLeft : Stated → List ℕ → List ℕ
+limitsLeft x out = pick (eqb (limitsNumber x (length out)) 0) (limitsOf (statedOf x) ++ drop 4 out) out
 
 -- C6, P21: whether a read is left, 1 or 0, and the numerator and the denominator of how long it is until the next; 0 where there is none
 abbrev pub awaitedNumbers : Awaited → List ℕ
@@ -111,10 +112,10 @@ awaitedNumbers (In numerator denominator) = 1 ∷ numerator ∷ denominator ∷ 
 awaitedNumbers NoneLeft = 0 ∷ 0 ∷ 0 ∷ []
 awaitedNumbers (Refused number) = []
 
--- C6, N14: 1 to 7, 12 and 13; then 15 where fewer than the three numbers are lent
-unfoldable pub nextReadNumber : StreamNumbers → ℕ → ℕ → ℕ → ℕ
-nextReadNumber x first t room = orElse (awaitedNumber (nextOf x first t)) (pick (leb 3 room) 0 15)
+-- C6, N14, S13: 22 for a kind that chooses no profile, 1 to 7, 12 and 13; then 15 where fewer than the three numbers are lent
+unfoldable pub nextReadNumber : Stated → ℕ → ℕ → ℕ → ℕ
+nextReadNumber x first t room = orElse (awaitedNumber (statedNext x first t)) (pick (leb 3 room) 0 15)
 
-unfoldable pub nextReadLeft : StreamNumbers → ℕ → ℕ → List ℕ → List ℕ
+unfoldable pub nextReadLeft : Stated → ℕ → ℕ → List ℕ → List ℕ
 nextReadLeft x first t out =
-    pick (eqb (nextReadNumber x first t (length out)) 0) (awaitedNumbers (nextOf x first t) ++ drop 3 out) out
+    pick (eqb (nextReadNumber x first t (length out)) 0) (awaitedNumbers (statedNext x first t) ++ drop 3 out) out

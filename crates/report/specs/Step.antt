@@ -7,6 +7,7 @@ use Rattle.packet.specs.Paper.{packets}
 use Rattle.packet.specs.Step.{nothing}
 use Rattle.frame.specs.Step.{rowWidth}
 use Rattle.timing.specs.declared.StreamNumbers.{StreamNumbers}
+use Rattle.timing.specs.declared.Stated.{Stated}
 use Rattle.timing.specs.declared.State.{State}
 use Rattle.timing.specs.declared.Drawn.{Drawn}
 use Rattle.timing.specs.declared.Drawn.the-variants.{Figures, Refused as Not-Drawn}
@@ -77,7 +78,7 @@ pub record WriteGives (h : Heading) (ts ss ms out : List ℕ) (number : ℕ) (af
   pub number-is : number ≡ writtenNumber (writtenOf h ts ss ms (length out))
   pub bytes-are : after ≡ leftBy (writtenOf h ts ss ms (length out)) (bytesIn h (packets ts ss ms)) out
 
-pub record LimitsGives (x : StreamNumbers) (out : List ℕ) (number : ℕ) (after : List ℕ) : Type 0 where
+pub record LimitsGives (x : Stated) (out : List ℕ) (number : ℕ) (after : List ℕ) : Type 0 where
   pub number-is : number ≡ limitsNumber x (length out)
   pub numbers-are : after ≡ limitsLeft x out
 
@@ -87,7 +88,7 @@ pub record ThreeGive (a b c : ℕ) (out : List ℕ) (number : ℕ) (after : List
   pub numbers-are : after ≡ pick (leb 3 (length out)) (a ∷ b ∷ c ∷ drop 3 out) out
 
 -- C6: the next read of a packet at t, in a frame whose first packet came at `first`
-pub record NextReadGives (x : StreamNumbers) (first t : ℕ) (out : List ℕ) (number : ℕ) (after : List ℕ) : Type 0 where
+pub record NextReadGives (x : Stated) (first t : ℕ) (out : List ℕ) (number : ℕ) (after : List ℕ) : Type 0 where
   pub number-is : number ≡ nextReadNumber x first t (length out)
   pub numbers-are : after ≡ nextReadLeft x first t out
 

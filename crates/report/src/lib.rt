@@ -5,7 +5,6 @@ use endian::write64;
 use frame::Row;
 use limits::FIRST_EDITION;
 use limits::Parameters;
-use limits::Profile;
 use record::Checked;
 use record::FileNumbers;
 use record::Written;
@@ -15,6 +14,7 @@ use timing::Judged;
 use timing::Rules;
 use timing::SUMMARY;
 use timing::State;
+use timing::Stated;
 use timing::StreamNumbers;
 ghost use Rattle.laws.specs.Kit.{_≡_, true, _+_, _≤_, leb, length, sets};
 ghost use Rattle.laws.specs.Lay.{Put};
@@ -22,7 +22,7 @@ ghost use Rattle.frame.specs.Step.{numbersOf};
 ghost use Rattle.timing.specs.Answers.{summaryWidth, summaryOf};
 ghost use Rattle.timing.specs.Feed.{closing, LayAsks};
 ghost use Rattle.timing.specs.Range.{inRange};
-ghost use Rattle.timing.specs.Step.{ofParameters};
+ghost use Rattle.timing.specs.Step.{firstStated};
 ghost use Rattle.limits.specs.Paper.{given};
 ghost use Rattle.record.specs.Paper.{heading};
 ghost use Rattle.record.specs.Write.{writtenOf, writtenPlace};
@@ -294,8 +294,8 @@ pub extern "C" fn vtiming_write_place(
     }
 }
 
-// The seven numbers put together, where set-up is told nothing else.
-fn stream(
+// The seven numbers and the profile put together, where set-up is told nothing else.
+fn stated(
     rate: u8,
     schedule: u8,
     class: u8,
@@ -303,8 +303,9 @@ fn stream(
     n: u32,
     maxudp: u16,
     tro: u32,
-) -> StreamNumbers
-    ensures { λ r. ⌜ r ≡ ofParameters (given rate schedule class height n maxudp tro) ⌝ }
+    profile: u8,
+) -> Stated
+    ensures { λ r. ⌜ r ≡ firstStated profile (given rate schedule class height n maxudp tro) ⌝ }
 {
     let told = Parameters {
         rate,
@@ -315,14 +316,14 @@ fn stream(
         maxudp,
         tro,
     };
-    StreamNumbers {
+    Stated {
+        kind: profile,
         parameters: told,
         edition: FIRST_EDITION,
-        profile: Profile::Video,
     }
 }
 
-// F and TRO in grains, C_MAX and VRX_FULL in packets; or 1 to 7, then 15, and nothing written.
+// F and TRO in grains, C_MAX and VRX_FULL in packets; or 22, 1 to 7, then 15, and nothing written.
 #[no_mangle]
 pub extern "C" fn vtiming_limits(
     rate: u8,
@@ -332,21 +333,23 @@ pub extern "C" fn vtiming_limits(
     n: u32,
     maxudp: u16,
     tro: u32,
+    profile: u8,
     out: &mut [u64],
 ) -> u32
-    ensures { λ r. ⌜ LimitsGives (ofParameters (given rate schedule class height n maxudp tro)) (now (out .entry)) r (now (out .exit)) ⌝ }
+    ensures { λ r. ⌜ LimitsGives (firstStated profile (given rate schedule class height n maxudp tro)) (now (out .entry)) r (now (out .exit)) ⌝ }
 {
-    let numbers = stream(rate, schedule, class, height, n, maxudp, tro);
-    let number = numbers.refusal();
+    let asked = stated(rate, schedule, class, height, n, maxudp, tro, profile);
+    let number = asked.refusal();
     if number != 0 {
         return number as u32;
     }
     if out.len() < 4 {
         return 15;
     }
+    let numbers = asked.numbers();
     let rules = numbers.rules();
     let plan = rules.plan;
-    out[0] = plan.period;
+    out[0] = numbers.frame_length();
     out[1] = plan.tro;
     out[2] = rules.limit;
     out[3] = plan.full;
@@ -367,7 +370,7 @@ fn put_three(a: u64, b: u64, c: u64, out: &mut [u64]) -> u32
 }
 
 // How long it is from a packet at `arrival` to the next read of its frame, whose first packet came at `first`: 1, numerator and
-// denominator, in grains, or 0, 0 and 0 where no read is left; or 1 to 7, 12 or 13, then 15, and nothing written.
+// denominator, in grains, or 0, 0 and 0 where no read is left; or 22, 1 to 7, 12 or 13, then 15, and nothing written.
 #[no_mangle]
 pub extern "C" fn vtiming_next_read(
     rate: u8,
@@ -377,15 +380,16 @@ pub extern "C" fn vtiming_next_read(
     n: u32,
     maxudp: u16,
     tro: u32,
+    profile: u8,
     first: u64,
     arrival: u64,
     out: &mut [u64],
 ) -> u32
-    ensures { λ r. ⌜ NextReadGives (ofParameters (given rate schedule class height n maxudp tro)) first arrival
+    ensures { λ r. ⌜ NextReadGives (firstStated profile (given rate schedule class height n maxudp tro)) first arrival
         (now (out .entry)) r (now (out .exit)) ⌝ }
 {
-    let numbers = stream(rate, schedule, class, height, n, maxudp, tro);
-    let awaited = numbers.next_read(first, arrival);
+    let asked = stated(rate, schedule, class, height, n, maxudp, tro, profile);
+    let awaited = asked.next_read(first, arrival);
     match awaited {
         Awaited::In {
             numerator,

@@ -1,7 +1,7 @@
 -- What an accepted history is known to be, in the owner's words. The state that feeding it reaches is the declared one, and `as-declared`
 -- carries over to it what the crates below show of the declared bucket and the declared frames.
 use Rattle.laws.specs.Kit.{_≡_, refl, sym, ap, subst, _∙_, ⊎-elim, _↔_, Bool, true, false, List, [], _∷_, ℕ, suc, _+_, _-_, _*_, _≤_, _<_, arith, ℤ}
-use Rattle.laws.specs.Kit.{append-nil, pos, _-ℤ_, length, take, drop, drop-length, sets, le-ltb}
+use Rattle.laws.specs.Kit.{append-nil, pos, negℤ, _-ℤ_, _*ℤ_, _≤ℤ_, _<ℤ_, length, take, drop, drop-length, sets, le-ltb}
 use Rattle.laws.proofs.Choose.{false-true}
 use Rattle.laws.specs.Climb.{Climbs}
 use Rattle.laws.proofs.Climb.{climbs-le}
@@ -11,7 +11,7 @@ use Rattle.grain.specs.declared.NextRead.{NextRead}
 use Rattle.grain.specs.Paper.{InstantBy}
 use Rattle.grain.specs.Carry.{nextAfter}
 use Rattle.limits.specs.Fraction.{Same}
-use Rattle.limits.specs.Paper.{senderClass, readSpacing, hasBuffer}
+use Rattle.limits.specs.Paper.{senderClass, readSpacing, hasBuffer, periods}
 use Rattle.limits.specs.Accepted.{Accepted}
 use Rattle.limits.proofs.Facts.{spacing}
 use Rattle.limits.specs.Exact.{CMaxIs, VrxFullIs, TroIs}
@@ -26,7 +26,7 @@ use Rattle.frame.specs.declared.Buffer.{Buffer}
 use Rattle.frame.specs.declared.Buffer.the-variants.{None, Pass, Broken}
 use Rattle.frame.specs.declared.BrokenFrame.{BrokenFrame}
 use Rattle.frame.specs.Paper.{begunAt, closesAt, kindAt, numberAt, since, InFrame, RowIs, RowBegan, DecidedIs, BufferIs, Dry, SomeLate}
-use Rattle.frame.specs.Paper.{isNone, brokenFails, Fails, BrokenIs, AnswerIs, NextReadIs, nextReadOf}
+use Rattle.frame.specs.Paper.{arrival, isNone, brokenFails, Fails, BrokenIs, AnswerIs, NextReadIs, nextReadOf}
 use Rattle.frame.specs.Editions.{FirstBufferIs, FrameFails, NoneClosed, AllFit}
 use Rattle.frame.specs.Step.{rowWidth, rowOf, numbersOf}
 use Rattle.frame.specs.ByPlace.{markedTime, closedAt, framesAt, rowsAt}
@@ -42,7 +42,8 @@ use Rattle.timing.specs.Step.{frameOf, rulesOf, freshOf, stateAfter, row
 use Rattle.timing.specs.Answers.{answersOf, verdictOf, apartNumber, awaited, nextOf}
 use Rattle.timing.specs.Feed.{Call, allOf, Accepts, Deals, Rooms}
 use Rattle.timing.specs.History.{rowsTo, stateAt, AcceptedHistory, reached, rowsOfAll, plan, frames, arrivals, size, limit}
-use Rattle.timing.proofs.Planning.{fine, planned, frame-long}
+use Rattle.timing.proofs.Planning.{fine, planned, frame-long, period-all, packets-all}
+use Rattle.timing.proofs.Periods.{fpt-within}
 use Rattle.timing.proofs.InRange.{sound-fresh, of-sound}
 use Rattle.timing.proofs.Scanning.{numbers-length}
 use Rattle.timing.proofs.Awaiting.{is-told}
@@ -69,7 +70,7 @@ module _ (h : AcceptedHistory) where
 
   -- ---- its stream numbers
 
-  is-accepted : Accepted (h .stream .parameters)
+  is-accepted : Accepted (h .stream .profile) (h .stream .parameters)
   is-accepted = fine (h .stream) (h .set-up)
 
   long : 0 < frameOf (h .stream)
@@ -275,6 +276,24 @@ module _ (h : AcceptedHistory) where
           by-edition.never-broken (plan h) (frames h) (asks e ∙ by-edition.one-spares) c
           (buffered-is (plan h) (frames h) (plan-buffered b) (Broken c) .0 (reached-is (Broken c) .0 r))
       go false b = false-true (ap isNone (sym r ∙ none-reached b))
+
+  -- ---- its periods
+
+  -- P24: the periods of a frame are all of its grains, and all of its packets
+  pub periods-whole : (periods (h .stream .profile) * plan h .period ≡ frameOf (h .stream))
+      × (periods (h .stream .profile) * plan h .packets ≡ h .stream .parameters .n)
+  periods-whole = (period-all (h .stream) (h .set-up), packets-all (h .stream) (h .set-up))
+
+  -- P8, P24: FPT of a whole frame, or field
+  pub fpt-of-row : (i : ℕ) (r : Row) → kindAt (plan h) (frames h) i ≡ 0 → RowIs (plan h) (frames h) i r
+      → let k = 2 * periods (h .stream .profile) in
+      let F = frameOf (h .stream) in
+      (negℤ (pos F) ≤ℤ (pos k *ℤ r .fpt)) × ((pos k *ℤ r .fpt) <ℤ pos F)
+  fpt-of-row i r k x =
+      let long = planned (h .stream) (h .set-up) .long in
+      rw (x .times k .fpt)
+      (fpt-within (arrival (plan h) (frames h) (since (frames h) i) 0) (plan h .period) (frameOf (h .stream)) (omega arith) (h .stream .profile)
+      (periods-whole .0))
 
   -- ---- its reads
 

@@ -29,18 +29,18 @@ set-up-numbered x =
     pick-either (λ (a : SetUp). setUpNumber a ≡ setUpOf x) (eqb (setUpOf x) 0) (λ e. sym (eqb-true (setUpOf x) 0 e)) (λ e. refl)
 
 -- set-up's number, and then 15 where there is less room than is needed
-module _ (x : StreamNumbers) (need room : ℕ) where
+module _ (refused need room : ℕ) where
   abbrev pub roomNumber : ℕ
-  roomNumber = orElse (setUpNumber (setUpAs x)) (pick (leb need room) 0 15)
+  roomNumber = orElse refused (pick (leb need room) 0 15)
 
-  pub set-up-first : {n : ℕ} → setUpOf x ≡ n → 0 < n → roomNumber ≡ n
-  set-up-first {n} e p = rw (set-up-numbered x, e, ne-eqb n 0 (λ z. omega arith))
+  pub set-up-first : {n : ℕ} → refused ≡ n → 0 < n → roomNumber ≡ n
+  set-up-first {n} e p = rw (e, ne-eqb n 0 (λ z. omega arith))
 
-  pub room-short : setUpOf x ≡ 0 → room < need → roomNumber ≡ 15
-  room-short e h = rw (set-up-numbered x, eq-eqb (setUpOf x) 0 e, lt-leb need room h)
+  pub room-short : refused ≡ 0 → room < need → roomNumber ≡ 15
+  room-short e h = rw (e, lt-leb need room h)
 
-  pub room-there : setUpOf x ≡ 0 → need ≤ room → roomNumber ≡ 0
-  room-there e h = rw (set-up-numbered x, eq-eqb (setUpOf x) 0 e, le-leb need room h)
+  pub room-there : refused ≡ 0 → need ≤ room → roomNumber ≡ 0
+  room-there e h = rw (e, le-leb need room h)
 
 -- a state in range has a verdict, and it is the state's own
 pub verdict-is : (s : State) (v : Verdict) → inRange s ≡ true → verdictOf s ≡ Given v → v ≡ answersOf s

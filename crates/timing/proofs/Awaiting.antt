@@ -6,18 +6,20 @@ use Rattle.grain.specs.declared.NextRead.{NextRead}
 use Rattle.grain.specs.declared.NextRead.the-variants.{In, NoneLeft}
 use Rattle.grain.specs.Paper.{grains, nearest}
 use Rattle.grain.proofs.Upcoming.{next-is-read, next-read-unique}
-use Rattle.limits.specs.Paper.{rateOf, frameLength, activeRatio, classOf, troGrains, troFits, firstNo, setUpRefusal}
-use Rattle.limits.specs.Paper.{editionRefusal, setUpIn, given}
+use Rattle.limits.specs.Paper.{rateOf, frameLength, activeRatio, classOf, troGrains, packetsFit, troFits, firstNo, setUpRefusal}
+use Rattle.limits.specs.Paper.{editionRefusal, setUpIn, isProfile, given}
+use Rattle.limits.proofs.Profiles.{profile-known, profile-22}
 use Rattle.packet.specs.Step.{nothing, nextOf as pastOf, refusalOf}
 use Rattle.frame.specs.Paper.{readZero, nextReadOf}
 use Rattle.frame.specs.Range.{NextAsks}
 use Rattle.frame.proofs.NextReads.{within-spacing, before-first}
 use Rattle.timing.specs.declared.StreamNumbers.{StreamNumbers}
+use Rattle.timing.specs.declared.Stated.{Stated}
 use Rattle.timing.specs.declared.Rules.{Rules}
 use Rattle.timing.specs.declared.Awaited.{Awaited}
 use Rattle.timing.specs.declared.Awaited.the-variants.{In as Awaited-In, Refused as Not-Awaited}
-use Rattle.timing.specs.Step.{ofParameters, setUpOf, rulesOf}
-use Rattle.timing.specs.Answers.{apartNumber, nextNumber, awaited, nextOf, awaitedNumber}
+use Rattle.timing.specs.Step.{ofParameters, setUpOf, statedOf, rulesOf}
+use Rattle.timing.specs.Answers.{apartNumber, nextNumber, awaited, nextOf, statedNext, awaitedNumber}
 use Rattle.timing.proofs.Planning.{planned, reads-near, tro-longest, den-by-schedule}
 
 module _ (first t : ℕ) where
@@ -178,6 +180,27 @@ widest-next =
 
 -- P23: so the greatest numerator is reached
 pub most-reached : nextOf widest 62562500 62562500 ≡ Awaited-In 844589250000000 500000
-unfolding setUpIn setUpRefusal firstNo editionRefusal frameLength rateOf troFits classOf rulesOf activeRatio
+unfolding setUpIn setUpRefusal firstNo editionRefusal frameLength rateOf packetsFit troFits classOf rulesOf activeRatio
 most-reached =
     is-told 62562500 62562500 widest refl refl ∙ ap (λ (a : NextRead). awaited a (rulesOf widest .plan .reads .den)) widest-next
+
+-- ---- of what is stated
+
+module _ (s : Stated) (first t : ℕ) where
+  -- S12: where its kind chooses a profile, it is answered as the stream numbers are
+  pub stated-next : isProfile (s .kind) ≡ true → statedNext s first t ≡ nextOf (statedOf s) first t
+  unfolding statedNext
+  stated-next k = rw (profile-known (s .kind) k)
+
+  -- N1, N14: 22 exactly where it chooses none: nothing else of the table is 22
+  pub stated-next-22 : isProfile (s .kind) ≡ false → statedNext s first t ≡ Not-Awaited 22
+  unfolding statedNext
+  stated-next-22 k = rw (profile-22 (s .kind) .1 k)
+
+  -- no refusal has number 0
+  pub stated-some : {n : ℕ} → statedNext s first t ≡ Not-Awaited n → n ≡ 0 → ⊥
+  stated-some {n} e = go (isProfile (s .kind)) refl
+    where
+      go : (k : Bool) → isProfile (s .kind) ≡ k → n ≡ 0 → ⊥
+      go true k z = refused-some first t (statedOf s) (sym (stated-next k) ∙ e) z
+      go false k z = let number : 22 ≡ n = ap awaitedNumber (sym (stated-next-22 k) ∙ e) in omega arith

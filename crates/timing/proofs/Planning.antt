@@ -1,16 +1,16 @@
--- The rules of accepted stream numbers keep to what the frames and the bucket
--- demand, for every rate at once: by the table's greatest and least length.
+-- The rules of accepted stream numbers keep to what the frames and the bucket demand, for every rate and every profile at once: by the table's
+-- greatest and least length, and because a period has half of a frame at least.
 use Rattle.laws.specs.Kit.{_≡_, refl, ℕ, zero, suc, _+_, _*_, _≤_, _<_, arith, mul-le-mul, mul-le-mul-left, mul-le-mul-right}
 use Rattle.laws.specs.Kit.{eqb, eqb·suc-zero}
 use Rattle.laws.specs.Choose.{pick}
-use Rattle.limits.specs.Paper.{second, activeRatio, readNum, readDen}
+use Rattle.limits.specs.Paper.{second, activeRatio, readNum, readDen, periods, perPeriod}
 use Rattle.limits.specs.Accepted.{Accepted}
 use Rattle.limits.proofs.Accepting.{accepted}
 use Rattle.limits.proofs.Editions.{in-fine}
 use Rattle.limits.proofs.Rates.{frame-most, frame-least}
+use Rattle.limits.proofs.Periods.{period-most, period-least, period-whole, packets-whole}
 use Rattle.limits.proofs.Facts.{tro-below, tro-most}
 use Rattle.grain.specs.Paper.{grains}
-use Rattle.frame.specs.declared.Plan.{Plan}
 use Rattle.frame.specs.Range.{Planned}
 use Rattle.timing.specs.declared.StreamNumbers.{StreamNumbers}
 use Rattle.timing.specs.Step.{setUpOf, frameOf, rulesOf}
@@ -48,34 +48,52 @@ num-spread (suc schedule) F n p = omega (arith, mul-le-mul-left F (let l : 1 ≤
 
 module _ (x : StreamNumbers) (e : setUpOf x ≡ 0) where
   -- each of its seven parameters is in its place
-  pub fine : Accepted (x .parameters)
-  fine = accepted (x .parameters) (in-fine (x .parameters) (x .edition) e .0)
+  pub fine : Accepted (x .profile) (x .parameters)
+  fine = accepted (x .profile) (x .parameters) (in-fine (x .profile) (x .parameters) (x .edition) e .0)
 
   pub frame-long : second ≤ 60 * frameOf x
   frame-long = frame-least (fine .rate-known)
 
-  -- in any period that is, so many times, a frame at least
-  spread : (period times : ℕ) → frameOf x ≤ times * period
-      → readNum (x .parameters .schedule) (frameOf x) ≤ times * period * readDen (x .parameters .schedule) (x .parameters .n)
-  spread period times l =
+  -- P24: the periods of a frame are all of it, its grains and its packets
+  pub period-all : periods (x .profile) * rulesOf x .plan .period ≡ frameOf x
+  unfolding rulesOf
+  period-all = period-whole (x .profile) (fine .rate-known)
+
+  pub packets-all : periods (x .profile) * rulesOf x .plan .packets ≡ x .parameters .n
+  unfolding rulesOf
+  packets-all = packets-whole (x .profile) (x .parameters .n) (fine .n-whole)
+
+  -- so a period has half of a frame at least
+  frame-halves : frameOf x ≤ 2 * perPeriod (x .profile) (frameOf x)
+  unfolding rulesOf
+  frame-halves = period-least (x .profile) (frameOf x) period-all
+
+  packets-halves : x .parameters .n ≤ 2 * perPeriod (x .profile) (x .parameters .n)
+  unfolding rulesOf
+  packets-halves = period-least (x .profile) (x .parameters .n) packets-all
+
+  -- two reads lie no more than two periods apart
+  spread : let den = readDen (x .parameters .schedule) (x .parameters .n) in
+      readNum (x .parameters .schedule) (frameOf x) ≤ 2 * perPeriod (x .profile) (frameOf x) * den
+  spread =
       let den = readDen (x .parameters .schedule) (x .parameters .n) in
-      omega (arith, num-spread (x .parameters .schedule) (frameOf x) (x .parameters .n) (fine .n-fits .0), mul-le-mul-right den l)
+      omega (arith, num-spread (x .parameters .schedule) (frameOf x) (x .parameters .n) (fine .n-fits .0), mul-le-mul-right den frame-halves)
 
   pub planned : Planned (rulesOf x .plan)
   unfolding rulesOf
   planned = record {
-    long = omega (arith, frame-long);
-    short = omega (arith, frame-most (x .parameters .rate));
-    some = fine .n-fits .0;
-    few = fine .n-fits .1;
+    long = omega (arith, frame-long, frame-halves);
+    short = omega (arith, frame-most (x .parameters .rate), period-most (x .profile) (frameOf x));
+    some = omega (arith, fine .n-fits .0, packets-halves);
+    few = omega (arith, fine .n-fits .1, period-most (x .profile) (x .parameters .n));
     early = tro-below fine;
     apart = num-some (x .parameters .schedule) (frameOf x) (omega (arith, frame-long));
-    near = omega (arith, num-most (x .parameters .schedule) (frameOf x));
+    near = omega (arith, num-most (x .parameters .schedule) (frameOf x), frame-halves);
     divided = den-most (x .parameters .schedule) (x .parameters .n) (fine .n-fits .1);
-    spread = spread (frameOf x) 2 (omega arith);
+    spread = spread;
   }
 
-  -- P23: the longest TRO and half a frame, twice, and the longest spacing of the reads
+  -- P23: the longest TRO and half a period, twice, and the longest spacing of the reads
   pub tro-longest : 2 * (rulesOf x .plan .tro) + rulesOf x .plan .period ≤ 3378357000
   unfolding rulesOf
   tro-longest = tro-most fine
@@ -84,29 +102,13 @@ module _ (x : StreamNumbers) (e : setUpOf x ≡ 0) where
   unfolding rulesOf
   reads-near = omega (arith, num-most (x .parameters .schedule) (frameOf x), frame-most (x .parameters .rate))
 
-  -- and so does any plan of half the period, with some of the packets and the frame's own spacing of the reads
-  pub planned-half : (half : Plan) → frameOf x ≡ 2 * half .period → 0 < half .packets → half .packets ≤ x .parameters .n
-      → half .tro < half .period → half .reads ≡ rulesOf x .plan .reads → Planned half
-  unfolding rulesOf
-  planned-half half period some few early reads = record {
-    long = omega (arith, frame-long);
-    short = omega (arith, frame-most (x .parameters .rate));
-    some = some;
-    few = omega (arith, few, fine .n-fits .1);
-    early = early;
-    apart = rw reads (num-some (x .parameters .schedule) (frameOf x) (omega (arith, frame-long)));
-    near = rw reads (omega (arith, num-most (x .parameters .schedule) (frameOf x)));
-    divided = rw reads (den-most (x .parameters .schedule) (x .parameters .n) (fine .n-fits .1));
-    spread = rw reads (spread (half .period) 2 (omega arith));
-  }
-
   -- the drain instants of 600 s, and what is left before them: the products fit
   pub reach-fits : (ns rest : ℕ) → ns ≤ 600000000000 → rest < rulesOf x .drains .num
       → rest + grains ns * (rulesOf x .drains .den) < 18446744073709551616
   unfolding rulesOf
   reach-fits ns rest h l =
       let long : grains ns ≤ 16200000000000 = omega arith in
-      let many : 11 * x .parameters .n ≤ 220000 = omega (arith, fine .n-fits .1) in
+      let many : rulesOf x .drains .den ≤ 220000 = omega (arith, fine .n-fits .1, period-most (x .profile) (x .parameters .n)) in
       omega (arith, mul-le-mul long many, frame-most (x .parameters .rate))
 
   pub spacing-some : 0 < rulesOf x .drains .num

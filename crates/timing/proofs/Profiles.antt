@@ -1,9 +1,11 @@
 -- A compressed stream is measured as video is, beside the buffer: its state is the video's without what is kept of reads and the buffer answer,
--- and its rows are the video's with peak and least 0. Packet by packet: a step leads from one pair of states to the next.
+-- and its rows are the video's with peak and least 0; and whatever the profile, the bucket is the video's. Packet by packet: a step leads from
+-- one pair of states to the next.
 use Rattle.laws.specs.Kit.{_≡_, refl, ap, _∙_, Bool, true, false, _&&_, List, [], _∷_, _++_, map, map-append, ℕ, eqb}
 use Rattle.laws.specs.Choose.{pick}
 use Rattle.laws.specs.Fold.{fold}
 use Rattle.limits.specs.declared.Parameters.{Parameters}
+use Rattle.limits.specs.declared.Profile.{Profile}
 use Rattle.limits.specs.declared.Profile.the-variants.{Video, Compressed}
 use Rattle.packet.specs.declared.Packet.{Packet}
 use Rattle.packet.specs.Paper.{marked}
@@ -79,16 +81,19 @@ module _ (edition : ℕ) (p : Parameters) where
   abbrev row : Rules → State → Frame → ℕ → Row
   row rules s f packets = F.rowOf (rules .plan) (s .frames .closed) (s .frames .marked) (F.beganOf f packets) f
 
+  abbrev kind : Frame → ℕ
+  kind f = F.kindOf f (video .plan .packets)
+
   -- of a frame and the same without what is kept of reads
   row-alike : (s : State) (f : Frame) (packets : ℕ) → besideLevels (row video s f packets) ≡ row other (compressed s) (besideReads f) packets
   unfolding rulesOf F.rowOf F.wholeRow F.kindOf
-  row-alike s f packets = go (eqb (F.kindOf f (p .n)) 0)
+  row-alike s f packets = go (eqb (kind f) 0)
     where
       go : (t : Bool)
           → besideLevels (pick t (F.wholeRow (video .plan) (s .frames .closed) (s .frames .marked) (F.beganOf f packets) f)
-          (F.brokenRow (s .frames .closed) (F.kindOf f (p .n)) (F.detailOf f (F.kindOf f (p .n))) (F.beganOf f packets)))
+          (F.brokenRow (s .frames .closed) (kind f) (F.detailOf f (kind f)) (F.beganOf f packets)))
           ≡ pick t (F.wholeRow (other .plan) (s .frames .closed) (s .frames .marked) (F.beganOf f packets) (besideReads f))
-          (F.brokenRow (s .frames .closed) (F.kindOf f (p .n)) (F.detailOf f (F.kindOf f (p .n))) (F.beganOf f packets))
+          (F.brokenRow (s .frames .closed) (kind f) (F.detailOf f (kind f)) (F.beganOf f packets))
       go true = refl
       go false = refl
 
@@ -125,3 +130,45 @@ module _ (edition : ℕ) (p : Parameters) (l : List Packet) where
   pub rows-beside : map besideLevels (rowsAfter (rulesOf (streamWith Video edition p)) (freshOf (streamWith Video edition p)) l)
       ≡ rowsAfter (rulesOf (streamWith Compressed edition p)) (freshOf (streamWith Compressed edition p)) l
   rows-beside = all-rows-alike edition p l (freshOf (streamWith Video edition p))
+
+-- ---- the bucket
+
+-- two states with one bucket, whatever their frames
+record OneBucket (s t : State) : Type 0 where
+  past : s .past ≡ t .past
+  rest : s .rest ≡ t .rest
+  bucket : s .bucket ≡ t .bucket
+
+module _ (profile : Profile) (edition : ℕ) (p : Parameters) where
+  abbrev any : Rules
+  any = rulesOf (streamWith profile edition p)
+
+  abbrev as-video : Rules
+  as-video = rulesOf (streamWith Video edition p)
+
+  bucket-arrives : (s t : State) (q : Packet) → OneBucket s t
+      → OneBucket (arriveOf any s (q .time) (q .stamp)) (arriveOf as-video t (q .time) (q .stamp))
+  unfolding arriveOf rulesOf
+  bucket-arrives s t q o = record { past = rw (o .past); rest = rw (o .past, o .rest); bucket = rw (o .past, o .rest, o .bucket) }
+
+  bucket-steps : (s t : State) (q : Packet) → OneBucket s t → OneBucket (stepOf any s q) (stepOf as-video t q)
+  unfolding stepOf markOf
+  bucket-steps s t q o = go (marked q) (bucket-arrives s t q o)
+    where
+      go : (m : Bool) → OneBucket (arriveOf any s (q .time) (q .stamp)) (arriveOf as-video t (q .time) (q .stamp))
+          → OneBucket (pick m (markOf any (arriveOf any s (q .time) (q .stamp)) (q .time)) (arriveOf any s (q .time) (q .stamp)))
+          (pick m (markOf as-video (arriveOf as-video t (q .time) (q .stamp)) (q .time)) (arriveOf as-video t (q .time) (q .stamp)))
+      go true a = record { past = a .past; rest = a .rest; bucket = a .bucket }
+      go false a = a
+
+  bucket-after : (l : List Packet) (s t : State) → OneBucket s t → OneBucket (stateAfter any s l) (stateAfter as-video t l)
+  unfolding fold
+  bucket-after [] s t o = o
+  bucket-after (q ∷ l) s t o = bucket-after l (stepOf any s q) (stepOf as-video t q) (bucket-steps s t q o)
+
+  -- S12, S13: the bucket of a list of packets is that of the same stream as video
+  pub buckets-alike : (l : List Packet)
+      → stateAfter any (freshOf (streamWith profile edition p)) l .bucket ≡ stateAfter as-video (freshOf (streamWith Video edition p)) l .bucket
+  buckets-alike l =
+      bucket-after l (freshOf (streamWith profile edition p)) (freshOf (streamWith Video edition p)) (record { past = refl; rest = refl; bucket = refl })
+      .bucket

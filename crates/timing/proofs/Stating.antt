@@ -1,11 +1,10 @@
--- Stream numbers and how they are stated are the same both ways; and what is stated is refused by 22, and then as set-up refuses, which asks no
--- profile. By the kind.
+-- Stream numbers and how they are stated are the same both ways; and what is stated is refused by 22, and then as set-up refuses. By the kind.
 use Rattle.laws.specs.Kit.{_≡_, refl, ap, _∙_, _↔_, true, false, ℕ, _<_, arith, ℕ-discrete}
 use Rattle.laws.proofs.Choose.{neither, second, before}
 use Rattle.limits.specs.declared.Parameters.{Parameters}
 use Rattle.limits.specs.declared.Profile.{Profile}
 use Rattle.limits.specs.declared.Profile.the-variants.{Video, Compressed}
-use Rattle.limits.specs.Paper.{isProfile, profileRefusal}
+use Rattle.limits.specs.Paper.{isProfile, profileOf, profileRefusal, packetsFit, troFits, setUpRefusal, setUpIn}
 use Rattle.limits.proofs.Profiles.{chosen, is-chosen, profile-known, profile-fine, profile-22}
 use Rattle.limits.proofs.Editions.{at-most-8}
 use Rattle.timing.specs.declared.StreamNumbers.{StreamNumbers}
@@ -19,18 +18,20 @@ stated-back x = ap (λ (p : Profile). streamWith p (x .edition) (x .parameters))
 -- S12, N2: and is refused as they are
 pub stated-as : (x : StreamNumbers) → statedRefusal (statedAs x) ≡ setUpOf x
 unfolding statedRefusal
-stated-as x = second _ _ (profile-known _ (is-chosen (x .profile)))
+stated-as x = second _ _ (profile-known _ (is-chosen (x .profile))) ∙ ap setUpOf (stated-back x)
 
--- S12: set-up and the limits ask no profile
+-- S12: set-up asks alike of video and compressed
 pub same-refusal : (e : ℕ) (p : Parameters) → setUpOf (streamWith Compressed e p) ≡ setUpOf (streamWith Video e p)
+unfolding setUpIn setUpRefusal packetsFit troFits
 same-refusal e p = refl
 
-pub same-limits : (e : ℕ) (p : Parameters) → let c = rulesOf (streamWith Compressed e p) in
+-- S12, S13: and the limits ask no profile
+pub same-limits : (profile : Profile) (e : ℕ) (p : Parameters) → let q = rulesOf (streamWith profile e p) in
     let v = rulesOf (streamWith Video e p) in
-    (c .plan .period ≡ v .plan .period) × (c .plan .tro ≡ v .plan .tro) × (c .limit ≡ v .limit) × (c .plan .full ≡ v .plan .full)
-    × (c .drains ≡ v .drains)
+    (q .limit ≡ v .limit) × (q .drains ≡ v .drains) × (q .plan .full ≡ v .plan .full) × (q .plan .tro ≡ v .plan .tro)
+    × (q .plan .reads ≡ v .plan .reads)
 unfolding rulesOf
-same-limits e p = (refl, refl, refl, refl, refl)
+same-limits profile e p = (refl, refl, refl, refl, refl)
 
 module _ (t : Stated) where
   -- where its kind stands for a profile, it is refused as set-up refuses
@@ -53,7 +54,7 @@ module _ (t : Stated) where
   )
     where
       first : statedRefusal t ≡ 22 → Dec (profileRefusal (t .kind) ≡ 0) → profileRefusal (t .kind) ≡ 22
-      first e (yes z) = absurd (omega (arith, second (profileRefusal (t .kind)) (setUpOf (statedOf t)) z, at-most-8 (t .parameters) (t .edition), e))
+      first e (yes z) = absurd (omega (arith, second (profileRefusal (t .kind)) (setUpOf (statedOf t)) z, at-most-8 (profileOf (t .kind)) (t .parameters) (t .edition), e))
       first e (no n) =
           let some : 0 < profileRefusal (t .kind) = omega arith in
           omega (arith, before (profileRefusal (t .kind)) (setUpOf (statedOf t)) some, e)

@@ -4,6 +4,7 @@ use lib.Ieee.{Float, binary64, ofInt, div, inFloat}
 use Rattle.laws.specs.Choose.{pick, orElse}
 use Rattle.grain.specs.declared.NextRead.{NextRead}
 use Rattle.grain.specs.declared.NextRead.the-variants.{In, NoneLeft}
+use Rattle.limits.specs.Paper.{profileRefusal}
 use Rattle.bucket.specs.Paper.{networkNumber, networkFirst, networkLast}
 use Rattle.frame.specs.declared.Row.{Row}
 use Rattle.frame.specs.Paper.{nextReadOf, bufferNumber, bufferFrame, bufferPlace}
@@ -102,6 +103,12 @@ unfolding nextReadOf
 nextOf x first t =
     pick (eqb (nextNumber x first t) 0) (awaited (nextReadOf (rulesOf x .plan) first t) (rulesOf x .plan .reads .den))
     (Not-Awaited (nextNumber x first t))
+
+-- V11, S12: and of what is stated: a kind that chooses no profile is refused first
+unfoldable pub statedNext : Stated → ℕ → ℕ → Awaited
+unfolding nextOf
+statedNext s first t =
+    pick (eqb (profileRefusal (s .kind)) 0) (nextOf (statedOf s) first t) (Not-Awaited (profileRefusal (s .kind)))
 
 -- each row of a list is so
 abbrev pub AllRows : (Row → Type 0) → List Row → Type 0

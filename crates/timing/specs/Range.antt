@@ -11,7 +11,7 @@ use Rattle.timing.specs.Step.{setUpOf, rulesOf}
 
 module _ (s : State) where
   -- every number of a state, in the order of docs/STATE.md, with the bytes of its type and its range. The stream numbers are in range
-  -- exactly where set-up accepts them, which is one test for all eight; either profile may stand, by its kind.
+  -- exactly where set-up accepts them, which is one test for all; any profile may stand, by its kind.
   abbrev pub streamTable : List Entry
   streamTable =
       entry (s .numbers .parameters .rate) 1 (same (setUpOf (s .numbers)) 0 ∷ [])

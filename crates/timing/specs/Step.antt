@@ -4,7 +4,7 @@ use Rattle.laws.specs.Choose.{pick, orElse}
 use Rattle.laws.specs.Fold.{fold}
 use Rattle.grain.specs.Paper.{grains}
 use Rattle.limits.specs.Paper.{frameLength, senderClass, cMax, vrxFull, troGrains, readNum, readDen, setUpIn}
-use Rattle.limits.specs.Paper.{hasBuffer, profileKind, profileOf, profileRefusal}
+use Rattle.limits.specs.Paper.{hasBuffer, perPeriod, profileKind, profileOf, profileRefusal}
 use Rattle.limits.specs.declared.Profile.{Profile}
 use Rattle.limits.specs.declared.Profile.the-variants.{Video}
 use Rattle.limits.specs.declared.Parameters.{Parameters}
@@ -35,9 +35,9 @@ ofProfile profile p = streamWith profile 1 p
 abbrev pub ofParameters : Parameters → StreamNumbers
 ofParameters p = ofProfile Video p
 
--- N2: the refusals 1 to 8 of set-up, 0 where there is none. "Stream numbers are as in the base": no profile is asked
+-- N2, S13: the refusals 1 to 8 of set-up, 0 where there is none
 abbrev pub setUpOf : StreamNumbers → ℕ
-setUpOf x = setUpIn (x .parameters) (x .edition)
+setUpOf x = setUpIn (x .profile) (x .parameters) (x .edition)
 
 -- S12: the stream numbers that a caller states, whose profile is the one that its kind chooses
 abbrev pub statedOf : Stated → StreamNumbers
@@ -47,6 +47,10 @@ statedOf t = streamWith (profileOf (t .kind)) (t .edition) (t .parameters)
 abbrev pub statedAs : StreamNumbers → Stated
 statedAs x = record { kind = profileKind (x .profile); parameters = x .parameters; edition = x .edition }
 
+-- S11, S12: parameters and the kind of their record, where nothing else is stated: "`vtiming` and the writer mean edition 1"
+abbrev pub firstStated : ℕ → Parameters → Stated
+firstStated kind p = record { kind = kind; parameters = p; edition = 1 }
+
 -- N1, N2, S12: 22 for a kind that chooses none, before 1 to 8
 unfoldable pub statedRefusal : Stated → ℕ
 statedRefusal t = orElse (profileRefusal (t .kind)) (setUpOf (statedOf t))
@@ -54,11 +58,13 @@ statedRefusal t = orElse (profileRefusal (t .kind)) (setUpOf (statedOf t))
 abbrev pub frameOf : StreamNumbers → ℕ
 frameOf x = frameLength (x .parameters .rate)
 
+-- S13, P24: the plan is of one period, a frame or a field, with its packets; "The limits C_MAX and VRX_FULL use n and the whole frame, as does the
+-- drain spacing.", and "reads are spaced R·F/n apart" (document 02, ix)
 unfoldable pub rulesOf : StreamNumbers → Rules
 rulesOf x = record {
   plan = record {
-    period = frameOf x;
-    packets = x .parameters .n;
+    period = perPeriod (x .profile) (frameOf x);
+    packets = perPeriod (x .profile) (x .parameters .n);
     tro = troGrains (frameOf x) (x .parameters .height) (x .parameters .tro);
     reads = record { num = readNum (x .parameters .schedule) (frameOf x); den = readDen (x .parameters .schedule) (x .parameters .n) };
     full = vrxFull (senderClass (x .parameters)) (x .parameters .maxudp) (frameOf x) (x .parameters .n);

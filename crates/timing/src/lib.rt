@@ -10,7 +10,7 @@ ghost use Rattle.timing.specs.Range.{inRange};
 ghost use Rattle.frame.specs.Range.{Planned, FramesRowAsks};
 ghost use Rattle.packet.specs.Paper.{OneLength, packets};
 ghost use lib.Ieee.{binary64, inFloat};
-ghost use Rattle.timing.specs.Answers.{setUpAs, statedUp, apartNumber, nextOf, verdictOf, summaryWith, microsecondsOf, graphOf};
+ghost use Rattle.timing.specs.Answers.{setUpAs, statedUp, apartNumber, nextOf, statedNext, verdictOf, summaryWith, microsecondsOf, graphOf};
 ghost use Rattle.timing.specs.Feed.{ArriveAsks, closedRow, closing, LayAsks, RunAsks, RunGives, feedOf, FeedGives};
 use bucket::Bucket;
 use bucket::Network;
@@ -44,7 +44,7 @@ pub struct Stated {
     pub edition: u32,
 }
 
-// What follows from them: the plan of the frames, the spacing of the drain instants,
+// What follows from them: the plan of the frames, or of the fields, the spacing of the drain instants,
 // and the class limit of the bucket. Worked out once a call.
 pub struct Rules {
     pub plan: Plan,
@@ -97,7 +97,7 @@ pub enum Drawn {
     Refused(u8),
 }
 
-// How long it is until the next read: a numerator over a denominator, in grains; or no read is left; or 1 to 8, 12 or 13.
+// How long it is until the next read: a numerator over a denominator, in grains; or no read is left; or 22, 1 to 8, 12 or 13.
 pub enum Awaited {
     In { numerator: u64, denominator: u64 },
     NoneLeft,
@@ -165,7 +165,8 @@ impl StreamNumbers {
         ensures { λ r. ⌜ r ≡ setUpOf self ⌝ }
     {
         let told = self.parameters;
-        told.refusal_in(self.edition)
+        let profile = self.profile;
+        told.refusal_in(profile, self.edition)
     }
 
     pub fn frame_length(self) -> u64
@@ -174,6 +175,7 @@ impl StreamNumbers {
         limits::frame_length(self.parameters.rate)
     }
 
+    // The plan is of one period, a frame or a field; all else is of the whole frame.
     pub fn rules(self) -> Rules
         ensures { λ r. ⌜ r ≡ rulesOf self ⌝ }
     {
@@ -181,9 +183,12 @@ impl StreamNumbers {
         let p = self.parameters;
         let profile = self.profile;
         let class = limits::class_of(p.class, p.schedule);
+        let n = p.n as u64;
+        let period = profile.per_period(frame);
+        let packets = profile.per_period(n);
         let plan = Plan {
-            period: frame,
-            packets: p.n as u64,
+            period,
+            packets,
             tro: limits::tro_grains(frame, p.height, p.tro),
             reads: Spacing {
                 num: limits::read_num(p.schedule, frame),
@@ -197,7 +202,7 @@ impl StreamNumbers {
             plan,
             drains: Spacing {
                 num: 10 * frame,
-                den: 11 * (p.n as u64),
+                den: 11 * n,
             },
             limit: limits::c_max(class, p.schedule, frame, p.n),
         }
@@ -265,6 +270,20 @@ impl StreamNumbers {
             },
             NextRead::NoneLeft => Awaited::NoneLeft,
         }
+    }
+}
+
+impl Stated {
+    // The same of what is stated: a kind that stands for no profile is refused first.
+    pub fn next_read(self, first: u64, t: u64) -> Awaited
+        ensures { λ r. ⌜ r ≡ statedNext self first t ⌝ }
+    {
+        let number = limits::profile_refusal(self.kind);
+        if number != 0 {
+            return Awaited::Refused(number);
+        }
+        let numbers = self.numbers();
+        numbers.next_read(first, t)
     }
 }
 

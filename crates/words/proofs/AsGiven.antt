@@ -1,20 +1,22 @@
 -- Eleven numbers put in their places are refused, and measured, as they are given, whatever their size: set-up, the offset's test and so the
 -- whole output are the same. By one law: what cannot tell a number too large from what stands instead of it cannot tell it from the number.
-use Rattle.laws.specs.Kit.{_≡_, refl, sym, ap, _∙_, _⊎_, ⊎-elim, inl, inr, Bool, true, false, and-false, List, [], _∷_, ℕ, zero, suc, _*_, _≤_}
-use Rattle.laws.specs.Kit.{_<_, arith}
+use Rattle.laws.specs.Kit.{_≡_, refl, sym, ap, _∙_, _⊎_, inl, inr, Bool, true, false, and-false, List, [], _∷_, ℕ, zero, suc, _*_, _≤_}
+use Rattle.laws.specs.Kit.{_<_, arith, mul-le-mul-right}
 use Rattle.laws.specs.Kit.{leb, eqb, leb-false, leb-true, lt-leb, le-ltb, ne-eqb, eqb-true}
 use Rattle.laws.specs.Choose.{pick}
 use Rattle.laws.proofs.Choose.{false-true}
 use Rattle.limits.specs.declared.Class.{Class}
 use Rattle.limits.specs.declared.Class.the-variants.{Narrow, NarrowLinear, Wide, Unknown}
-use Rattle.limits.specs.Paper.{microsecond, frameLength, strictOn, classOf, allOnes, within, classFits, maxudpKnown, troFits, firstNo}
+use Rattle.limits.specs.Paper.{microsecond, frameLength, strictOn, classOf, allOnes, within, classFits, maxudpKnown, packetsFit, troFits, firstNo}
 use Rattle.limits.specs.Paper.{setUpRefusal, editionRefusal, setUpIn}
 use Rattle.limits.proofs.Laws.{past-rates, past-classes}
 use Rattle.limits.proofs.Rates.{frame-most}
 use Rattle.limits.proofs.Accepting.{accepted}
 use Rattle.limits.proofs.Editions.{in-fine}
-use Rattle.limits.specs.Paper.{isProfile, profileRefusal}
-use Rattle.limits.proofs.Profiles.{profile-kinds, no-other}
+use Rattle.limits.specs.declared.Profile.{Profile}
+use Rattle.limits.specs.Paper.{isProfile, profileOf, profileRefusal, periods, hasDefault}
+use Rattle.limits.proofs.Profiles.{kind-most, no-other, neither-of}
+use Rattle.limits.proofs.Periods.{periods-some}
 use Rattle.timing.specs.Step.{statedRefusal}
 use Rattle.timing.proofs.Stating.{stated-fine}
 use Rattle.capture.specs.Paper.{headerOf}
@@ -72,8 +74,15 @@ class-fits-alike x y =
 height-alike : (x : ℕ) → within 1 65535 (placed 65535 insteadHeight x) ≡ within 1 65535 x
 height-alike = alike (within 1 65535) 65535 insteadHeight (λ x h. above 1 65535 x h)
 
-n-alike : (x : ℕ) → within 1 20000 (placed 4294967295 4294967295 x) ≡ within 1 20000 x
-n-alike = alike (within 1 20000) 4294967295 4294967295 (λ x h. above 1 20000 x (omega arith))
+-- so many packets no frame has, whatever its periods
+too-many : (profile : Profile) (x : ℕ) → 4294967295 ≤ x → false ≡ packetsFit profile x
+unfolding packetsFit
+too-many profile x h = rw (← above 1 20000 x (omega arith))
+
+n-alike : (profile : Profile) (x : ℕ) → packetsFit profile (placed 4294967295 4294967295 x) ≡ packetsFit profile x
+n-alike profile =
+    alike (packetsFit profile) 4294967295 4294967295
+    (λ x h. sym (too-many profile 4294967295 (omega arith)) ∙ too-many profile x (omega arith))
 
 maxudp-alike : (x : ℕ) → maxudpKnown (placed 65535 65535 x) ≡ maxudpKnown x
 maxudp-alike = alike maxudpKnown 65535 65535 (λ x h. rw (ne-eqb x 1460 (omega arith), ne-eqb x 8960 (omega arith)))
@@ -82,17 +91,25 @@ frame-alike : (x : ℕ) → frameLength (placed 255 255 x) ≡ frameLength x
 frame-alike = alike frameLength 255 255 (λ x h. sym (past-rates 255 (omega arith)) ∙ past-rates x (omega arith))
 
 -- no frame is as long as 4,294,967,294 microseconds, and only one more is the default
-tro-too-long : (code x : ℕ) → 4294967294 ≤ x → ¬ (x ≡ allOnes) → false ≡ troFits (frameLength code) x
-unfolding troFits
-tro-too-long code x h other = rw (ne-eqb x allOnes other, le-ltb (microsecond * x) (frameLength code) (omega (arith, frame-most code)))
+module _ (profile : Profile) where
+  tro-too-long : (code x : ℕ) → 4294967294 ≤ x → ¬ (x ≡ allOnes) → false ≡ troFits profile (frameLength code) x
+  unfolding troFits
+  tro-too-long code x h other =
+      let long = mul-le-mul-right (microsecond * x) (periods-some profile) in
+      rw (
+        ne-eqb x allOnes other,
+        and-false (hasDefault profile),
+        le-ltb (periods profile * (microsecond * x)) (frameLength code) (omega (arith, long, frame-most code)),
+      )
 
-tro-alike : (code x : ℕ) → troFits (frameLength code) (placed 4294967295 insteadTro x) ≡ troFits (frameLength code) x
-tro-alike code =
-    alike (troFits (frameLength code)) 4294967295 insteadTro
-    (λ x h. sym (tro-too-long code insteadTro (omega arith) (omega arith)) ∙ tro-too-long code x (omega arith) (omega arith))
+  tro-alike : (code x : ℕ) → troFits profile (frameLength code) (placed 4294967295 insteadTro x) ≡ troFits profile (frameLength code) x
+  tro-alike code =
+      alike (troFits profile (frameLength code)) 4294967295 insteadTro
+      (λ x h. sym (tro-too-long code insteadTro (omega arith) (omega arith)) ∙ tro-too-long code x (omega arith) (omega arith))
 
-tro-fits-alike : (x y : ℕ) → troFits (frameLength (placed 255 255 x)) (placed 4294967295 insteadTro y) ≡ troFits (frameLength x) y
-tro-fits-alike x y = ap (λ (F : ℕ). troFits F (placed 4294967295 insteadTro y)) (frame-alike x) ∙ tro-alike x y
+  tro-fits-alike : (x y : ℕ)
+      → troFits profile (frameLength (placed 255 255 x)) (placed 4294967295 insteadTro y) ≡ troFits profile (frameLength x) y
+  tro-fits-alike x y = ap (λ (F : ℕ). troFits profile F (placed 4294967295 insteadTro y)) (frame-alike x) ∙ tro-alike x y
 
 offset-alike : (x : ℕ) → leb (placed 4294967295 4294967295 x) 99 ≡ leb x 99
 offset-alike = alike (λ (x : ℕ). leb x 99) 4294967295 4294967295 (λ x h. sym (lt-leb x 99 (omega arith)))
@@ -103,7 +120,12 @@ edition-alike = alike editionRefusal 4294967295 4294967295 (λ x h. rw (← abov
 
 -- S12: no kind of a profile is as large as 255
 profile-too-large : (x : ℕ) → 255 ≤ x → false ≡ isProfile x
-profile-too-large x h = no-other x (λ e. omega arith) (λ e. omega arith)
+profile-too-large x h = no-other x (λ e. omega arith) (λ e. omega arith) (λ e. omega arith)
+
+profile-of-alike : (x : ℕ) → profileOf (placed 255 255 x) ≡ profileOf x
+profile-of-alike =
+    alike profileOf 255 255
+    (λ x h. sym (neither-of 255 (λ e. omega arith) (λ e. omega arith)) ∙ neither-of x (λ e. omega arith) (λ e. omega arith))
 
 profile-alike : (x : ℕ) → profileRefusal (placed 255 255 x) ≡ profileRefusal x
 unfolding profileRefusal
@@ -114,23 +136,25 @@ profile-alike =
 
 module _ (x : Numbers) where
   -- R18: "One that is too large for its place, as a height of 65,536, is refused as set-up refuses such a number (1 to 8)", and a profile by 22
-  parameters-as-given : setUpRefusal (askedOf x .stated .parameters) ≡ setUpRefusal (asGiven x .stated .parameters)
+  parameters-as-given : (profile : Profile) → setUpRefusal profile (askedOf x .stated .parameters) ≡ setUpRefusal profile (asGiven x .stated .parameters)
   unfolding askedOf setUpRefusal
-  parameters-as-given =
+  parameters-as-given profile =
       ap (firstNo 1)
       (λ j.
       rate-alike (x .rate) j
       ∷ schedule-alike (x .schedule) j
       ∷ class-fits-alike (x .class) (x .schedule) j
       ∷ height-alike (x .height) j
-      ∷ n-alike (x .n) j
+      ∷ n-alike profile (x .n) j
       ∷ maxudp-alike (x .maxudp) j
-      ∷ tro-fits-alike (x .rate) (x .tro) j
+      ∷ tro-fits-alike profile (x .rate) (x .tro) j
       ∷ [])
 
   pub set-up-as-given : statedRefusal (askedOf x .stated) ≡ statedRefusal (asGiven x .stated)
   unfolding askedOf statedRefusal setUpIn
-  set-up-as-given = rw (profile-alike (x .profile), parameters-as-given, edition-alike (x .edition))
+  set-up-as-given =
+      let profile = profileOf (x .profile) in
+      rw (profile-alike (x .profile), profile-of-alike (x .profile), parameters-as-given profile, edition-alike (x .edition))
 
   -- R18: ".. or by 33"
   pub offset-as-given : leb (askedOf x .offset) 99 ≡ leb (asGiven x .offset) 99
@@ -147,23 +171,25 @@ module _ (x : Numbers) where
           let past = past-classes (x .class) (x .schedule) (omega (arith, leb-false (x .class) 255 f)) in
           absurd (false-true (ap (λ (k : Class). classFits k (x .schedule)) past ∙ e))
 
-  tro-small : (x .tro ≡ allOnes) ⊎ (microsecond * x .tro < frameLength (x .rate)) → x .tro ≤ 4294967295
-  tro-small (inl e) = omega (arith, e)
-  tro-small (inr h) = omega (arith, h, frame-most (x .rate))
+  tro-small : (profile : Profile)
+      → ((hasDefault profile ≡ true) × (x .tro ≡ allOnes)) ⊎ (periods profile * (microsecond * x .tro) < frameLength (x .rate)) → x .tro ≤ 4294967295
+  tro-small profile (inl e) = omega (arith, e .1)
+  tro-small profile (inr h) = omega (arith, h, mul-le-mul-right (microsecond * x .tro) (periods-some profile), frame-most (x .rate))
 
   udp-small : (x .maxudp ≡ 1460) ⊎ (x .maxudp ≡ 8960) → x .maxudp ≤ 65535
   udp-small (inl e) = omega (arith, e)
   udp-small (inr e) = omega (arith, e)
 
   profile-small : isProfile (x .profile) ≡ true → x .profile ≤ 255
-  profile-small e = ⊎-elim (λ z. omega arith) (λ z. omega arith) (profile-kinds (x .profile) e)
+  profile-small e = omega (arith, kind-most (x .profile) e)
 
   all-fit : statedRefusal (asGiven x .stated) ≡ 0 → x .offset ≤ 99 → askedOf x ≡ asGiven x
   unfolding askedOf
   all-fit e h =
       let stated = stated-fine (asGiven x .stated) e in
-      let fine = in-fine (asGiven x .stated .parameters) (x .edition) (stated .1) in
-      let a = accepted (asGiven x .stated .parameters) (fine .0) in
+      let profile = profileOf (x .profile) in
+      let fine = in-fine profile (asGiven x .stated .parameters) (x .edition) (stated .1) in
+      let a = accepted profile (asGiven x .stated .parameters) (fine .0) in
       λ j. record {
         stated = record {
           kind = sym (fits 255 255 (x .profile) (profile-small (stated .0))) j;
@@ -174,7 +200,7 @@ module _ (x : Numbers) where
             height = sym (fits 65535 insteadHeight (x .height) (a .height-fits .1)) j;
             n = sym (fits 4294967295 4294967295 (x .n) (omega (arith, a .n-fits .1))) j;
             maxudp = sym (fits 65535 65535 (x .maxudp) (udp-small (a .maxudp-known))) j;
-            tro = sym (fits 4294967295 insteadTro (x .tro) (tro-small (a .tro-fits))) j;
+            tro = sym (fits 4294967295 insteadTro (x .tro) (tro-small profile (a .tro-fits))) j;
           };
           edition = sym (fits 4294967295 4294967295 (x .edition) (omega (arith, fine .1 .1))) j;
         };

@@ -1,7 +1,7 @@
 -- Words and numbers, computed: the rule's own height of 65,536, and the greatest and the shortest of what is a number.
 use Rattle.laws.specs.Kit.{_≡_, refl, [], ℕ}
 use Rattle.laws.specs.Fold.{fold}
-use Rattle.limits.specs.Paper.{rateOf, frameLength, classOf, troFits, firstNo, setUpRefusal, editionRefusal, setUpIn}
+use Rattle.limits.specs.Paper.{rateOf, frameLength, classOf, packetsFit, troFits, firstNo, setUpRefusal, editionRefusal, setUpIn, profileOf}
 use Rattle.timing.specs.Step.{statedRefusal}
 use Rattle.limits.specs.Paper.{isProfile, profileRefusal}
 use Rattle.text.specs.Decimal.{codes}
@@ -47,23 +47,28 @@ of-height height tro profile edition = record {
 
 -- R18: "as a height of 65,536, is refused as set-up refuses such a number"
 pub too-high : statedRefusal (askedOf (of-height 65536 4294967295 1 1) .stated) ≡ 4
-unfolding askedOf statedRefusal profileRefusal isProfile setUpIn editionRefusal setUpRefusal firstNo classOf troFits frameLength rateOf
+unfolding askedOf statedRefusal profileRefusal isProfile profileOf setUpIn editionRefusal setUpRefusal firstNo classOf packetsFit troFits frameLength
+    rateOf
 too-high = refl
 
 pub too-late : statedRefusal (askedOf (of-height 1080 4294967296 1 1) .stated) ≡ 7
-unfolding askedOf statedRefusal profileRefusal isProfile setUpIn editionRefusal setUpRefusal firstNo classOf troFits frameLength rateOf
+unfolding askedOf statedRefusal profileRefusal isProfile profileOf setUpIn editionRefusal setUpRefusal firstNo classOf packetsFit troFits frameLength
+    rateOf
 too-late = refl
 
 -- R18: an edition of 2^32 + 2 is not taken for 2
 pub no-edition : statedRefusal (askedOf (of-height 1080 4294967295 3 4294967298) .stated) ≡ 8
-unfolding askedOf statedRefusal profileRefusal isProfile setUpIn editionRefusal setUpRefusal firstNo classOf troFits frameLength rateOf
+unfolding askedOf statedRefusal profileRefusal isProfile profileOf setUpIn editionRefusal setUpRefusal firstNo classOf packetsFit troFits frameLength
+    rateOf
 no-edition = refl
 
 -- S12: nor is a profile of 256 + 3 taken for 3, and 22 comes first
 pub no-profile : statedRefusal (askedOf (of-height 65536 4294967296 259 3) .stated) ≡ 22
-unfolding askedOf statedRefusal profileRefusal isProfile setUpIn editionRefusal setUpRefusal firstNo classOf troFits frameLength rateOf
+unfolding askedOf statedRefusal profileRefusal isProfile profileOf setUpIn editionRefusal setUpRefusal firstNo classOf packetsFit troFits frameLength
+    rateOf
 no-profile = refl
 
 pub measured : statedRefusal (askedOf (of-height 1080 4294967295 3 2) .stated) ≡ 0
-unfolding askedOf statedRefusal profileRefusal isProfile setUpIn editionRefusal setUpRefusal firstNo classOf troFits frameLength rateOf
+unfolding askedOf statedRefusal profileRefusal isProfile profileOf setUpIn editionRefusal setUpRefusal firstNo classOf packetsFit troFits frameLength
+    rateOf
 measured = refl

@@ -15,6 +15,9 @@ profile-refusal-requires c κs = search needs
 resolved-requires : tie.Need-resolved-requires
 resolved-requires c κs = search needs
 
+profile-of-requires : tie.Need-profile-of-requires
+profile-of-requires c κs = search needs
+
 refusal-requires : tie.Need-refusal-requires
 refusal-requires c κs = search needs
 
@@ -27,12 +30,13 @@ first-of-requires-2 c κs = search needs
 returns : tie.Need-returns
 returns c =
     let told = c .before .before in
-    let resolved = told .before in
+    let profile = told .before in
+    let resolved = profile .before in
     let kind = resolved .before in
     c .first-of2 .ensures
     ∙ ap (orElse (kind .before .version-refusal .result)) (c .before .first-of .ensures)
     ∙ heading-all _ _ _ (kind .before .version-refusal .ensures) (kind .profile-refusal .ensures) (resolved .resolved .ensures)
-    (told .refusal .ensures)
+    (profile .profile-of .ensures) (told .refusal .ensures)
 
 pub heading-refusal-spec : {M : Type 1} → statement M
 heading-refusal-spec =
@@ -41,6 +45,7 @@ heading-refusal-spec =
     version-refusal-requires
     profile-refusal-requires
     resolved-requires
+    profile-of-requires
     refusal-requires
     first-of-requires
     first-of-requires-2

@@ -7,8 +7,8 @@ use borrow.Author.Needs.{needs}
 use Rattle.report.proofs.vtiming_next_read.Statement.{statement}
 use Rattle.report.proofs.vtiming_next_read.Tie as tie
 
-stream-requires : tie.Need-stream-requires
-stream-requires c κs = search needs
+stated-requires : tie.Need-stated-requires
+stated-requires c κs = search needs
 
 next-read-requires : tie.Need-next-read-requires
 next-read-requires c κs = search needs
@@ -40,7 +40,7 @@ returns c =
     let told = put .before .before .before in
     let asked = told .before .before in
     let which = told .awaited .given .1 in
-    rw (sym (asked .before .stream .ensures))
+    rw (sym (asked .before .stated .ensures))
     (next-told _ _ _ _ (asked .next-read .ensures) (ap awaitedNumber which) (ap awaitedNumbers which) (put .put-three .ensures))
 
 same-length-2 : tie.Need-same-length-2
@@ -52,20 +52,20 @@ returns-2 c =
     let told = put .before .before in
     let asked = told .before .before in
     let which = told .enum-told .given .1 in
-    rw (sym (asked .before .stream .ensures))
+    rw (sym (asked .before .stated .ensures))
     (next-told _ _ _ _ (asked .next-read .ensures) (ap awaitedNumber which) (ap awaitedNumbers which) (put .put-three2 .ensures))
 
 returns-3 : tie.Need-returns-3
 returns-3 c =
     let told = c .before in
     let asked = told .before .before in
-    rw (sym (asked .before .stream .ensures)) (next-refused _ _ _ _ (asked .next-read .ensures) (told .awaited2 .given .1))
+    rw (sym (asked .before .stated .ensures)) (next-refused _ _ _ _ (asked .next-read .ensures) (told .awaited2 .given .1))
 
 pub vtiming-next-read-spec : {M : Type 1} → statement M
 vtiming-next-read-spec =
     tie.close
     (tie.spec
-    stream-requires
+    stated-requires
     next-read-requires
     enum-known-awaited
     put-three-requires

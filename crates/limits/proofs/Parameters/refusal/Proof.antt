@@ -3,6 +3,7 @@
 use Rattle.laws.specs.Kit.{_≡_, ap, _∙_, ℕ, suc, drop}
 use Rattle.limits.specs.declared.Class.{Class}
 use Rattle.limits.specs.declared.Parameters.{Parameters}
+use Rattle.limits.specs.declared.Profile.{Profile}
 use Rattle.limits.specs.Paper.{classFits, troFits, questions, setUpRefusal}
 use Rattle.limits.proofs.Laws.{First, passes, asked, refused, first}
 use borrow.Author.Needs.{needs}
@@ -11,12 +12,13 @@ use Rattle.limits.proofs.Parameters.refusal.Tie as tie
 
 -- after k questions
 record Past (k : ℕ) : Type 0 where
+  profile : Profile
   numbers : Parameters
-  so : {r : ℕ} → First (suc k) (drop k (questions numbers)) r → r ≡ setUpRefusal numbers
+  so : {r : ℕ} → First (suc k) (drop k (questions profile numbers)) r → r ≡ setUpRefusal profile numbers
 
-all-asked : (x : Parameters) {r : ℕ} → First 1 (questions x) r → r ≡ setUpRefusal x
+all-asked : (q : Profile) (x : Parameters) {r : ℕ} → First 1 (questions q x) r → r ≡ setUpRefusal q x
 unfolding setUpRefusal
-all-asked x f = first f
+all-asked q x f = first f
 
 cast-is-within : tie.Need-cast-is-within
 cast-is-within c = search needs
@@ -25,12 +27,13 @@ is-within-requires : tie.Need-is-within-requires
 is-within-requires c κs = search needs
 
 returns : tie.Need-returns
-returns q = all-asked _ (refused (q .before .is-within .ensures) (q .if1 .taken))
+returns q = all-asked _ _ (refused (q .before .is-within .ensures) (q .if1 .taken))
 
 abbrev past1 : tie.Else1 → Past 1
 past1 q = record {
+  profile = q .before .before .before .args .profile;
   numbers = q .before .before .before .args .self;
-  so = λ f. all-asked _ (asked (q .before .is-within .ensures) (q .if1 .left) f);
+  so = λ f. all-asked _ _ (asked (q .before .is-within .ensures) (q .if1 .left) f);
 }
 
 cast-is-within-2 : tie.Need-cast-is-within-2
@@ -45,7 +48,7 @@ returns-2 q = past1 (q .before .before .before) .so (refused (q .before .is-with
 abbrev past2 : tie.Else2 → Past 2
 past2 q =
     let p = past1 (q .before .before .before) in
-    record { numbers = p .numbers; so = λ f. p .so (asked (q .before .is-within2 .ensures) (q .if2 .left) f) }
+    record { profile = p .profile; numbers = p .numbers; so = λ f. p .so (asked (q .before .is-within2 .ensures) (q .if2 .left) f) }
 
 class-of-requires : tie.Need-class-of-requires
 class-of-requires c κs = search needs
@@ -63,7 +66,7 @@ abbrev past3 : tie.Else3 → Past 3
 past3 q =
     let p = past2 (q .before .before .before) in
     let fits = q .before .class-fits .ensures ∙ ap (λ (k : Class). classFits k (p .numbers .schedule)) (q .before .before .class-of .ensures) in
-    record { numbers = p .numbers; so = λ f. p .so (asked fits (q .if3 .left) f) }
+    record { profile = p .profile; numbers = p .numbers; so = λ f. p .so (asked fits (q .if3 .left) f) }
 
 cast-is-within-3 : tie.Need-cast-is-within-3
 cast-is-within-3 c = search needs
@@ -77,18 +80,18 @@ returns-4 q = past3 (q .before .before .before) .so (refused (q .before .is-with
 abbrev past4 : tie.Else4 → Past 4
 past4 q =
     let p = past3 (q .before .before .before) in
-    record { numbers = p .numbers; so = λ f. p .so (asked (q .before .is-within3 .ensures) (q .if4 .left) f) }
+    record { profile = p .profile; numbers = p .numbers; so = λ f. p .so (asked (q .before .is-within3 .ensures) (q .if4 .left) f) }
 
-is-within-requires-4 : tie.Need-is-within-requires-4
-is-within-requires-4 c κs = search needs
+packets-fit-requires : tie.Need-packets-fit-requires
+packets-fit-requires c κs = search needs
 
 returns-5 : tie.Need-returns-5
-returns-5 q = past4 (q .before .before) .so (refused (q .before .is-within4 .ensures) (q .if5 .taken))
+returns-5 q = past4 (q .before .before) .so (refused (q .before .packets-fit .ensures) (q .if5 .taken))
 
 abbrev past5 : tie.Else5 → Past 5
 past5 q =
     let p = past4 (q .before .before) in
-    record { numbers = p .numbers; so = λ f. p .so (asked (q .before .is-within4 .ensures) (q .if5 .left) f) }
+    record { profile = p .profile; numbers = p .numbers; so = λ f. p .so (asked (q .before .packets-fit .ensures) (q .if5 .left) f) }
 
 maxudp-known-requires : tie.Need-maxudp-known-requires
 maxudp-known-requires c κs = search needs
@@ -99,7 +102,7 @@ returns-6 q = past5 (q .before .before) .so (refused (q .before .maxudp-known .e
 abbrev past6 : tie.Else6 → Past 6
 past6 q =
     let p = past5 (q .before .before) in
-    record { numbers = p .numbers; so = λ f. p .so (asked (q .before .maxudp-known .ensures) (q .if6 .left) f) }
+    record { profile = p .profile; numbers = p .numbers; so = λ f. p .so (asked (q .before .maxudp-known .ensures) (q .if6 .left) f) }
 
 frame-length-requires : tie.Need-frame-length-requires
 frame-length-requires c κs = search needs
@@ -110,13 +113,13 @@ tro-fits-requires c κs = search needs
 returns-7 : tie.Need-returns-7
 returns-7 q =
     let p = past6 (q .before .before .before) in
-    p .so (refused (q .before .tro-fits .ensures ∙ ap (λ (F : ℕ). troFits F (p .numbers .tro)) (q .before .before .frame-length .ensures))
+    p .so (refused (q .before .tro-fits .ensures ∙ ap (λ (F : ℕ). troFits (p .profile) F (p .numbers .tro)) (q .before .before .frame-length .ensures))
     (q .if7 .taken))
 
 returns-8 : tie.Need-returns-8
 returns-8 q =
     let p = past6 (q .before .before .before) in
-    p .so (asked (q .before .tro-fits .ensures ∙ ap (λ (F : ℕ). troFits F (p .numbers .tro)) (q .before .before .frame-length .ensures))
+    p .so (asked (q .before .tro-fits .ensures ∙ ap (λ (F : ℕ). troFits (p .profile) F (p .numbers .tro)) (q .before .before .frame-length .ensures))
     (q .if7 .left) passes)
 
 pub refusal-spec : {M : Type 1} → statement M
@@ -135,7 +138,7 @@ refusal-spec =
     cast-is-within-3
     is-within-requires-3
     returns-4
-    is-within-requires-4
+    packets-fit-requires
     returns-5
     maxudp-known-requires
     returns-6

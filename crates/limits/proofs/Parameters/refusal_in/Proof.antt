@@ -15,7 +15,7 @@ first-of-requires : tie.Need-first-of-requires
 first-of-requires c κs = search needs
 
 returns : tie.Need-returns
-returns c = c .first-of .ensures ∙ in-both _ _ (c .before .before .refusal .ensures) (c .before .edition-refusal .ensures)
+returns c = c .first-of .ensures ∙ in-both _ _ _ (c .before .before .refusal .ensures) (c .before .edition-refusal .ensures)
 
 pub refusal-in-spec : {M : Type 1} → statement M
 refusal-in-spec = tie.close (tie.spec refusal-requires edition-refusal-requires first-of-requires returns)
