@@ -19,11 +19,13 @@
 #define EDITIONS 2       /* of the test plan */
 #define TIMED 1          /* the edition by which everything is timed */
 #define VIDEO 1          /* the profile that is timed, and the kind of its parameters in a record file */
-#define COMPRESSED 3     /* the other */
+#define COMPRESSED 3     /* the others */
+#define INTERLACED 4
 #define RATE 6 /* 50 frames a second */
 #define FRAME_NS 20000000ull
 #define TICKS_PER_FRAME 1800u
 #define NINE_TICKS_NS 100000ull /* fewer ticks are no whole nanoseconds */
+#define HALFWAY_NS 5000000ull /* multiples lie halfway between two starts of frames or fields at rates 3 and 6 */
 #define LONGEST_NS 590000000000ull /* a list longer than 600 s is refused */
 #define ROUNDS 2 /* at each place that the code is put at */
 
@@ -59,8 +61,20 @@ static uint64_t any(void)
 }
 static uint64_t below(uint64_t m) { return any() % m; }
 
-static uint8_t any_profile(void) { return below(4) ? VIDEO : COMPRESSED; }
-static uint8_t no_profile(void) { return (uint8_t)(below(2) ? 2 * below(3) : any() | 4); }
+static uint8_t no_profile(void) { return (uint8_t)(below(2) ? 2 * below(2) : 5 + below(251)); }
+
+/* The stream as any profile. As interlaced mostly with an even n, twice as many where that may be, so that a field has as many packets as
+   the frame had, and with a TRO up to the last below half a frame or one more; else with the numbers that it has. */
+static struct stream as_any_profile(struct stream s)
+{
+    static const uint8_t profiles[] = {VIDEO, VIDEO, COMPRESSED, INTERLACED};
+    static const uint32_t last_tro[] = {0, 20854, 20833, 19999, 16683, 16666, 9999, 8341, 8333};
+    s.profile = profiles[below(4)];
+    if (s.profile != INTERLACED || below(16) == 0) return s;
+    s.n = s.n <= 10000 ? 2 * s.n : s.n - s.n % 2;
+    s.tro = (uint32_t)(below(8) ? below(last_tro[s.rate] + 1ull) : last_tro[s.rate] + below(2));
+    return s;
+}
 
 static void *room(size_t bytes)
 {
@@ -172,11 +186,11 @@ static uint64_t buffer_by_edition_2(struct stream s, struct list l)
 }
 
 /* Short lists of every sort: all rates and classes, frames short, long and of two timestamps, first packets half a wrap from two
-   encoded times, bursts, long pauses, refusals, a quarter of them compressed. Those that are accepted are measured by both editions, and
-   are files as well, of both versions, by both editions. */
+   encoded times or between two starts, bursts, long pauses, refusals, a quarter of them compressed and a quarter interlaced. Those that
+   are accepted are measured by both editions, and are files as well, of both versions, by both editions. */
 static void agree_on_short_lists(unsigned lists)
 {
-    unsigned by_answer[256] = {0}, broken = 0, compressed = 0;
+    unsigned by_answer[256] = {0}, broken = 0, compressed = 0, interlaced = 0;
     for (unsigned k = 0; k < lists; k++) {
         struct stream s;
         s.rate = (uint8_t)(1 + below(8));
@@ -186,8 +200,9 @@ static void agree_on_short_lists(unsigned lists)
         s.n = (uint32_t)(below(4) ? 1 + below(8) : 1 + below(20000));
         s.maxudp = below(2) ? 1460 : 8960;
         s.tro = below(2) ? DEFAULT_TRO : (uint32_t)below(16000);
-        s.profile = any_profile();
         s.edition = (uint32_t)(1 + below(EDITIONS));
+        s = as_any_profile(s);
+        const uint64_t closing = s.profile == INTERLACED ? s.n / 2 : s.n; /* packets of what a marker closes */
         if (below(20) == 0) switch (below(9)) { /* one number that set-up refuses */
             case 0: s.rate = 9; break;
             case 1: s.schedule = 2; break;
@@ -210,11 +225,14 @@ static void agree_on_short_lists(unsigned lists)
                 t += NINE_TICKS_NS - t % NINE_TICKS_NS;
                 stamp = (uint32_t)(t / NINE_TICKS_NS * 9) + (1u << 31);
                 t += below(3) - 1;
+            } else if (held == 0 && below(8) == 0) { /* exactly between two starts at some rates, or a nanosecond to a side */
+                t += HALFWAY_NS - t % HALFWAY_NS;
+                t += below(3) - 1;
             }
             l.arrivals[i] = t;
             l.stamps[i] = below(100) ? stamp : (uint32_t)any();
             held++;
-            l.markers[i] = below(30) ? held >= s.n : (uint8_t)below(2);
+            l.markers[i] = below(30) ? held >= closing : (uint8_t)below(2);
             if (l.markers[i]) {
                 held = 0;
                 stamp += TICKS_PER_FRAME;
@@ -236,10 +254,11 @@ static void agree_on_short_lists(unsigned lists)
             agree_in_both_versions(s, l);
             broken += buffer_by_edition_2(s, l) == BROKEN;
             compressed += s.profile == COMPRESSED;
+            interlaced += s.profile == INTERLACED;
         }
         free_list(l);
     }
-    printf("%u short lists: the two agree; by edition 2 broken: %u; compressed: %u;", lists, broken, compressed);
+    printf("%u short lists: the two agree; by edition 2 broken: %u; compressed: %u; interlaced: %u;", lists, broken, compressed, interlaced);
     for (int i = 0; i < 256; i++)
         if (by_answer[i]) printf(" %s%d: %u", i ? "refused by " : "answer ", i, by_answer[i]);
     printf("\n");
@@ -527,13 +546,12 @@ static void save(struct file f, const char *name)
     }
 }
 
-/* The two on captures that are refused too: a short one with any bit turned, cut anywhere or whole, of either profile, by either edition,
+/* The two on captures that are refused too: a short one with any bit turned, cut anywhere or whole, of any profile, by either edition,
    now and then of a profile or by an edition that there is not. */
 static void agree_on_damaged(unsigned captures)
 {
     unsigned by_answer[256] = {0};
-    struct stream s = stream_of(2);
-    struct list l = jittered(8, s.n);
+    struct list l = jittered(8, 2);
     struct file f = capture_of(l, 60), damaged = f;
     free_list(l);
     uint8_t out[8 * (CAPTURE_SUMMARY + ROW * 3)], walked[sizeof out];
@@ -545,8 +563,9 @@ static void agree_on_damaged(unsigned captures)
         size_t lent = below(10) ? sizeof out : below(sizeof out);
         memset(out, 0x55, sizeof out);
         memset(walked, 0x55, sizeof walked);
+        struct stream s = as_any_profile(stream_of(2));
         s.edition = (uint32_t)(below(50) ? 1 + below(EDITIONS) : 3 * below(2));
-        s.profile = below(50) ? any_profile() : no_profile();
+        if (below(50) == 0) s.profile = no_profile();
         uint32_t proved = captured_by(vtiming_capture, s, damaged, out, lent);
         uint32_t plain = captured_by(walker_capture, s, damaged, walked, lent);
         f.bytes[at] ^= bit;

@@ -10,7 +10,7 @@
    and an answer as document 01's three numbers for it. Whoever calls keeps them between the calls. */
 #define STATE_WORDS 35
 
-/* A stream set up: 22 for a profile other than 1 or 3, 1 to 7, 8, then 15 for fewer words than a state is, and nothing written; or 0,
+/* A stream set up: 22 for a profile other than 1, 3 or 4, 1 to 7, 8, then 15 for fewer words than a state is, and nothing written; or 0,
    and the fresh state's words. */
 uint32_t vtiming_set_up(uint8_t rate, uint8_t schedule, uint8_t class, uint16_t height, uint32_t n, uint16_t maxudp, uint32_t tro,
                         uint8_t profile, uint32_t edition, uint64_t *state, size_t state_count);

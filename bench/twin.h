@@ -20,7 +20,8 @@
 enum { STRICT = 0, NARROW = 1, NARROW_LINEAR = 2, WIDE = 3 }; /* STRICT is NARROW on schedule 0, NARROW_LINEAR on 1 */
 enum { NONE, PASS, UNDER, OVER, BROKEN };
 enum { EDITION_1 = 1, EDITION_2 = 2 }; /* of the test plan: by the second a broken frame fails its buffer */
-enum { VIDEO = 1, COMPRESSED = 3 };    /* the profile, as the kind of a file's parameters: of a compressed stream no buffer is judged */
+/* The profile, as the kind of a file's parameters: of a compressed stream no buffer is judged, and an interlaced one is of fields. */
+enum { VIDEO = 1, COMPRESSED = 3, INTERLACED = 4 };
 
 #define FRAME(num, den) (SECOND * (den) / (num)) /* grains in a frame, at num/den frames a second */
 static const uint64_t frame_lengths[9] = {
@@ -31,14 +32,17 @@ static uint64_t larger(uint64_t a, uint64_t b) { return a < b ? b : a; }
 static uint8_t set_up_refusal(uint8_t rate, uint8_t schedule, uint8_t class, uint16_t height, uint32_t n, uint16_t maxudp, uint32_t tro,
                               uint8_t profile, uint32_t edition)
 {
-    if (profile != VIDEO && profile != COMPRESSED) return 22;
+    const int interlaced = profile == INTERLACED;
+    if (profile != VIDEO && profile != COMPRESSED && !interlaced) return 22;
     if (rate < 1 || rate > 8) return 1;
     if (schedule > 1) return 2;
     if (class > 3 || (class == NARROW && schedule != 0) || (class == NARROW_LINEAR && schedule != 1)) return 3;
     if (height == 0) return 4;
-    if (n < 1 || n > 20000) return 5;
+    if (n < 1 || n > 20000 || (interlaced && n % 2 != 0)) return 5;
     if (maxudp != 1460 && maxudp != 8960) return 6;
-    if (tro != DEFAULT_TRO && 27000ull * tro >= frame_lengths[rate]) return 7;
+    if (interlaced ? tro == DEFAULT_TRO || 54000ull * tro >= frame_lengths[rate]
+                   : tro != DEFAULT_TRO && 27000ull * tro >= frame_lengths[rate])
+        return 7;
     if (edition != EDITION_1 && edition != EDITION_2) return 8;
     return 0;
 }
@@ -79,9 +83,10 @@ INLINE void put64(uint8_t *b, uint64_t x)
     __builtin_memcpy(b, &x, 8);
 }
 
-/* What follows from the stream's numbers. */
+/* What follows from the stream's numbers. `packets` and `period` are of what a marker closes: a frame, or of an interlaced stream a
+   field, which is half a frame. All else is of n and the frame. */
 struct rules {
-    uint64_t n, frame, tro, read_den, c_max, vrx_full, spacing, drain_step, read_step;
+    uint64_t packets, period, tro, read_den, c_max, vrx_full, spacing, drain_step, read_step;
     int64_t read_num;
     uint32_t edition;
     int judged; /* whether a buffer is */
@@ -92,21 +97,22 @@ static struct rules rules_of(uint8_t rate, uint8_t schedule, uint8_t class, uint
 {
     struct rules r;
     r.edition = edition;
-    r.judged = profile == VIDEO;
-    r.n = n;
-    r.frame = frame_lengths[rate];
-    r.tro = tro != DEFAULT_TRO ? 27000ull * tro : height >= 1080 ? 43 * r.frame / 1125 : 28 * r.frame / 750;
-    r.read_num = (int64_t)(schedule == 0 ? 24 * r.frame : r.frame);
+    r.judged = profile != COMPRESSED;
+    const uint64_t frame = frame_lengths[rate], parts = profile == INTERLACED ? 2 : 1;
+    r.packets = n / parts;
+    r.period = frame / parts;
+    r.tro = tro != DEFAULT_TRO ? 27000ull * tro : height >= 1080 ? 43 * frame / 1125 : 28 * frame / 750;
+    r.read_num = (int64_t)(schedule == 0 ? 24 * frame : frame);
     r.read_den = schedule == 0 ? 25ull * n : n;
     if (class != WIDE) {
         uint64_t rate_of = SECOND / 43200 * n;
-        r.c_max = larger(4, (schedule == 0 ? rate_of * 25 / 24 : rate_of) / r.frame);
-        r.vrx_full = larger(12000 / maxudp, SECOND / 27000 * n / r.frame);
+        r.c_max = larger(4, (schedule == 0 ? rate_of * 25 / 24 : rate_of) / frame);
+        r.vrx_full = larger(12000 / maxudp, SECOND / 27000 * n / frame);
     } else {
-        r.c_max = larger(16, SECOND / 21600 * n / r.frame);
-        r.vrx_full = larger(1080000 / maxudp, SECOND / 300 * n / r.frame);
+        r.c_max = larger(16, SECOND / 21600 * n / frame);
+        r.vrx_full = larger(1080000 / maxudp, SECOND / 300 * n / frame);
     }
-    r.spacing = 10 * r.frame;
+    r.spacing = 10 * frame;
     r.drain_step = GRAINS * 11 * n;
     r.read_step = GRAINS * r.read_den;
     return r;
@@ -117,7 +123,7 @@ struct twin {
        that a packet costs one product and mostly no division. */
     uint64_t last, since, level, peak, packets, start, burst_first, burst_last;
     int burst;
-    /* The open frame. `ahead` is the time to the first read that has not been, times read_den; below 0 reads are due.
+    /* The open frame, or field. `ahead` is the time to the first read that has not been, times read_den; below 0 reads are due.
        `most` and `least` are of reads less place, over the frame's packets. */
     int begun;
     uint64_t closed, marked, held, first, phase;
@@ -160,11 +166,11 @@ INLINE void arrives(struct twin *w, const struct rules *r, uint64_t t, uint32_t 
     if (!w->begun) return;
 
     if (w->held == 0) {
-        uint64_t past = grains_mod(t, r->frame);
+        uint64_t past = grains_mod(t, r->period);
         w->first = t;
         w->stamp = stamp;
-        w->phase = past < r->frame - past ? past + r->frame : past; /* FPT and one frame */
-        w->ahead = ((int64_t)(r->tro + r->frame) - (int64_t)w->phase) * (int64_t)r->read_den;
+        w->phase = past < r->period - past ? past + r->period : past; /* FPT and one period */
+        w->ahead = ((int64_t)(r->tro + r->period) - (int64_t)w->phase) * (int64_t)r->read_den;
         w->reads = 0;
         w->most = INT64_MIN;
         w->least = INT64_MAX;
@@ -185,8 +191,8 @@ INLINE void arrives(struct twin *w, const struct rules *r, uint64_t t, uint32_t 
             w->reads += more;
             w->ahead += more * r->read_num;
         }
-        if (w->reads >= (int64_t)r->n) { /* no read is left in this frame */
-            w->reads = (int64_t)r->n;
+        if (w->reads >= (int64_t)r->packets) { /* no read is left in this frame */
+            w->reads = (int64_t)r->packets;
             w->ahead = INT64_MAX;
         }
     }
@@ -209,10 +215,10 @@ INLINE int64_t latency_of(uint64_t t, uint32_t stamp)
     return latency;
 }
 
-/* The frame that a marker closes: its eleven numbers, and the buffer's answer. */
+/* The frame, or field, that a marker closes: its eleven numbers, and the buffer's answer. */
 INLINE void row_of(struct twin *w, const struct rules *r, int64_t *row)
 {
-    int kind = w->held < r->n ? 1 : w->held > r->n ? 2 : w->differs >= 0 ? 3 : 0;
+    int kind = w->held < r->packets ? 1 : w->held > r->packets ? 2 : w->differs >= 0 ? 3 : 0;
     for (int k = 0; k < ROW; k++) row[k] = 0;
     row[0] = (int64_t)w->closed;
     row[1] = kind;
@@ -226,7 +232,7 @@ INLINE void row_of(struct twin *w, const struct rules *r, int64_t *row)
         }
         return;
     }
-    int64_t fpt = (int64_t)w->phase - (int64_t)r->frame;
+    int64_t fpt = (int64_t)w->phase - (int64_t)r->period;
     int64_t latency = latency_of(w->first, w->stamp);
     row[3] = fpt;
     row[4] = fpt - latency;

@@ -1,5 +1,5 @@
-/* vtiming: packet timing of one progressive ST 2110-20 video stream, or of a compressed one, ST 2110-22, for a host written in C
- * or C++.
+/* vtiming: packet timing of one ST 2110-20 video stream, progressive or interlaced, or of a compressed one, ST 2110-22, for a host
+ * written in C or C++.
  *
  * Link with libvtiming.a of the package (`pkg-config --cflags --libs vtiming`), or with the archives as `rt staticlib report`
  * and `rt staticlib film` make them, target/staticlib/libreport.a and libfilm.a, which has the functions of captures (x86-64
@@ -34,8 +34,10 @@
  *    3  the class is unknown or against the schedule                  1 is for schedule 0, 2 for 1; 3 and 0 are for either
  *    4  the height is 0                                               give the number of lines
  *    5  the packets per frame are not 1 to 20,000                     count the packets of a good frame
+ *       of an interlaced stream: or they are odd                      give those of both fields together
  *    6  MAXUDP is not 1460 or 8960                                    1460 is the standard limit, 8960 the extended one
  *    7  TRO is a frame long or longer                                 give it in microseconds, or VTIMING_DEFAULT_TRO
+ *       of an interlaced stream: half a frame or longer, or default   give it in microseconds, below half a frame
  *    8  the edition is not 1 or 2                                     give VTIMING_EDITION_1 or VTIMING_EDITION_2
  *   10  the three arrays differ in length                             lend as many of each
  *   11  a marker is above 1                                           it is one bit of the RTP header: lend 0 or 1
@@ -47,8 +49,8 @@
  *   20  the file is empty, or its version is neither 1 nor 2          it is no record file; to vtiming_write give 1 or 2
  *   21  a record is cut short, or its length is 0                     the file was cut off, or was damaged there
  *   22  a record is of an unknown kind, or its length is wrong        the file was damaged there, or is another format
- *       as an argument: the profile is neither 1 nor 3                give VTIMING_PROFILE_VIDEO or VTIMING_PROFILE_COMPRESSED
- *   23  the parameters do not come first, or come again               one parameter record, of kind 1 or 3, then packets only
+ *       as an argument: the profile is none of 1, 3 and 4             give one of VTIMING_PROFILE_.., below
+ *   23  the parameters do not come first, or come again               one parameter record, of kind 1, 3 or 4, then packets only
  *   24  too few bytes were lent to the writer                         lend 19 + 16 for each packet
  *   30  this is no classic pcap of Ethernet, or is below 24 bytes     save the capture as classic pcap (editcap -F nsecpcap)
  *   31  a capture record is cut short                                 the capture was cut off, or was damaged there
@@ -56,7 +58,8 @@
  *   33  the offset is above 99                                        37 for a capture clock of UTC, 0 for one of TAI
  *
  * vtiming_next_read gives 12 and 13 of a packet and the first packet of its frame. vtiming_measure and vtiming_capture alone
- * give 8. vtiming_measure gives 22 of a record, vtiming_write and vtiming_capture of the profile alone.
+ * give 8. vtiming_measure gives 22 of a record; vtiming_write, vtiming_capture, vtiming_limits and vtiming_next_read of the profile
+ * alone.
  *
  * Class 0 is the strict class of the schedule: narrow (1) on schedule 0, narrow linear (2) on schedule 1. So it is wherever a
  * class is given, and in a record file of version 2. A record file of version 1 alone keeps 0 as wide (3), as all did before
@@ -67,29 +70,51 @@
  * (kind 1, 2 or 3) fails the buffer too. Nothing but the buffer answer depends on it, numbers 6 to 8 of the summary. A record file
  * says nothing of an edition, and no answer does: a report should name the one that was given.
  *
- * The profile says what the stream is: 1 video (ST 2110-20), 3 compressed (ST 2110-22). That is the kind of the parameter record
- * which stands for it in a record file; what is neither 1 nor 3 is refused by 22. Of a compressed stream the network bucket is judged
- * as of video, and the frames are told and timed alike: kind, detail, FPT, RTP_OFFSET, VL, margin, GAP and first packet. No buffer is
- * judged, because the receiver buffer model does not apply to ST 2110-22 (RP 2110-25, clause 4.10.2): the buffer answer is always
- * VTIMING_BUFFER_NONE, so that numbers 6 to 8 of the summary are 0, and so are numbers 8 and 9 of every row. That holds under both
- * editions, and where frames are broken too. So none is no pass: it says that no buffer was judged. All seven numbers of the stream
- * must be given and are refused by the same rules, though MAXUDP then decides nothing, and height nothing but a default TRO. Profile,
- * edition, class and version are chosen each for itself.
+ * The profile says what the stream is: 1 video (ST 2110-20, progressive), 3 compressed (ST 2110-22), 4 interlaced (ST 2110-20, each
+ * marker closes a field). That is the kind of the parameter record which stands for it in a record file; any other is refused by 22.
+ * Profile, edition, class and version are chosen each for itself.
  *
- * What a program must change that was made for 4.0.0 or older: vtiming_write, vtiming_write_place, vtiming_capture and
- * vtiming_capture_place have the profile as an argument, right behind tro. Give VTIMING_PROFILE_VIDEO for the answers of before.
- * vtiming_measure and its twins are called as before, but know record files of kind 3, which they refused by 22: a program that
- * measures such a file must not take VTIMING_BUFFER_NONE for a pass. Then compile it again: the compiler names each call that lacks
- * the argument. In an object that is only linked again these calls are refused in practice, and nothing is written; nothing is
+ * Of a compressed stream the network bucket is judged as of video, and the frames are told and timed alike: kind, detail, FPT,
+ * RTP_OFFSET, VL, margin, GAP and first packet. No buffer is judged, because the receiver buffer model does not apply to ST 2110-22
+ * (RP 2110-25, clause 4.10.2): the buffer answer is always VTIMING_BUFFER_NONE, so that numbers 6 to 8 of the summary are 0, and so
+ * are numbers 8 and 9 of every row. That holds under both editions, and where frames are broken too. So none is no pass: it says
+ * that no buffer was judged. All seven numbers of the stream must be given and are refused by the same rules, though MAXUDP then
+ * decides nothing, and height nothing but a default TRO.
+ *
+ * Of an interlaced stream two fields make a frame. Rate and packets_per_frame, n, are those of whole frames, and n is even: a field
+ * has n/2 packets. TRO must be given, and is below half a frame; there is no default. All that is told and judged of a frame is then
+ * told and judged of a field, and where this page says frame of an answer, a field is meant: frames and rows are counted by fields,
+ * from 0. Field periods start at whole multiples of F/2, F being the frame. FPT and RTP_OFFSET are from the nearest of these starts,
+ * so that FPT is at least -F/4 and below F/4. The kinds are against n/2. A field has n/2 reads: the first comes TRO after the start of
+ * its period, the others follow as far apart as the reads of a frame of n packets. Some may come after the next field has begun: each
+ * field is judged by its own reads alone. C_MAX, VRX_FULL and the pace of the network bucket are those of n and the whole frame.
+ * Under edition 2 a broken field fails as a broken frame does. Height, which a default TRO alone depends on, decides nothing.
+ *
+ * What a program must change that was made for 5.0.0: vtiming_limits, vtiming_next_read and vtiming_capture_room have the profile as
+ * an argument, right behind tro: every function that is given the seven numbers is given it. Give VTIMING_PROFILE_VIDEO for the
+ * answers of before, of a compressed stream too. All other functions are called as before; but vtiming_measure and its twins know
+ * record files of kind 4, which they refused by 22: of such a file every row is a field's. Then compile it again: the compiler names
+ * each call that lacks the argument. In an object that is only linked again these calls are refused in practice, and nothing is
+ * written; nothing is promised of them. Its vtiming_capture_room hands over whatever stands behind its arguments as the profile: the
+ * room, or 0. Its vtiming_limits hands over the address of the answer as the profile. It is aligned to 8, so the low byte of it is no
+ * profile: 22. Its vtiming_next_read hands over `first` as
+ * the profile, of which the low byte may be anything: 22 in 253 of 256 cases. In the other three the arrival stands for `first`, and
+ * for the arrival the address of the answer, which is below 2^47 on x86-64 Linux. Two days after the epoch and later that is earlier
+ * than the arrival: 12, or 5 or 7 before it. Of an arrival nearer to the epoch nothing can be said: such a call may write anywhere.
+ *
+ * Made for 4.0.0 or older, it must change this too: vtiming_write, vtiming_write_place, vtiming_capture and vtiming_capture_place
+ * have the profile as an argument, right behind tro. Give VTIMING_PROFILE_VIDEO for the answers of before. vtiming_measure and its
+ * twins know record files of kind 3 too, which they refused by 22: a program that measures such a file must not take
+ * VTIMING_BUFFER_NONE for a pass. Only linked again, these calls too are refused in practice, and nothing is written; nothing is
  * promised of them. Its vtiming_write hands over the address of the arrivals as the profile. They are aligned to 8, so the low byte of
- * it is neither 1 nor 3: 22. Its vtiming_capture hands over the edition as the profile, and the address of the room as the edition.
+ * it is no profile: 22. Its vtiming_capture hands over the edition as the profile, and the address of the room as the edition.
  * Edition 2 is no profile: 22. Edition 1 is one, but the low 32 bits of an address are neither 1 nor 2 in practice: 8.
  *
  * Made for 3.0.0 or older, it must change this too: vtiming_measure, vtiming_measure_offset, vtiming_capture and
  * vtiming_capture_place have the edition as an argument, in front of the room. Give VTIMING_EDITION_1 for the answers of before; a
  * program that gives VTIMING_EDITION_2 must know 4, VTIMING_BUFFER_BROKEN, in number 6. Only linked again, it too is refused in
  * practice: vtiming_measure has the address of the room as the edition, 8; vtiming_capture has it as the profile and the room's length
- * as the edition, 22 or 8.
+ * as the edition: 22, or 8, or 5 or 7 before it.
  *
  * Made for 2.3.0 or older, it must change this too: vtiming_write and vtiming_write_place have the version as their first argument;
  * give them VTIMING_RECORD_VERSION. Where the program gives class 0 and means wide, give 3.
@@ -110,12 +135,12 @@ extern "C" {
 #endif
 
 /* The version of this header and of the archive that it belongs to. */
-#define VTIMING_VERSION "5.0.0"
-#define VTIMING_VERSION_MAJOR 5
+#define VTIMING_VERSION "6.0.0"
+#define VTIMING_VERSION_MAJOR 6
 #define VTIMING_VERSION_MINOR 0
 #define VTIMING_VERSION_PATCH 0
 
-/* A TRO of all ones stands for the default: 43F/1125 from height 1080 on, 28F/750 below. */
+/* A TRO of all ones stands for the default: 43F/1125 from height 1080 on, 28F/750 below. An interlaced stream has none. */
 #define VTIMING_DEFAULT_TRO UINT32_C(0xFFFFFFFF)
 
 /* Room for vtiming_measure: the summary, and a row for each frame that closes. vtiming_measure_room adds them up. Or without
@@ -180,11 +205,13 @@ enum vtiming_edition {
     VTIMING_EDITION_2 = 2
 };
 
-/* The profile of a stream: what vtiming_write and vtiming_capture are told, and the kind of a record file's parameter record. Of a
- * compressed stream no buffer is judged. The functions take uint8_t, and the names are given as they are. */
+/* The profile of a stream: what every function is told that is given the seven numbers of a stream, and the kind of a record
+ * file's parameter record. Of a compressed stream no buffer is judged; of an interlaced one every row is a field's. The
+ * functions take uint8_t, and the names are given as they are. */
 enum vtiming_profile {
     VTIMING_PROFILE_VIDEO = 1,
-    VTIMING_PROFILE_COMPRESSED = 3
+    VTIMING_PROFILE_COMPRESSED = 3,
+    VTIMING_PROFILE_INTERLACED = 4
 };
 
 /* The kind of a frame: number 1 of its row. It is also number 8 of the summary where number 6 is VTIMING_BUFFER_BROKEN. */
@@ -212,7 +239,7 @@ enum vtiming_buffer_answer {
 };
 
 /* Measures a whole record file, of version 1 or 2. The file itself says the profile: video where its parameter record is of kind 1,
- * compressed where it is of kind 3.
+ * compressed where it is of kind 3, interlaced where it is of kind 4.
  *
  *   file, file_len   the file's bytes, all of them
  *   edition          VTIMING_EDITION_1 or VTIMING_EDITION_2
@@ -230,7 +257,7 @@ enum vtiming_buffer_answer {
  *   8                under: the first packet that came too late, from 0 in its frame; over: the buffer's peak; broken: the
  *                    frame's kind, 1 to 3; else 0
  *
- * and then a row of eleven for each frame:
+ * and then a row of eleven for each frame, of an interlaced stream for each field:
  *
  *   0  frame         its number, from 0
  *   1  kind          0 whole, 1 short, 2 long, 3 stamp
@@ -272,7 +299,7 @@ uint64_t vtiming_measure_room(const uint8_t *file, size_t file_len);
  *   offset           whole seconds, 0 to 99, that are added to each time of the capture so that it counts from the SMPTE
  *                    epoch: 37 for a clock that shows UTC (since 2017), 0 for one that shows TAI
  *   rate to tro      the seven numbers of the stream, as vtiming_write has them; class 0 is 1 on schedule 0, 2 on schedule 1
- *   profile          VTIMING_PROFILE_VIDEO or VTIMING_PROFILE_COMPRESSED: a capture does not say it
+ *   profile          VTIMING_PROFILE_VIDEO, VTIMING_PROFILE_COMPRESSED or VTIMING_PROFILE_INTERLACED: a capture does not say it
  *   edition          VTIMING_EDITION_1 or VTIMING_EDITION_2, as of vtiming_measure; of a compressed stream too, though both then
  *                    give the same answer
  *   out, out_len     room for the answer: 88 bytes and 88 for each frame that closes; vtiming_capture_room says how many
@@ -292,7 +319,7 @@ uint64_t vtiming_measure_room(const uint8_t *file, size_t file_len);
  * So number j of row r is 11 + 11·r + j of all. Packets are counted among those of the stream, from 0, and not among the
  * records: a row's last number too.
  *
- * Refuses by 22 first of all, where the profile is neither 1 nor 3; by 1 to 7, then by 8; then by 33, also where the capture is
+ * Refuses by 22 first of all, where the profile is none of the three; by 1 to 7, then by 8; then by 33, also where the capture is
  * empty; by 30; record by record by 31, 32 (of skipped records too) and 12 to 14; and by 15 after all else. 11 cannot come: the
  * marker is one bit. A capture of no record, or of skipped ones only, is accepted. */
 uint32_t vtiming_capture(const uint8_t *capture, size_t capture_len, uint16_t port, uint32_t offset, uint8_t rate,
@@ -306,11 +333,11 @@ uint64_t vtiming_capture_place(const uint8_t *capture, size_t capture_len, uint1
                                uint16_t maxudp, uint32_t tro, uint8_t profile, uint32_t edition, size_t out_len);
 
 /* How many bytes vtiming_capture fills for this capture and these numbers: 88 and 88 for each frame that closes; one byte
- * fewer would be refused by 15. It is 0 for a capture that vtiming_capture refuses whatever is lent, under both editions and of
- * both profiles: it is told neither, since the room is the same. */
+ * fewer would be refused by 15. It is 0 for a capture that vtiming_capture refuses whatever is lent, under both editions: it is told
+ * none, since the room is the same. */
 uint64_t vtiming_capture_room(const uint8_t *capture, size_t capture_len, uint16_t port, uint32_t offset, uint8_t rate,
                               uint8_t schedule, uint8_t stream_class, uint16_t height, uint32_t packets_per_frame,
-                              uint16_t maxudp, uint32_t tro);
+                              uint16_t maxudp, uint32_t tro, uint8_t profile);
 
 /* Number k, from 0, of what vtiming_measure or vtiming_capture has filled; k is below 9 + 11·frames, or 11 + 11·frames. It is
  * C of this header, and is tried but not proved. */
@@ -331,18 +358,20 @@ static inline int64_t vtiming_number(const uint8_t *answer, size_t k)
  *   stream_class     1 narrow, 2 narrow linear, 3 wide; 0, which is written as 0, is 1 on schedule 0 and 2 on schedule 1, or in a
  *                    file of version 1 is 3
  *   height           lines of the picture, 1 to 65,535
- *   packets_per_frame  1 to 20,000
+ *   packets_per_frame  1 to 20,000; of an interlaced stream those of both fields together, an even number
  *   maxudp           1460 or 8960
- *   tro              whole microseconds, less than a frame; or VTIMING_DEFAULT_TRO
- *   profile          VTIMING_PROFILE_VIDEO or VTIMING_PROFILE_COMPRESSED: written as the kind of the parameter record, 1 or 3
+ *   tro              whole microseconds, less than a frame; or VTIMING_DEFAULT_TRO. Of an interlaced stream whole microseconds, less
+ *                    than half a frame, and nothing else
+ *   profile          VTIMING_PROFILE_VIDEO, VTIMING_PROFILE_COMPRESSED or VTIMING_PROFILE_INTERLACED: written as the kind of the
+ *                    parameter record, 1, 3 or 4
  *   arrivals         of each packet, nanoseconds since the SMPTE epoch
  *   stamps           RTP timestamps
  *   markers          0 or 1
  *   out, out_len     room for the file: 19 bytes and 16 for each packet
  *
- * Refuses by 20 first of all, then by 22 where the profile is neither 1 nor 3, then by 1 to 7, 10, then packet by packet 11 to 14,
- * then 24. Nothing else depends on the profile: of both the file has the same length, and the same bytes but the kind. What it
- * writes, vtiming_measure accepts under either edition, given room. */
+ * Refuses by 20 first of all, then by 22 where the profile is none of the three, then by 1 to 7, 10, then packet by packet 11 to 14,
+ * then 24. Nothing but 5 and 7 depends on the profile: the file has the same length, and the same bytes but the kind. What it writes,
+ * vtiming_measure accepts under either edition, given room. */
 uint32_t vtiming_write(uint8_t version, uint8_t rate, uint8_t schedule, uint8_t stream_class, uint16_t height,
                        uint32_t packets_per_frame, uint16_t maxudp, uint32_t tro, uint8_t profile, const uint64_t *arrivals,
                        size_t arrival_count, const uint32_t *stamps, size_t stamp_count, const uint8_t *markers,
@@ -356,35 +385,42 @@ uint64_t vtiming_write_place(uint8_t version, uint8_t rate, uint8_t schedule, ui
 
 /* What follows from the seven numbers of a stream, which are those of vtiming_write; class 0 is 1 on schedule 0, 2 on schedule
  * 1. Fills four numbers: F, the length of a frame in grains; TRO in grains; C_MAX, the most packets that the network bucket may
- * hold; VRX_FULL, the most that the receiver's buffer holds. It is told no profile: the four follow from the seven alone, and of a
- * compressed stream VRX_FULL is not used. out_len counts numbers. Refuses by 1 to 7, then by 15 where there is room for fewer than
- * four. */
+ * hold; VRX_FULL, the most that the receiver's buffer holds. Of every profile that accepts the seven numbers the four are the same: of
+ * an interlaced stream F is the whole frame too, and C_MAX and VRX_FULL are those of all its packets; of a compressed one VRX_FULL is
+ * not used. The profile decides what is refused. out_len counts numbers. Refuses by 22 first of all, where the profile is none of the
+ * three; by 1 to 7, as the profile has them; then by 15 where there is room for fewer than four. */
 uint32_t vtiming_limits(uint8_t rate, uint8_t schedule, uint8_t stream_class, uint16_t height, uint32_t packets_per_frame,
-                        uint16_t maxudp, uint32_t tro, uint64_t *out, size_t out_len);
+                        uint16_t maxudp, uint32_t tro, uint8_t profile, uint64_t *out, size_t out_len);
 
 /* How long the receiver still waits, from a packet on, until it reads again: for a graph, packet by packet.
  *
  *   rate to tro      the seven numbers of the stream, as vtiming_write has them; class 0 is 1 on schedule 0, 2 on schedule 1
- *   first            arrival of the first packet of the packet's frame: it fixes the reads of the frame
+ *   profile          VTIMING_PROFILE_VIDEO or VTIMING_PROFILE_INTERLACED
+ *   first            arrival of the first packet of the packet's frame, or field: it fixes the reads of the frame or field
  *   arrival          arrival of the packet itself; both in nanoseconds since the SMPTE epoch
  *   out, out_len     room for three numbers; out_len counts numbers
  *
  * Fills:
  *
- *   0  left          1 where a read of the frame is still to come, 0 where none is left
+ *   0  left          1 where a read of the frame or field is still to come, 0 where none is left
  *   1  numerator     of the grains from the packet to the next read; 0 where that read is at the packet's own arrival
- *   2  denominator   of these grains: 25·n for gapped, n for linear, n being packets_per_frame
+ *   2  denominator   of these grains: 25·n for gapped, n for linear, n being packets_per_frame, of an interlaced stream too
  *
  * The fraction is exact and not reduced; over 27 it is nanoseconds. Where no read is left, numbers 1 and 2 are 0, which is no
  * fraction: the next frame's reads are not meant. The numerator is at most 844,589,250,000,000, so that int64_t holds it, and from
  * the frame's first read on it is below 24·F for gapped and F for linear. The frame need not be whole, nor closed. The packets up
- * to the first marker are in no frame: for these there is nothing to ask. Nor is there of a compressed stream, which has no reads; so
- * no profile is told here.
+ * to the first marker are in no frame: for these there is nothing to ask.
  *
- * Refuses by 1 to 7, then by 12 where the packet comes before the frame's first, by 13 where it comes more than 600 s after it,
- * and then by 15 where there is room for fewer than three. */
+ * Of an interlaced stream a field has n/2 reads, and the next field's are not meant, though they may come before the field's last. A
+ * compressed stream has no reads, so there is nothing to ask; VTIMING_PROFILE_COMPRESSED is taken, and answered as
+ * VTIMING_PROFILE_VIDEO is.
+ *
+ * Refuses by 22 first of all, where the profile is none of the three; by 1 to 7, as the profile has them; then by 12 where the packet
+ * comes before the frame's first, by 13 where it comes more than 600 s after it, and then by 15 where there is room for fewer than
+ * three. */
 uint32_t vtiming_next_read(uint8_t rate, uint8_t schedule, uint8_t stream_class, uint16_t height, uint32_t packets_per_frame,
-                           uint16_t maxudp, uint32_t tro, uint64_t first, uint64_t arrival, uint64_t *out, size_t out_len);
+                           uint16_t maxudp, uint32_t tro, uint8_t profile, uint64_t first, uint64_t arrival, uint64_t *out,
+                           size_t out_len);
 
 /* Three figures of a row for a graph: FPT, margin and VL, taken in grains, come out as microseconds. n counts doubles.
  * Refuses by 16, which is given for no figures of a row, then by 15 where there is room for fewer than three. */
