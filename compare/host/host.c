@@ -47,7 +47,7 @@ struct bytes {
 };
 
 struct numbers {
-    uint8_t rate, schedule, stream_class, profile; /* the profile where the call takes one */
+    uint8_t rate, schedule, stream_class, profile;
     uint16_t height, maxudp;
     uint32_t packets_per_frame, tro;
 };
@@ -139,8 +139,8 @@ static void show_feed(void) {
 /* Of the calls that take an edition: feed by its set-up. */
 static int takes_edition(int call) { return call == MEASURE || call == SET_UP || call == FEED || call == CAPTURE; }
 
-/* And of those that take a profile. A file has its own. */
-static int takes_profile(int call) { return call == WRITE || call == SET_UP || call == FEED || call == CAPTURE; }
+/* And of those that take a profile, as all do that take stream numbers. A file has its own. */
+static int takes_profile(int call) { return call != MEASURE && call != GRAPH; }
 
 static _Noreturn void differs(const char *format, ...) {
     va_list rest;
@@ -159,7 +159,7 @@ static _Noreturn void differs(const char *format, ...) {
     if (now.call == WRITE) printf("  version %u\n", now.version);
     if (takes_edition(now.call)) printf("  edition %" PRIu32 "\n", now.edition);
     if (takes_profile(now.call)) printf("  profile %u\n", now.numbers.profile);
-    if (now.call == WRITE || now.call == LIMITS || now.call >= SET_UP) show_numbers();
+    if (takes_profile(now.call)) show_numbers();
     if (now.call == CAPTURE) printf("  port %u, offset %" PRIu32 "\n", now.port, now.offset);
     if (now.call == WRITE || now.call == FEED)
         printf("  %zu arrivals, %zu stamps, %zu markers\n", now.arrival_count, now.stamp_count, now.markers.count);
@@ -242,7 +242,6 @@ static void *pointer(const struct lent *lent) { return lent->size == 0 && (turn 
 
 static uint64_t cases[CALLS], calls_made, seen[CALLS][NUMBERS], accepted_room[2], refused_room[3];
 static uint64_t round_trips, cuttings, large_rooms, with_skipped, with_part[4];
-static uint64_t read_left, read_now, read_over; /* a read is to come, comes at the packet's own arrival, or none is left */
 
 /* A number of an answer, or of a row. */
 static uint64_t number_of(const uint8_t *numbers, int k) { return big_endian(numbers + 8 * k, 8); }
@@ -256,13 +255,25 @@ static unsigned version_now(void) {
     return version <= 2 ? version : 0;
 }
 
-/* The profile of an accepted case: a file's is the kind of its parameters. */
-static int is_compressed(void) {
-    return (now.call == MEASURE ? now.file.at[FIRST_KIND] : now.numbers.profile) == VTIMING_PROFILE_COMPRESSED;
+/* The profiles as they are counted. One that there is not counts as video. */
+enum { VIDEO, COMPRESSED, INTERLACED, PROFILES };
+static const uint8_t profile_kinds[PROFILES] = {VTIMING_PROFILE_VIDEO, VTIMING_PROFILE_COMPRESSED, VTIMING_PROFILE_INTERLACED};
+static const char *const as_profile[PROFILES] = {"", " as compressed", " as interlaced"};
+
+static unsigned counted_as(uint8_t kind) {
+    for (unsigned i = 0; i < PROFILES; i++)
+        if (profile_kinds[i] == kind) return i;
+    return VIDEO;
+}
+
+/* The profile of a case: a file's is the kind of its first record, which is one of parameters if the file is accepted. */
+static unsigned profile_now(void) {
+    if (now.call == MEASURE) return now.file.count > FIRST_KIND ? counted_as(now.file.at[FIRST_KIND]) : VIDEO;
+    return counted_as(now.numbers.profile);
 }
 
 /* What the answers said, of files, of captures and of lists that are fed. */
-enum { EDITIONS = 2, BUFFERS = 5, KINDS = 4, PROFILES = 2, VERSIONS = 3 };
+enum { EDITIONS = 2, BUFFERS = 5, KINDS = 4, VERSIONS = 3 };
 static struct said {
     uint64_t kinds[KINDS], networks[2], buffers[EDITIONS][BUFFERS], placed_broken;
     uint64_t broken_of[KINDS], broken_later; /* by the broken frame's kind; after a whole one */
@@ -272,6 +283,8 @@ static struct said {
     uint64_t same[BUFFERS];                  /* by both editions so */
     uint64_t compressed[EDITIONS][BUFFERS];  /* none as compressed, and so as video by the same edition */
     uint64_t compressed_kinds[KINDS];
+    uint64_t interlaced[EDITIONS][BUFFERS], interlaced_kinds[KINDS];
+    uint64_t interlaced_alone[EDITIONS]; /* another answer than as video by the same edition */
     struct answer {
         uint64_t index, numbers[9];
         int known;
@@ -279,7 +292,7 @@ static struct said {
 } of_files, of_captures, of_feeds;
 
 /* The answer to the same input as video, by an edition; none where that was not tried. An input's cases come one after the other
-   and have its index, those as video before those as compressed. */
+   and have its index, those as video before those as any other profile. */
 static const struct answer *answer_of_video(const struct said *said, unsigned edition) {
     const struct answer *answer = &said->video[edition][version_now()];
     return answer->known && answer->index == now.index ? answer : NULL;
@@ -305,6 +318,17 @@ static void count_compressed(struct said *said, const uint8_t *nine, const uint8
     said->compressed[second][video->numbers[6] < BUFFERS ? video->numbers[6] : 0]++;
 }
 
+/* A row is a field's, and closes where as video a frame's does; the bucket is that of the whole frame, and the same as video. */
+static void count_interlaced(struct said *said, const uint8_t *nine, const uint8_t *rows, unsigned second) {
+    const struct answer *video = answer_of_video(said, second);
+    uint64_t buffer = number_of(nine, 6);
+    said->interlaced[second][buffer < BUFFERS ? buffer : 0]++;
+    for (uint64_t i = 0; i < number_of(nine, 1); i++) said->interlaced_kinds[number_of(rows + ROW_BYTES * i, 1) % KINDS]++;
+    if (!video) return;
+    numbers_are(nine, video, "as video");
+    said->interlaced_alone[second] += video->numbers[6] != buffer;
+}
+
 /* What edition 2 alone says, and what both editions say of one input: all but the buffer answer is the same. */
 static void count_second(struct said *said, const uint8_t *nine, uint64_t broken_after) {
     uint64_t frames = number_of(nine, 1), buffer = number_of(nine, 6), frame = number_of(nine, 7);
@@ -322,9 +346,9 @@ static void count_second(struct said *said, const uint8_t *nine, uint64_t broken
 static void count_answer(struct said *said, const uint8_t *nine, const uint8_t *rows) {
     uint64_t frames = number_of(nine, 1), buffer = number_of(nine, 6), frame = number_of(nine, 7), broken_after = 0;
     unsigned second = now.edition == VTIMING_EDITION_2;
-    if (is_compressed()) {
-        count_compressed(said, nine, rows, second);
-        return;
+    switch (profile_now()) {
+    case COMPRESSED: count_compressed(said, nine, rows, second); return;
+    case INTERLACED: count_interlaced(said, nine, rows, second); return;
     }
     said->networks[number_of(nine, 3) & 1]++;
     said->buffers[second][buffer < BUFFERS ? buffer : 0]++;
@@ -347,11 +371,17 @@ static void count_capture(struct bytes answer) {
     for (int i = 0; i < 4; i++) with_part[i] += now.parts >> i & 1;
 }
 
+/* By profile: none is left, a read is to come, or comes at the packet's own arrival. */
+enum { READ_OVER, READ_LEFT, READ_NOW, WAITS };
+static uint64_t next_reads[PROFILES][WAITS];
+
 static void count_next_read(struct bytes answer) {
-    if (!big_endian(answer.at, 8)) read_over++;
-    else if (big_endian(answer.at + 8, 8)) read_left++;
-    else read_now++;
+    int which = !big_endian(answer.at, 8) ? READ_OVER : big_endian(answer.at + 8, 8) ? READ_LEFT : READ_NOW;
+    next_reads[profile_now()][which]++;
 }
+
+/* Cases that some room is enough for. */
+static uint64_t accepted_as[CALLS][PROFILES];
 
 /* Class 0 where it was accepted, by profile, by the file's version, which is 0 without a file, and by schedule. */
 static uint64_t class_0[CALLS][PROFILES][VERSIONS][2];
@@ -376,15 +406,16 @@ static void count_meaning(struct meaning *meaning, struct bytes answer, unsigned
 /* Of an accepted case. A file's parameters come after its version and their length: kind, rate, schedule, class. */
 static void count_class_0(void) {
     const uint8_t *file = now.file.at;
-    unsigned version = version_now(), compressed = is_compressed();
+    unsigned version = version_now(), profile = profile_now();
     unsigned schedule = now.call == MEASURE ? file[5] : now.numbers.schedule;
     unsigned stream_class = now.call == MEASURE ? file[6] : now.numbers.stream_class;
     if (stream_class != 0 || schedule > 1) return;
-    class_0[now.call][compressed][version][schedule]++;
-    /* As compressed a file comes in either version by either edition, and neither answer depends on that. */
-    if (now.call == MEASURE && (compressed || now.edition == VTIMING_EDITION_1))
-        count_meaning(&as_read[compressed], now.filled, version, schedule);
-    if (now.call == WRITE) count_meaning(&as_written[compressed], now.measured, version, schedule);
+    class_0[now.call][profile][version][schedule]++;
+    /* As no video a file comes in either version by either edition. No burst depends on that, and as long as every frame passes no
+       frame that is over does. */
+    if (now.call == MEASURE && (profile != VIDEO || now.edition == VTIMING_EDITION_1))
+        count_meaning(&as_read[profile], now.filled, version, schedule);
+    if (now.call == WRITE) count_meaning(&as_written[profile], now.measured, version, schedule);
 }
 
 /* Versions that there are not, as cases have them for every fixed input. */
@@ -406,7 +437,7 @@ static void count_version(void) {
    is given before 8 or before 22, and what is not given since 8 or 22 is. That is what the same input was given just before, as
    video by edition 1. */
 static const uint32_t other_editions[] = {0, 3, 255, UINT32_MAX};
-static const uint8_t other_profiles[] = {0, 2, 4, 255};
+static const uint8_t other_profiles[] = {0, 2, 5, 255};
 #define OTHER_EDITIONS (sizeof other_editions / sizeof *other_editions)
 #define OTHER_PROFILES (sizeof other_profiles / sizeof *other_profiles)
 static uint64_t with_edition[CALLS][OTHER_EDITIONS], before_8[CALLS][NUMBERS], after_8[CALLS][NUMBERS];
@@ -430,8 +461,7 @@ static int edition_known(void) {
 }
 
 static int profile_known(void) {
-    uint8_t profile = now.numbers.profile;
-    return !takes_profile(now.call) || profile == VTIMING_PROFILE_VIDEO || profile == VTIMING_PROFILE_COMPRESSED;
+    return !takes_profile(now.call) || profile_kinds[counted_as(now.numbers.profile)] == now.numbers.profile;
 }
 
 /* What the same input was given as usual has not come to. */
@@ -460,14 +490,24 @@ static void count_profile(void) {
     }
 }
 
-/* Of every case of a call that takes an edition or a profile. */
+/* Refused as interlaced by 5 or by 7, and accepted as video. */
+static uint64_t refused_alone[CALLS][2];
+
+/* Where the input is a list that is fed as video, it has been accepted and has no rooms. */
+static void count_alone(void) {
+    const struct usual *same = as_usual();
+    if (profile_now() != INTERLACED || same->index != now.index || (same->count && same->numbers[0])) return;
+    refused_alone[now.call][0] += refused_by(VTIMING_REFUSED_PACKETS_PER_FRAME);
+    refused_alone[now.call][1] += refused_by(VTIMING_REFUSED_TRO);
+}
+
+/* Of every case of a call that takes an edition or a profile, or a file, which has one. */
 static void count_others(void) {
     if (!profile_known()) {
         count_profile();
     } else if (!edition_known()) {
         count_edition();
-    } else if ((!takes_edition(now.call) || now.edition == VTIMING_EDITION_1) &&
-               (!takes_profile(now.call) || now.numbers.profile == VTIMING_PROFILE_VIDEO)) {
+    } else if ((!takes_edition(now.call) || now.edition == VTIMING_EDITION_1) && profile_now() == VIDEO) {
         struct usual *same = as_usual();
         same->index = now.index, same->count = now.room_count, same->filled = now.filled.count;
         for (unsigned i = 0; i < now.room_count; i++) same->numbers[i] = now.rooms[i].number;
@@ -475,8 +515,9 @@ static void count_others(void) {
 }
 
 /* Files refused by their records' kinds: parameters again by the kind of the first and of the second, at once or after packets;
-   known kinds of a wrong length; and kind 4. */
-static uint64_t again[PROFILES][PROFILES][2], wrong_length[4], kind_4;
+   known kinds of a wrong length; and the first kind that there is not. */
+enum { NO_KIND = 5 };
+static uint64_t again[PROFILES][PROFILES][2], wrong_length[NO_KIND], of_no_kind;
 
 static void count_kind(void) {
     const uint8_t *file = now.file.at;
@@ -484,9 +525,9 @@ static void count_kind(void) {
     if (place + 3 > now.file.count) return; /* a lone version byte */
     uint8_t kind = file[place + 2];
     if (refused_by(VTIMING_REFUSED_PARAMETERS) && place > 1)
-        again[file[FIRST_KIND] == VTIMING_PROFILE_COMPRESSED][kind == VTIMING_PROFILE_COMPRESSED][place > SECOND_RECORD]++;
-    if (refused_by(VTIMING_REFUSED_KIND) && kind > 0 && kind < 4) wrong_length[kind]++;
-    kind_4 += refused_by(VTIMING_REFUSED_KIND) && kind == 4 && big_endian(file + place, 2) == PARAMETERS;
+        again[counted_as(file[FIRST_KIND])][counted_as(kind)][place > SECOND_RECORD]++;
+    if (refused_by(VTIMING_REFUSED_KIND) && kind > 0 && kind < NO_KIND) wrong_length[kind]++;
+    of_no_kind += refused_by(VTIMING_REFUSED_KIND) && kind == NO_KIND && big_endian(file + place, 2) == PARAMETERS;
 }
 
 static void count_room(const struct room *room, uint64_t needed) {
@@ -574,7 +615,7 @@ static void limits(const struct room *room, int fill) {
     uint8_t wanted[64];
     struct lent out = lend(OUT, 8 * room->lent, NULL, fill);
     at_step = "vtiming_limits";
-    answers(vtiming_limits(SEVEN(n), pointer(&out), room->lent), room->number, "number");
+    answers(vtiming_limits(EIGHT(n), pointer(&out), room->lent), room->number, "number");
     room_holds(&out, room->number ? (struct bytes){NULL, 0} : turned_round(now.filled, wanted));
 }
 
@@ -591,7 +632,7 @@ static void next_read(const struct room *room, int fill) {
     uint8_t wanted[64];
     struct lent out = lend(OUT, 8 * room->lent, NULL, fill);
     at_step = "vtiming_next_read";
-    answers(vtiming_next_read(SEVEN(n), now.first, now.arrival, pointer(&out), room->lent), room->number, "number");
+    answers(vtiming_next_read(EIGHT(n), now.first, now.arrival, pointer(&out), room->lent), room->number, "number");
     room_holds(&out, room->number ? (struct bytes){NULL, 0} : turned_round(now.filled, wanted));
 }
 
@@ -712,11 +753,11 @@ static void go_on(const uint64_t *after) {
 
 /* --- rooms near the greatest size: the twins take only the number, and answer as for any ample room --- */
 
-/* The functions that say the room take no edition and no profile, and say it of those that there are not as of the others. Where
-   the case that has it was not tried, as of a case that is tried again, any room will do. */
+/* The functions that say the room take no edition, and say it of those that there are not as of the others. It is the same of every
+   profile that is accepted. Where the case that has it was not tried, as of a case that is tried again, any room will do. */
 static void says_room(uint64_t got) {
     const struct usual *same = as_usual();
-    int elsewhere = !profile_known() || refused_by(VTIMING_REFUSED_EDITION), tried = same->count && same->index == now.index;
+    int elsewhere = refused_by(VTIMING_REFUSED_EDITION), tried = same->count && same->index == now.index;
     if (!elsewhere || tried) answers(got, elsewhere ? same->filled : now.filled.count, "room for the answer");
 }
 
@@ -750,7 +791,7 @@ static void ample_rooms(int fill) {
             answers(vtiming_capture_place(pointer(&in), in.size, now.port, now.offset, EIGHT(n), now.edition, large[i]), wanted,
                     "place with ample room");
         at_step = "vtiming_capture_room";
-        says_room(vtiming_capture_room(pointer(&in), in.size, now.port, now.offset, SEVEN(n)));
+        says_room(vtiming_capture_room(pointer(&in), in.size, now.port, now.offset, EIGHT(n)));
         unchanged(&in, now.file.at, "the capture");
     }
 }
@@ -826,8 +867,8 @@ static void try_case(void) {
     if (now.call == MEASURE) count_kind();
     if (now.call == CAPTURE && now.filled.count) count_capture(now.filled);
     if (now.call == NEXT_READ && now.filled.count) count_next_read(now.filled);
-    if (accepted()) count_class_0();
-    if (takes_edition(now.call) || takes_profile(now.call)) count_others();
+    if (accepted() && now.call != GRAPH) count_class_0(), accepted_as[now.call][profile_now()]++;
+    if (now.call != GRAPH) count_alone(), count_others();
     if (refused_by(VTIMING_REFUSED_VERSION)) count_version();
     at_step = "reading";
 }
@@ -849,6 +890,7 @@ static uint64_t take_number(int width) { return big_endian(take(width), width); 
 
 static struct bytes take_bytes(size_t count) { return (struct bytes){take(count), count}; }
 
+/* The seven, and the profile. */
 static void take_numbers(void) {
     struct numbers *n = &now.numbers;
     n->rate = take_number(1);
@@ -858,12 +900,12 @@ static void take_numbers(void) {
     n->packets_per_frame = take_number(4);
     n->maxudp = take_number(2);
     n->tro = take_number(4);
+    n->profile = take_number(1);
 }
 
 /* The seven numbers, the profile and the edition. */
 static void take_stream(void) {
     take_numbers();
-    now.numbers.profile = take_number(1);
     now.edition = take_number(4);
 }
 
@@ -939,7 +981,7 @@ static int next_case(void) {
     at_room = now.room_count = 0;
     switch (now.call) {
     case MEASURE: now.edition = take_number(4), now.file = take_bytes(take_number(4)); break;
-    case WRITE: now.version = take_number(1), take_numbers(), now.numbers.profile = take_number(1), take_lists(); break;
+    case WRITE: now.version = take_number(1), take_numbers(), take_lists(); break;
     case LIMITS: take_numbers(); break;
     case SET_UP: take_stream(); break;
     case GRAPH:
@@ -1007,6 +1049,10 @@ static void tell_answers(const char *what, const struct said *said) {
     printf("\n    none as compressed, and as video by edition 1:"), tell_buffers(said->compressed[0], VTIMING_BUFFER_OVER);
     printf("; by edition 2:"), tell_buffers(said->compressed[1], VTIMING_BUFFER_BROKEN);
     printf("; its rows:"), tell_kinds(said->compressed_kinds);
+    printf("\n    as interlaced, by edition 1:"), tell_buffers(said->interlaced[0], VTIMING_BUFFER_OVER);
+    printf("; by edition 2:"), tell_buffers(said->interlaced[1], VTIMING_BUFFER_BROKEN);
+    printf("; otherwise than as video, by edition"), told("1:", said->interlaced_alone[0]), told("2:", said->interlaced_alone[1]);
+    printf("; its rows:"), tell_kinds(said->interlaced_kinds);
     printf("\n");
 }
 
@@ -1016,12 +1062,12 @@ static void tell_schedules(const char *what, const uint64_t by_schedule[2]) {
 
 /* As compressed nothing is over. */
 static void tell_meaning(const char *what, int call, const struct meaning meanings[PROFILES]) {
-    for (int compressed = 0; compressed < PROFILES; compressed++) {
-        const struct meaning *meaning = &meanings[compressed];
-        printf("    %s%s ", what, compressed ? " as compressed" : "");
-        tell_schedules("in version 1", class_0[call][compressed][1]), tell_schedules("; in 2", class_0[call][compressed][2]);
+    for (int profile = 0; profile < PROFILES; profile++) {
+        const struct meaning *meaning = &meanings[profile];
+        printf("    %s%s ", what, as_profile[profile]);
+        tell_schedules("in version 1", class_0[call][profile][1]), tell_schedules("; in 2", class_0[call][profile][2]);
         tell_schedules("; pass in 1 and burst in 2", meaning->bursts);
-        if (!compressed) tell_schedules("; pass in 1 and over in 2", meaning->overflows);
+        if (profile != COMPRESSED) tell_schedules("; pass in 1 and over in 2", meaning->overflows);
         printf("\n");
     }
 }
@@ -1033,8 +1079,9 @@ static void tell_versions(void) {
     printf("  class 0 accepted\n");
     for (size_t i = 0; i < sizeof without_file / sizeof *without_file; i++) {
         int call = without_file[i];
-        printf(i ? "; " : "    "), tell_schedules(call_names[call], class_0[call][0][0]);
-        if (takes_profile(call)) tell_schedules(", as compressed", class_0[call][1][0]);
+        printf(i ? "; " : "    "), tell_schedules(call_names[call], class_0[call][VIDEO][0]);
+        for (int profile = VIDEO + 1; profile < PROFILES; profile++)
+            printf(","), tell_schedules(as_profile[profile], class_0[call][profile][0]);
     }
     printf("\n");
     tell_meaning("files", MEASURE, as_read), tell_meaning("written", WRITE, as_written);
@@ -1056,7 +1103,7 @@ static void tell_edition(int call, const char *before, const char *after) {
 }
 
 static void tell_profile(int call, const char *before, const char *after) {
-    static const char *const names[OTHER_PROFILES] = {"profile 0", "profile 2", "profile 4", "profile 255"};
+    static const char *const names[OTHER_PROFILES] = {"profile 0", "profile 2", "profile 5", "profile 255"};
     printf("    %s", call_names[call]);
     for (size_t i = 0; i < OTHER_PROFILES; i++) told(names[i], with_profile[call][i]);
     if (*before) printf("; not where"), tell_each(before_22[call], before), printf(" is given");
@@ -1064,21 +1111,50 @@ static void tell_profile(int call, const char *before, const char *after) {
     printf("\n");
 }
 
-/* Request (vii): profiles that there are not, and the kinds of records by which files are refused. */
+/* Parameters of each kind after each. */
+static void tell_again(int later) {
+    char order[32];
+    for (int first = 0; first < PROFILES; first++)
+        for (int second = 0; second < PROFILES; second++) {
+            snprintf(order, sizeof order, "%u after %u", profile_kinds[second], profile_kinds[first]);
+            told(order, again[first][second][later]);
+        }
+}
+
+/* Requests (vii) and (ix): profiles that there are not, and the kinds of records by which files are refused. */
 static void tell_profiles(void) {
-    static const char *const order[PROFILES][PROFILES] = {{"1 after 1", "3 after 1"}, {"1 after 3", "3 after 3"}};
     printf("  refused by 22:\n");
     tell_profile(WRITE, "20", "0 1 2 3 4 5 6 7 10 11 12 13 24");
     tell_profile(CAPTURE, "", "0 1 2 3 4 5 6 7 8 12 13 15 30 31 32 33");
     tell_profile(SET_UP, "", "0 1 2 3 4 5 6 7 8 15");
+    tell_profile(LIMITS, "", "0 1 2 3 4 5 6 7 15");
+    tell_profile(NEXT_READ, "", "0 1 2 3 4 5 6 7 12 13 15");
     printf("    files of a wrong length with"), told("kind 1", wrong_length[1]), told("kind 2", wrong_length[2]);
-    told("kind 3", wrong_length[3]), printf("; parameters of"), told("kind 4", kind_4);
-    for (int later = 0; later < 2; later++) {
-        printf(later ? "; and with packets between:" : "\n  refused by 23: files with parameters of kind");
-        for (int first = 0; first < PROFILES; first++)
-            for (int second = 0; second < PROFILES; second++) told(order[first][second], again[first][second][later]);
+    told("kind 3", wrong_length[3]), told("kind 4", wrong_length[4]), printf("; parameters of"), told("kind 5", of_no_kind);
+    printf("\n  refused by 23: files with parameters of kind"), tell_again(0);
+    printf("; and with packets between:"), tell_again(1);
+    printf("\n");
+}
+
+/* Request (ix): how many cases are accepted as interlaced, and how many are refused as that alone. */
+static void tell_interlaced(void) {
+    static const int calls[] = {MEASURE, WRITE, LIMITS, SET_UP, FEED, CAPTURE, NEXT_READ};
+    printf("  accepted as interlaced:");
+    for (size_t i = 0; i < sizeof calls / sizeof *calls; i++) told(call_names[calls[i]], accepted_as[calls[i]][INTERLACED]);
+    printf("\n  refused as interlaced and accepted as video:\n   ");
+    for (size_t i = 0; i < sizeof calls / sizeof *calls; i++) {
+        if (calls[i] == FEED) continue; /* what is fed is set up as a case of its own */
+        printf(" %s by", call_names[calls[i]]), told("5:", refused_alone[calls[i]][0]), told("7:", refused_alone[calls[i]][1]);
     }
     printf("\n");
+}
+
+static void tell_next_reads(void) {
+    for (int profile = 0; profile < PROFILES; profile++) {
+        const uint64_t *reads = next_reads[profile];
+        printf(profile ? ";%s:" : "  next reads%s:", as_profile[profile]), told("to come", reads[READ_LEFT]);
+        told("at the arrival itself", reads[READ_NOW]), told("none left", reads[READ_OVER]);
+    }
 }
 
 /* Request (vi): editions that there are not. */
@@ -1095,22 +1171,23 @@ static int tell(void) {
     printf("outcomes seen (number: times):\n");
     tell_numbers(MEASURE, "0 1 2 3 4 5 6 7 8 11 12 13 15 20 21 22 23");
     tell_numbers(WRITE, "0 1 2 3 4 5 6 7 10 11 12 13 20 22 24");
-    tell_numbers(LIMITS, "0 1 2 3 4 5 6 7 15");
+    tell_numbers(LIMITS, "0 1 2 3 4 5 6 7 15 22");
     tell_numbers(GRAPH, "0 15 16");
     tell_numbers(SET_UP, "0 1 2 3 4 5 6 7 8 15 22");
     tell_numbers(FEED, "0 9 10 11 12 13 14 15");
     tell_numbers(CAPTURE, "0 1 2 3 4 5 6 7 8 12 13 15 22 30 31 32 33");
-    tell_numbers(NEXT_READ, "0 1 2 3 4 5 6 7 12 13 15");
+    tell_numbers(NEXT_READ, "0 1 2 3 4 5 6 7 12 13 15 22");
     tell_answers("files", &of_files);
     tell_answers("captures", &of_captures);
     tell_answers("lists that are fed", &of_feeds);
     tell_versions();
     tell_editions();
     tell_profiles();
+    tell_interlaced();
     printf("  captures that"), told("skip a frame", with_skipped);
     printf("; that hand on a frame with"), told("a tag", with_part[0]), told("options", with_part[1]);
     told("contributors", with_part[2]), told("an extension", with_part[3]);
-    printf("\n  next reads:"), told("to come", read_left), told("at the arrival itself", read_now), told("none left", read_over);
+    printf("\n"), tell_next_reads();
     printf("\n  rooms:"), told("exact", accepted_room[0]), told("larger", accepted_room[1]), told("one short", refused_room[1]);
     told("shorter", refused_room[2]), told("none", refused_room[0]);
     told("near the greatest size", large_rooms);

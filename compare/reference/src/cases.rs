@@ -3,16 +3,19 @@
 //! First those of the fixed inputs, which are document 01's own and reach every
 //! outcome; then those of as many generated inputs as are asked for. An input is
 //! one case, or several. A file is measured as video in version 1 and in version 2,
-//! in each by edition 1 and by edition 2, and as compressed in each version; then in
-//! other versions and by other editions, which are refused. A file that is of no
-//! version stays as it is, and so does the first record of one that is no
-//! parameters. Lists are written as video in version 1 and in 2, and as compressed;
-//! then in other versions and as other profiles. Captures are measured, and stream
-//! numbers set up, as video by edition 1 and by 2, and as compressed; then by other
-//! editions and as other profiles. Lists are fed likewise, and set-up refuses their
-//! numbers by others. As compressed a fixed input comes in each version and by each
-//! edition, a generated one in each version of a file by one edition, and else once:
-//! which it is takes turns. A case is handed over as bytes, big-endian throughout:
+//! in each by edition 1 and by edition 2, and as compressed and as interlaced in each
+//! version; then in other versions and by other editions, which are refused. A file
+//! that is of no version stays as it is, and so does the first record of one that is
+//! no parameters. Lists are written as video in version 1 and in 2, and as compressed
+//! and as interlaced; then in other versions and as other profiles. Captures are
+//! measured, and stream numbers set up, as video by edition 1 and by 2, and as
+//! compressed and as interlaced; then by other editions and as other profiles. Lists
+//! are fed likewise, and set-up refuses their numbers by others, and as interlaced
+//! where it refuses those alone. As compressed and as interlaced a fixed input comes
+//! in each version and by each edition, a generated one in each version of a file by
+//! one edition, and else once: which it is takes turns. Limits and next reads are
+//! asked as each profile and as others. A case is handed over as bytes, big-endian
+//! throughout:
 //!
 //!   size of what follows (4), index (8), call (1), the call's input, rooms
 //!
@@ -21,14 +24,14 @@
 //!   1 measure: edition (4), length (4), file
 //!   2 write:   version (1), seven numbers (15), profile (1), three counts (4
 //!              each), arrivals (8 each), timestamps (4 each), markers (1 each)
-//!   3 limits:  seven numbers (15)
+//!   3 limits:  seven numbers (15), profile (1)
 //!   4 graph:   three figures (8 each)
 //!   5 set-up:  seven numbers (15), profile (1), edition (4)
 //!   7 capture: seven numbers (15), profile (1), edition (4), port (2), offset (4),
 //!              length (4), capture, and which parts the frames have that it hands on (1):
 //!              1 a tag, 2 options, 4 contributors, 8 an extension
-//!   8 next read: seven numbers (15), arrival of the frame's first packet (8),
-//!              arrival of the packet that waits (8)
+//!   8 next read: seven numbers (15), profile (1), arrival of the frame's first
+//!              packet (8), arrival of the packet that waits (8)
 //!
 //! and the rooms: count (1), for each elements lent (8), number (1) and place
 //! (8); then length (4) and bytes of what an accepted call writes, and for
@@ -55,13 +58,15 @@ use crate::generate::{
 };
 use crate::graph::graph;
 use crate::next_read::{next_read, three_numbers, Wait};
-use crate::numbers::{set_up, Numbers, COMPRESSED, EDITIONS, EDITION_1, PROFILES, VIDEO};
+use crate::numbers::{set_up, Numbers, EDITIONS, EDITION_1};
+use crate::numbers::{COMPRESSED, INTERLACED, PROFILES, VIDEO};
 use crate::output::expected_c_call;
 use crate::packet::{Packet, LONGEST_HISTORY};
 use crate::random::Random;
 use crate::ranges::STATE_WORDS;
 use crate::record::{packet_body, parameters_body, record, write, writer, VERSIONS};
-use crate::stream::{accepted_numbers, limit_numbers, mended_numbers, refused_numbers, stream};
+use crate::stream::{accepted_numbers, greatest_field_tro, limit_numbers};
+use crate::stream::{mended_numbers, refused_numbers, stream};
 use crate::traffic::capture;
 use crate::waits::{fixed_waits, wait};
 use crate::Refusal;
@@ -123,19 +128,22 @@ pub struct Case {
 /// In so many inputs in a row each kind of call has its share.
 pub const ROUND: u64 = 31;
 
-/// What an input is tried with beside versions 1 and 2, editions 1 and 2 and the two
+/// What an input is tried with beside versions 1 and 2, editions 1 and 2 and the
 /// profiles: those that there are not. Which goes with which takes turns.
 struct Others {
     versions: Vec<u8>,
     editions: Vec<u32>,
     profiles: Vec<u64>,
     turn: usize,
-    /// Whether what is compressed comes with all that there is, or with one by turns.
+    /// Whether what is not video comes with all that there is, or with one by turns.
     with_all: bool,
 }
 
 /// An edition and a profile.
 type By = (u32, u64);
+
+/// As what an input comes that has come as video.
+const BESIDE_VIDEO: [u64; 2] = [COMPRESSED, INTERLACED];
 
 impl Others {
     /// All that are worth a look, for a fixed input; of the editions and profiles that
@@ -149,6 +157,17 @@ impl Others {
             profiles: [&OTHER_PROFILES[..], &[profile]].concat(),
             turn,
             with_all: true,
+        }
+    }
+
+    /// For a fixed wait, of which there are many: every fourth is asked as one profile
+    /// that there is not.
+    fn of_waits(turn: usize) -> Others {
+        let all = [&OTHER_PROFILES[..], &PROFILE_LOOKALIKES].concat();
+        let one = all[turn / 4 % all.len()];
+        Others {
+            profiles: if turn % 4 == 0 { vec![one] } else { vec![] },
+            ..Others::fixed(turn)
         }
     }
 
@@ -177,22 +196,29 @@ impl Others {
         all.iter().cycle().skip(self.turn % all.len())
     }
 
-    /// What a compressed input comes with: all of it, or one of it for each place that
-    /// there is.
-    fn with_compressed<'a, T>(&self, place: usize, all: &'a [T]) -> impl Iterator<Item = &'a T> {
-        let count = if self.with_all { all.len() } else { 1 };
-        self.by_turns(all).skip(place).take(count)
+    /// What an input that is not video comes with: all of it in its order, or one of it
+    /// for each place that there is.
+    fn beside_video<'a, T>(&self, place: usize, all: &'a [T]) -> impl Iterator<Item = &'a T> {
+        let (first, count) = if self.with_all {
+            (0, all.len())
+        } else {
+            ((self.turn + place) % all.len(), 1)
+        };
+        all.iter().cycle().skip(first).take(count)
     }
 
-    /// By which edition and as which profile that there are an input is tried.
-    fn accepted(&self) -> Vec<By> {
-        let mut all: Vec<By> = EDITIONS.map(|edition| (edition, VIDEO)).to_vec();
-        let compressed = self.with_compressed(0, &EDITIONS);
-        all.extend(compressed.map(|edition| (*edition, COMPRESSED)));
+    /// With which of these, editions or versions, and as which profile that there are
+    /// an input is tried: as video with each.
+    fn accepted<T: Copy>(&self, each: &[T]) -> Vec<(T, u64)> {
+        let mut all: Vec<(T, u64)> = each.iter().map(|one| (*one, VIDEO)).collect();
+        for (place, profile) in BESIDE_VIDEO.into_iter().enumerate() {
+            let turns = self.beside_video(place, each);
+            all.extend(turns.map(|one| (*one, profile)));
+        }
         all
     }
 
-    /// And by which that there are not: editions as either profile, which are refused
+    /// And by which that there are not: editions as any profile, which are refused
     /// by 8, and profiles by any edition, since 22 comes before 8.
     fn refused(&self) -> Vec<By> {
         let (editions, profiles) = (self.editions.iter(), self.profiles.iter());
@@ -217,11 +243,11 @@ pub fn cases(seed: u64, index: u64) -> Vec<Case> {
     let calls = match index % ROUND {
         0..=11 => measured(&others, &file(seed, index)),
         12..=15 => written(&others, lists(&mut random)),
-        16 if index / ROUND % 2 == 0 => vec![Call::Limits(any_numbers(&mut random))],
+        16 if index / ROUND % 2 == 0 => limits_of(&others, &any_numbers(&mut random)),
         16 => set_ups(&others, any_numbers(&mut random)),
         17..=18 => fed(&mut random, &others),
         19 => vec![figures(&mut random)],
-        20 => vec![Call::NextRead(wait(&mut random))],
+        20 => waited(&others, &wait(&mut random)),
         _ => captured(&others, capture(seed, index)),
     };
     answered_all(&mut random, calls)
@@ -239,9 +265,9 @@ fn measure_call(file: &[u8], edition: u32) -> Call {
     }
 }
 
-/// The same file as video in each version by each edition, and as compressed. Then in
-/// versions that there are not, by any edition and as either profile, and by editions
-/// that there are not, in either version and as either profile.
+/// The same file as video in each version by each edition, as compressed and as
+/// interlaced. Then in versions that there are not, by any edition and as any profile,
+/// and by editions that there are not, in either version and as any profile.
 fn measured(others: &Others, file: &[u8]) -> Vec<Call> {
     // One that is of no version has none to change, and is not looked at further.
     let known = under(&VERSIONS, file).len() > 1;
@@ -256,7 +282,7 @@ fn measured(others: &Others, file: &[u8]) -> Vec<Call> {
         calls.extend(EDITIONS.map(|edition| measure_call(file, edition)));
     }
     for (place, file) in in_versions[1..].iter().flatten().enumerate() {
-        let editions = others.with_compressed(place, &EDITIONS);
+        let editions = others.beside_video(place, &EDITIONS);
         calls.extend(editions.map(|edition| measure_call(file, *edition)));
     }
     if known {
@@ -273,13 +299,11 @@ fn measured(others: &Others, file: &[u8]) -> Vec<Call> {
     calls
 }
 
-/// The same lists, to be written as video in each version and as compressed. Then in
-/// versions that there are not as any profile, since 20 comes before 22, and as
-/// profiles that there are not.
+/// The same lists, to be written as video in each version, as compressed and as
+/// interlaced. Then in versions that there are not as any profile, since 20 comes
+/// before 22, and as profiles that there are not.
 fn written(others: &Others, (numbers, lists): (Numbers, Lists)) -> Vec<Call> {
-    let mut asked: Vec<(u8, u64)> = VERSIONS.map(|version| (version, VIDEO)).to_vec();
-    let compressed = others.with_compressed(0, &VERSIONS);
-    asked.extend(compressed.map(|version| (*version, COMPRESSED)));
+    let mut asked: Vec<(u8, u64)> = others.accepted(&VERSIONS);
     let profiles = others.all_profiles();
     let by_20 = others.versions.iter().zip(others.by_turns(&profiles));
     let by_22 = others.by_turns(&VERSIONS).zip(&others.profiles);
@@ -302,8 +326,21 @@ fn captured(others: &Others, (asked, bytes): (Asked, Vec<u8>)) -> Vec<Call> {
         asked: asked.by(edition).of(profile),
         bytes: bytes.clone(),
     };
-    let all = [others.accepted(), others.refused()].concat();
+    let all = [others.accepted(&EDITIONS), others.refused()].concat();
     all.into_iter().map(call).collect()
+}
+
+/// The same call as each profile, and as others.
+fn as_each_profile(others: &Others, call: impl Fn(u64) -> Call) -> Vec<Call> {
+    others.all_profiles().into_iter().map(call).collect()
+}
+
+fn limits_of(others: &Others, numbers: &Numbers) -> Vec<Call> {
+    as_each_profile(others, |profile| Call::Limits(numbers.of(profile)))
+}
+
+fn waited(others: &Others, wait: &Wait) -> Vec<Call> {
+    as_each_profile(others, |profile| Call::NextRead(wait.of(profile)))
 }
 
 fn set_up_call(numbers: &Numbers, (edition, profile): By) -> Call {
@@ -315,26 +352,30 @@ fn set_up_call(numbers: &Numbers, (edition, profile): By) -> Call {
 
 /// The same numbers by each edition as each profile, and by others.
 fn set_ups(others: &Others, numbers: Numbers) -> Vec<Call> {
-    let all = [others.accepted(), others.refused()].concat();
+    let all = [others.accepted(&EDITIONS), others.refused()].concat();
     all.into_iter()
         .map(|by| set_up_call(&numbers, by))
         .collect()
 }
 
 /// A list fed by each edition as each profile; and as no stream is set up by any
-/// other, its numbers are set up by those alone.
+/// other, its numbers are set up by those alone, and so they are as interlaced where
+/// that is refused.
 fn fed_by_each(
     others: &Others,
     numbers: Numbers,
     mut calls: impl FnMut(u32, &Numbers) -> Vec<Feed>,
 ) -> Vec<Call> {
     let mut all = vec![];
-    for (edition, profile) in others.accepted() {
-        let numbers = numbers.of(profile);
-        all.push(Call::Feed {
-            numbers,
-            edition,
-            calls: calls(edition, &numbers),
+    for (edition, profile) in others.accepted(&EDITIONS) {
+        let as_profile = numbers.of(profile);
+        all.push(match set_up(edition, &as_profile) {
+            Err(_) => set_up_call(&numbers, (edition, profile)),
+            Ok(_) => Call::Feed {
+                numbers: as_profile,
+                edition,
+                calls: calls(edition, &as_profile),
+            },
         });
     }
     let refused = others.refused().into_iter();
@@ -577,6 +618,13 @@ fn figures(random: &mut Random) -> Call {
 
 const NARROW: Numbers = Numbers::narrow(4);
 
+/// The same where every profile is accepted: a field has two packets, fields start
+/// 10 ms apart, read 0 comes 700 µs after that, and read 1 4.8 ms later.
+const OF_ANY: Numbers = Numbers {
+    tro: Some(700),
+    ..NARROW
+};
+
 fn packets(list: &[(u64, u32, u8)]) -> Vec<Packet> {
     list.iter()
         .map(|&(arrival, timestamp, marker)| Packet::new(arrival, timestamp, marker))
@@ -598,8 +646,10 @@ fn example() -> Vec<Packet> {
 pub fn fixed() -> Vec<Vec<Case>> {
     let mut random = Random::new(0, 0);
     let alone = |call| vec![call];
-    let numbers = fixed_numbers().into_iter().map(Call::Limits);
-    let mut inputs: Vec<Vec<Call>> = numbers.map(alone).collect();
+    let numbers = fixed_numbers().into_iter().enumerate();
+    let mut inputs: Vec<Vec<Call>> = numbers
+        .map(|(turn, numbers)| limits_of(&Others::fixed(turn), &numbers))
+        .collect();
     for (turn, lists) in fixed_lists().into_iter().enumerate() {
         inputs.push(written(&Others::fixed(turn), lists));
     }
@@ -611,7 +661,17 @@ pub fn fixed() -> Vec<Vec<Case>> {
     for (turn, capture) in captures().into_iter().enumerate() {
         inputs.push(captured(&Others::fixed(turn), capture));
     }
-    inputs.extend(waits().into_iter().map(Call::NextRead).map(alone));
+    for (turn, wait) in waits().iter().enumerate() {
+        let mut calls = waited(&Others::of_waits(turn), wait);
+        // As compressed it is answered as of video: where there are many reads, which
+        // take long, that is asked of every fourth.
+        if turn % 4 != 0 && wait.numbers.packets_per_frame > 8 {
+            calls.retain(
+                |call| !matches!(call, Call::NextRead(wait) if wait.numbers.profile == COMPRESSED),
+            );
+        }
+        inputs.push(calls);
+    }
     inputs
         .into_iter()
         .map(|calls| answered_all(&mut random, calls))
@@ -652,22 +712,52 @@ fn fixed_numbers() -> Vec<Numbers> {
     // Every frame length, and a code on either side of them.
     all.extend((0..=9).map(|rate| Numbers { rate, ..NARROW }));
     all.extend(numbers_by_class());
+    all.extend(numbers_of_fields());
+    all
+}
+
+/// Request (ix): both sides of half a frame as TRO, at every rate; and both ends of n,
+/// even and odd, with a TRO that is given.
+fn numbers_of_fields() -> Vec<Numbers> {
+    let mut all = vec![];
+    for rate in 1..=8 {
+        let greatest = greatest_field_tro(rate);
+        all.extend([greatest, greatest + 1].map(|tro| Numbers {
+            rate,
+            tro: Some(tro),
+            ..NARROW
+        }));
+    }
+    for n in [1, 2, 3, 5, 6, 19_999, 20_000, 20_001] {
+        all.extend([0, 1].map(|schedule| Numbers {
+            packets_per_frame: n,
+            schedule,
+            class: 0,
+            ..OF_ANY
+        }));
+    }
+    all.push(Numbers {
+        tro: Some(0),
+        height: 720,
+        ..NARROW
+    });
     all
 }
 
 /// On each schedule class 0, and those that it may be taken for.
 const CLASSES: [(u64, u64); 6] = [(0, 0), (0, 1), (0, 3), (1, 0), (1, 2), (1, 3)];
 
-/// Each class where C_MAX or VRX_FULL of one of them grows.
+/// Each class where C_MAX or VRX_FULL of one of them grows, and the even n before.
 fn numbers_by_class() -> Vec<Numbers> {
     let steps = [
-        4, 4147, 4148, 4319, 4320, 4439, 4440, 4859, 4860, 7343, 7344,
+        4, 4146, 4147, 4148, 4318, 4319, 4320, 4438, 4439, 4440, 4858, 4859, 4860, 7342, 7343, 7344,
     ];
     let of = |(schedule, class)| {
         steps.map(|n| Numbers {
             schedule,
             class,
-            ..Numbers::narrow(n)
+            packets_per_frame: n,
+            ..OF_ANY
         })
     };
     CLASSES.iter().copied().flat_map(of).collect()
@@ -710,8 +800,8 @@ fn wraps_and_ties() -> Vec<(Numbers, Vec<Packet>)> {
     lists.into_iter().map(|list| (one, list)).collect()
 }
 
-/// So many packets at one instant, after a lead-in, that are a frame and all
-/// come before its reads.
+/// So many packets at one instant, after a lead-in, that are a frame or a field and
+/// all come before its reads.
 fn pile(n: u64) -> Vec<Packet> {
     let mut pile = vec![Packet::new(0, 0, 1)];
     pile.extend((1..=n).map(|count| Packet::new(19_990_000, 0, u8::from(count == n))));
@@ -724,7 +814,8 @@ fn at_the_limits((schedule, class): (u64, u64)) -> Vec<(Numbers, Vec<Packet>)> {
     let of = |n| Numbers {
         schedule,
         class,
-        ..Numbers::narrow(n)
+        packets_per_frame: n,
+        ..OF_ANY
     };
     // C_MAX is 16 or 4; from n 4148 on it is 5 for narrow, from 4320 on for
     // narrow linear.
@@ -735,9 +826,12 @@ fn at_the_limits((schedule, class): (u64, u64)) -> Vec<(Numbers, Vec<Packet>)> {
     for (n, count) in at_once {
         all.push((of(n), vec![Packet::new(7, 0, 0); count]));
     }
-    // VRX_FULL is 739 or 8, and where MAXUDP is 8960, 120 or 1.
-    for (n, maxudp) in [(8, 1460), (9, 1460), (1, 8960), (2, 8960)] {
-        all.push((Numbers { maxudp, ..of(n) }, pile(n)));
+    // VRX_FULL is 739 or 8, and where MAXUDP is 8960, 120 or 1. A pile is a frame, or
+    // a field of a frame that has twice as many.
+    for (count, maxudp) in [(8, 1460), (9, 1460), (1, 8960), (2, 8960)] {
+        for n in [count, 2 * count] {
+            all.push((Numbers { maxudp, ..of(n) }, pile(count)));
+        }
     }
     all
 }
@@ -771,15 +865,48 @@ const SENT: [Sent; 6] = [
     Sent::Stamp,
 ];
 
-/// A lead-in, and frames of four packets as they are named. Frame times are 20 ms
-/// apart, read 0 comes 764,444 ns after each, and the others 4.8 ms apart.
-fn sent(frames: &[Sent]) -> (Numbers, Vec<Packet>) {
+/// What is sent four packets at a time: frames of four packets, or fields of a frame
+/// of eight. Read 0 is 764 µs and a little after T_CF, or as much exactly; the others
+/// are `spacing` apart.
+struct Sending {
+    numbers: Numbers,
+    apart: u64,
+    spacing: u64,
+}
+
+/// Of each the buffer holds one packet.
+const FRAMES: Sending = Sending {
+    numbers: Numbers {
+        maxudp: 8960,
+        ..NARROW
+    },
+    apart: 20_000_000,
+    spacing: 4_800_000,
+};
+
+const FIELDS: Sending = Sending {
+    numbers: Numbers {
+        maxudp: 8960,
+        tro: Some(764),
+        ..Numbers::narrow(8)
+    },
+    apart: 10_000_000,
+    spacing: 2_400_000,
+};
+
+/// A lead-in, and frames or fields as they are named.
+fn sent(sending: &Sending, frames: &[Sent]) -> (Numbers, Vec<Packet>) {
+    let Sending {
+        numbers,
+        apart,
+        spacing,
+    } = *sending;
     let mut list = packets(&[(1_000_000, 0, 0), (1_000_000, 0, 1)]);
     for (frame, sent) in (1..).zip(frames) {
         let (first, step) = match sent {
-            Sent::Late => (800_000, 4_700_000),
+            Sent::Late => (800_000, spacing - 100_000),
             Sent::Piled => (700_000, 0),
-            _ => (700_000, 4_800_000),
+            _ => (700_000, spacing),
         };
         let count = match sent {
             Sent::Short => 3,
@@ -787,31 +914,32 @@ fn sent(frames: &[Sent]) -> (Numbers, Vec<Packet>) {
             _ => 4,
         };
         for j in 0..count {
-            let arrival = frame * 20_000_000 + first + j * step;
+            let arrival = frame * apart + first + j * step;
             let other = u32::from(*sent == Sent::Stamp && j == 2);
             let marker = u8::from(j + 1 == count && *sent != Sent::Open);
             list.push(Packet::new(arrival, 1800 * frame as u32 + other, marker));
         }
     }
-    let numbers = Numbers {
-        maxudp: 8960,
-        ..NARROW
-    };
     (numbers, list)
 }
 
-/// Some frames in any order.
+/// Some frames or fields in any order.
 fn any_sent(random: &mut Random) -> (Numbers, Vec<Packet>) {
     let any = [&SENT[..], &[Sent::Good, Sent::Open]].concat();
     let count = 1 + random.below(6);
     let frames: Vec<Sent> = (0..count).map(|_| random.pick(&any)).collect();
-    sent(&frames)
+    sent(random.pick(&[&FRAMES, &FIELDS]), &frames)
 }
 
-/// Request (vi): frames that pass, that fail and that are broken, alone, in each
-/// order of two, after one that passes, and before one that is still open; and
-/// lists of which no frame closes.
+/// Request (vi): frames that pass, that fail and that are broken, and fields likewise.
 pub fn edition_streams() -> Vec<(Numbers, Vec<Packet>)> {
+    [edition_streams_of(&FRAMES), edition_streams_of(&FIELDS)].concat()
+}
+
+/// Alone, in each order of two, after one that passes, and before one that is still
+/// open; and lists of which no frame closes.
+fn edition_streams_of(sending: &Sending) -> Vec<(Numbers, Vec<Packet>)> {
+    let sent = |frames: &[Sent]| sent(sending, frames);
     let mut lists = vec![vec![], vec![Sent::Open], vec![Sent::Open, Sent::Open]];
     lists.push(vec![Sent::Good; 3]);
     for first in SENT {
@@ -829,7 +957,7 @@ pub fn edition_streams() -> Vec<(Numbers, Vec<Packet>)> {
     // A lead-in that goes on, and frames of one packet: none can be short.
     all.push((numbers, lead_in[..1].to_vec()));
     let one = Numbers {
-        packets_per_frame: 1,
+        packets_per_frame: numbers.packets_per_frame / 4,
         ..numbers
     };
     all.extend([sent(&[Sent::Good]).1, sent(&[Sent::Open]).1].map(|list| (one, list)));
@@ -913,18 +1041,89 @@ fn streams() -> Vec<(Numbers, Vec<Packet>)> {
         (one, packets(&[(end, 0, 1), (end, u32::MAX, 1)])),
         (NARROW, broken),
         (Numbers::narrow(20), pile(20)),
-        (NARROW, packets(&[(0, 0, 1), (LONGEST_HISTORY, 0, 1)])),
-        (NARROW, packets(&[(0, 0, 1), (LONGEST_HISTORY + 1, 0, 1)])),
+        (OF_ANY, packets(&[(0, 0, 1), (LONGEST_HISTORY, 0, 1)])),
+        (OF_ANY, packets(&[(0, 0, 1), (LONGEST_HISTORY + 1, 0, 1)])),
         (
-            NARROW,
+            OF_ANY,
             packets(&[(end - LONGEST_HISTORY - 1, 0, 1), (end, 0, 1)]),
         ),
-        (NARROW, packets(&[(5, 0, 1), (4, 0, 1)])),
-        (NARROW, packets(&[(5, 0, 1), (5, 0, 2)])),
-        (NARROW, packets(&[(5, 0, 255)])),
+        (OF_ANY, packets(&[(5, 0, 1), (4, 0, 1)])),
+        (OF_ANY, packets(&[(5, 0, 1), (5, 0, 2)])),
+        (OF_ANY, packets(&[(5, 0, 255)])),
     ];
     let by_class = CLASSES.iter().copied().flat_map(at_the_limits).collect();
-    [of_document_01, wraps_and_ties(), by_class].concat()
+    [of_document_01, wraps_and_ties(), by_class, field_streams()].concat()
+}
+
+/// Request (ix): first packets at both sides of F/4, which has both sides of half a
+/// field; fields in time and late by a nanosecond; fields whose reads go on after the
+/// next one has started; and the ends of 64 bits.
+fn field_streams() -> Vec<(Numbers, Vec<Packet>)> {
+    let mut all = vec![];
+    for (rate, quarter) in (1..=8).zip(QUARTERS) {
+        let two = Numbers {
+            rate,
+            packets_per_frame: 2,
+            ..OF_ANY
+        };
+        // Of the first field, and of the one after next, whose quarter is the fifth.
+        all.extend([1, 5].map(|turn| (two, around(turn * quarter / 27, &[0]))));
+    }
+    for schedule in [0, 1] {
+        let usual = Numbers {
+            schedule,
+            class: 0,
+            ..OF_ANY
+        };
+        let late = Numbers {
+            tro: Some(9_999),
+            ..usual
+        };
+        all.extend(fields_in_time(usual, 700_000));
+        all.extend(fields_in_time(late, 9_999_000));
+        let end = u64::MAX;
+        all.push((usual, packets(&[(end - 1, 0, 1), (end, 7, 0), (end, 7, 1)])));
+    }
+    all
+}
+
+/// F/4 of each rate code in grains.
+const QUARTERS: [u64; 8] = [
+    281_531_250,
+    281_250_000,
+    270_000_000,
+    225_225_000,
+    225_000_000,
+    135_000_000,
+    112_612_500,
+    112_500_000,
+];
+
+/// Three fields of two packets, 10 ms apart from 20 ms on, where read 0 is `tro`
+/// nanoseconds after the field's start and read 1 4.8 or 5 ms later. The first packet
+/// of each comes early; the second, in one list, at read 1 on a gapped schedule, and
+/// in the others a nanosecond or a packet's spacing to a side of it.
+fn fields_in_time(numbers: Numbers, tro: u64) -> Vec<(Numbers, Vec<Packet>)> {
+    let spacing = if numbers.schedule == 0 {
+        4_800_000
+    } else {
+        5_000_000
+    };
+    let list = |second: u64| {
+        let mut list = packets(&[(19_000_000, 0, 1)]);
+        for start in [20_000_000, 30_000_000, 40_000_000] {
+            // A field that comes late makes the next one wait for it.
+            let last = list[list.len() - 1].arrival;
+            let first = last.max(start + 600_000);
+            list.push(Packet::new(first, 1800, 0));
+            list.push(Packet::new(first.max(start + second), 1800, 1));
+        }
+        list
+    };
+    let read = tro + spacing;
+    [read - 1, read, read + 1, read - spacing, 600_000]
+        .map(|second| (numbers, list(second)))
+        .to_vec()
 }
 
 fn fixed_lists() -> Vec<(Numbers, Lists)> {
@@ -939,7 +1138,7 @@ fn fixed_lists() -> Vec<(Numbers, Lists)> {
         markers: vec![2; markers],
     };
     for (arrivals, timestamps, markers) in [(1, 2, 2), (2, 1, 2), (2, 2, 1), (0, 0, 1), (1, 0, 0)] {
-        all.push((NARROW, so_many(arrivals, timestamps, markers)));
+        all.push((OF_ANY, so_many(arrivals, timestamps, markers)));
     }
     for numbers in [fixed_numbers(), mended_numbers()].concat() {
         // 1 to 7 come before 10, which comes before 11.
@@ -957,8 +1156,9 @@ fn fixed_files(random: &mut Random) -> Vec<Vec<u8>> {
     for numbers in [fixed_numbers(), mended_numbers()].concat() {
         files.push(written(&numbers, &[]));
     }
-    // The example cut at every place and with every byte changed.
-    let whole = written(&NARROW, &example());
+    // The example cut at every place and with every byte changed; its TRO is given, so
+    // that it is accepted of any profile.
+    let whole = written(&OF_ANY, &example());
     for place in 0..whole.len() {
         files.push(whole[..place].to_vec());
         let mut changed = whole.clone();
@@ -979,26 +1179,27 @@ fn fixed_files(random: &mut Random) -> Vec<Vec<u8>> {
 
 /// Records that are cut, of an unknown kind, of a wrong length, out of their
 /// order or refused: first of all, after parameters, and after a packet too. The
-/// first record of each file is tried as either kind of parameters, and so are those
-/// that come again.
+/// first record of each file is tried as each kind of parameters, and so are those
+/// that come again, behind a packet first of all too.
 fn wrong_records(version: u8) -> Vec<Vec<u8>> {
-    let parameters = record(&parameters_body(&NARROW));
+    let parameters = record(&parameters_body(&OF_ANY));
     let packet = record(&packet_body(&Packet::new(5, 0, 1)));
     let mut records = vec![vec![0], vec![0, 0], vec![0, 2, 1]];
-    for (kind, length) in [(0, 1), (2, 1), (4, 1), (255, 14), (4, 14), (2, 15)] {
+    for (kind, length) in [(0, 1), (2, 1), (5, 1), (255, 14), (5, 14), (2, 15)] {
         records.push(record(&vec![kind; length]));
     }
-    let refused = Numbers { rate: 0, ..NARROW };
+    let refused = Numbers { rate: 0, ..OF_ANY };
     for kind in PROFILES {
         for length in [1, 14, 15, 17] {
             records.push(record(&vec![kind as u8; length]));
         }
         records.push(record(&parameters_body(&refused.of(kind))));
-        records.push(record(&parameters_body(&NARROW.of(kind))));
+        let good = record(&parameters_body(&OF_ANY.of(kind)));
+        records.extend([[&packet[..], &good].concat(), good]);
     }
     // Good but for their kind, which is no parameters'.
     for kind in OTHER_PROFILES {
-        records.push(record(&parameters_body(&NARROW.of(kind))));
+        records.push(record(&parameters_body(&OF_ANY.of(kind))));
     }
     for (arrival, marker) in [(5, 1), (4, 1), (5, 2)] {
         let packet = Packet::new(arrival, 0, marker);
@@ -1071,11 +1272,14 @@ fn fixed_feeds() -> Vec<Vec<Call>> {
     ]);
     // By edition 2 the answer is broken after seven packets of the one, and after
     // five of the other, where it becomes under by edition 1 after nine.
-    let (numbers, broken) = sent(&[Sent::Short, Sent::Late]);
+    let (numbers, broken) = sent(&FRAMES, &[Sent::Short, Sent::Late]);
+    let (of_fields, fields) = sent(&FIELDS, &[Sent::Short, Sent::Late]);
     for (numbers, packets, ends) in [
         (NARROW, example(), vec![0, 1, 2, 5]),
         (NARROW, late, vec![0, 1, 3, 5, 7, 8]),
         (numbers, broken, vec![5, 7, 9]),
+        (OF_ANY, example(), vec![0, 1, 2, 3, 5]),
+        (of_fields, fields, vec![5, 7, 9]),
     ] {
         inputs.push(fed_by_each(
             &Others::fixed(0),
@@ -1138,7 +1342,10 @@ fn push_call(body: &mut Vec<u8>, call: &Call) {
             body.push(numbers.profile as u8);
             push_lists(body, lists.lent());
         }
-        Call::Limits(numbers) => push_seven(body, 3, numbers),
+        Call::Limits(numbers) => {
+            push_seven(body, 3, numbers);
+            body.push(numbers.profile as u8);
+        }
         Call::Graph {
             first_packet_time,
             margin,
@@ -1165,6 +1372,7 @@ fn push_call(body: &mut Vec<u8>, call: &Call) {
         Call::Capture { asked, bytes } => push_capture(body, asked, bytes),
         Call::NextRead(wait) => {
             push_seven(body, 8, &wait.numbers);
+            body.push(wait.numbers.profile as u8);
             body.extend(wait.first.to_be_bytes());
             body.extend(wait.arrival.to_be_bytes());
         }

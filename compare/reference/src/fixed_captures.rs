@@ -27,6 +27,12 @@ const ASKED: Asked = Asked {
     edition: EDITION_1,
 };
 
+/// Every packet closes a whole field.
+const ONE_A_FIELD: Numbers = Numbers {
+    tro: Some(700),
+    ..Numbers::narrow(2)
+};
+
 type Captures = Vec<(Asked, Vec<u8>)>;
 
 /// All of them; with captures of the given streams, and the given numbers asked
@@ -47,6 +53,7 @@ pub fn fixed_captures(streams: &[(Numbers, Vec<Packet>)], numbers: &[Numbers]) -
         orders(),
         everywhere(MICROSECONDS, false),
         everywhere(NANOSECONDS, true),
+        of_fields([headers(), offsets(), times(), orders()].concat()),
     ]
     .concat()
 }
@@ -103,6 +110,16 @@ fn small(magic: u32, big: bool) -> Capture {
         extended.bytes(),
     ];
     capture_of(magic, big, &frames)
+}
+
+/// The same captures, asked with numbers that are accepted of every profile.
+fn of_fields(captures: Captures) -> Captures {
+    let asked = |asked| Asked {
+        numbers: ONE_A_FIELD,
+        ..asked
+    };
+    let captures = captures.into_iter();
+    captures.map(|(own, bytes)| (asked(own), bytes)).collect()
 }
 
 // --- what is asked ---

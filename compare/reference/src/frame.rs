@@ -1,9 +1,10 @@
-//! Frames: where they begin and end, their kinds and their times.
+//! Frames: where they begin and end, their kinds and their times. Request (ix): "each
+//! marker closes a field"; of an interlaced stream a field is a frame in all of this.
 
 use std::cmp::Reverse;
 
 use crate::fraction::Fraction;
-use crate::numbers::{Limits, GRAINS_PER_TICK, WRAP};
+use crate::numbers::{Limits, Period, GRAINS_PER_TICK, WRAP};
 use crate::packet::Packet;
 
 /// A closed frame.
@@ -64,13 +65,14 @@ impl Frame<'_> {
     }
 
     /// "Kinds, tried in this order: 1 short (fewer than n), 2 long (more than
-    /// n), 3 stamp (some timestamp differs from the first packet's), 0 whole."
-    pub fn kind(&self, n: i128) -> Kind {
+    /// n), 3 stamp (some timestamp differs from the first packet's), 0 whole." Of
+    /// fields, "the field has n/2 packets".
+    pub fn kind(&self, period: Period) -> Kind {
         let count = self.packets.len();
-        if (count as i128) < n {
+        if (count as i128) < period.packets {
             return Kind::Short { count };
         }
-        if (count as i128) > n {
+        if (count as i128) > period.packets {
             return Kind::Long { count };
         }
         match self.first_differing_timestamp() {
@@ -111,11 +113,12 @@ pub struct Times {
     pub gap: i128,
 }
 
-/// "N = round(27t/F), halves up; T_CF = N·F."
-pub fn t_cf(first: &Packet, frame: i128) -> i128 {
+/// "N = round(27t/F), halves up; T_CF = N·F." Of fields F/2 stands for F: "field
+/// periods start at multiples of F/2".
+pub fn t_cf(first: &Packet, period: Period) -> i128 {
     let half = Fraction::new(1, 2);
-    let n = Fraction::new(first.grains(), frame).plus(half).floor();
-    n * frame
+    let periods = Fraction::new(first.grains(), period.length);
+    periods.plus(half).floor() * period.length
 }
 
 /// Request (v): "the encoded time shall instead be the one nearest to the
@@ -157,10 +160,13 @@ fn latency_by_the_clock(first: &Packet) -> i128 {
 /// of the marker packet before it".
 pub fn times(limits: &Limits, frame: &Frame) -> Times {
     let first = frame.first();
-    let t_cf = t_cf(first, limits.frame);
+    let t_cf = t_cf(first, limits.period);
     let first_packet_time = first.grains() - t_cf;
-    // "FPT is at least minus half a frame and below plus half."
-    assert!(-limits.frame <= 2 * first_packet_time && 2 * first_packet_time < limits.frame);
+    // "FPT is at least minus half a frame and below plus half." Request (ix): "FPT is
+    // at least −F/4 and below F/4".
+    let half = Fraction::new(limits.period.length, 2);
+    let first_at = Fraction::whole(first_packet_time);
+    assert!(first_at.plus(half) >= Fraction::whole(0) && first_at < half);
     let encoded = encoded_time(first);
     let latency = latency(first, encoded);
     let rtp_offset = encoded - t_cf;

@@ -1,5 +1,5 @@
 //! Test files: record files of streams, whole and damaged, of both versions and
-//! of both kinds of parameters.
+//! of all kinds of parameters.
 
 use std::io;
 use std::path::Path;
@@ -35,20 +35,20 @@ pub(crate) fn other_edition(random: &mut Random) -> u32 {
     random.pick(&[zero, three, byte, last, any, lookalike])
 }
 
-/// Profiles that are refused by 22: those beside 1 and 3, of which 2 is the kind of
-/// a packet's record and 4 may become a profile, and the last of a byte.
-pub const OTHER_PROFILES: [u64; 4] = [0, 2, 4, 255];
+/// Profiles that are refused by 22: those beside 1, 3 and 4, of which 2 is the kind of
+/// a packet's record and 5 may become a profile, and the last of a byte.
+pub const OTHER_PROFILES: [u64; 4] = [0, 2, 5, 255];
 
-/// Others that are 1 or 3 in fewer bits than a byte has.
-pub const PROFILE_LOOKALIKES: [u64; 4] = [129, 131, 17, 7];
+/// Others that are 1, 3 or 4 in fewer bits than a byte has.
+pub const PROFILE_LOOKALIKES: [u64; 6] = [129, 131, 132, 17, 12, 7];
 
-/// Others that have no room in a byte, and are 1 or 3 in the byte that is left of
+/// Others that have no room in a byte, and are 1, 3 or 4 in the byte that is left of
 /// them: no C call takes one, and a program may be given one.
-pub const WIDE_PROFILES: [u64; 4] = [257, 259, 65_537, (1 << 32) + 3];
+pub const WIDE_PROFILES: [u64; 5] = [257, 259, 260, 65_537, (1 << 32) + 3];
 
-/// One of those that have room in a byte, or any that is neither 1 nor 3.
+/// One of those that have room in a byte, or any that is none of 1, 3 and 4.
 pub(crate) fn other_profile(random: &mut Random) -> u64 {
-    let any = random.between(4, 255) as u64;
+    let any = random.between(5, 255) as u64;
     let lookalike = random.pick(&PROFILE_LOOKALIKES);
     let [zero, packets, next, last] = OTHER_PROFILES;
     random.pick(&[zero, packets, next, last, any, lookalike])
@@ -81,8 +81,7 @@ fn with_each(place: usize, known: &[u8], bytes: &[u8], file: &[u8]) -> Vec<Vec<u
     }
 }
 
-/// File `index` of a seed, of one version or the other and of one profile or the
-/// other.
+/// File `index` of a seed, of one version or the other and of any profile.
 pub fn file(seed: u64, index: u64) -> Vec<u8> {
     let mut random = Random::new(seed, index);
     match random.below(100) {
@@ -102,13 +101,13 @@ fn version(random: &mut Random) -> u8 {
     random.pick(&VERSIONS)
 }
 
-/// The same stream as either profile.
-fn either(random: &mut Random, numbers: &Numbers) -> Numbers {
+/// The same stream as any profile.
+fn of_any(random: &mut Random, numbers: &Numbers) -> Numbers {
     numbers.of(random.pick(&PROFILES))
 }
 
 fn written(random: &mut Random, numbers: &Numbers, packets: &[Packet]) -> Vec<u8> {
-    let numbers = either(random, numbers);
+    let numbers = of_any(random, numbers);
     write(version(random), &numbers, packets)
 }
 
@@ -183,7 +182,7 @@ impl Pieces {
 pub(crate) fn damaged(random: &mut Random) -> Vec<u8> {
     let (numbers, mut packets) = stream(random);
     packets.truncate(600);
-    let numbers = either(random, &numbers);
+    let numbers = of_any(random, &numbers);
     let mut pieces = Pieces::of(version(random), &numbers, &packets);
     match random.below(14) {
         0 => zero_length(random, &mut pieces),
@@ -233,7 +232,7 @@ fn resized_body(random: &mut Random, pieces: &mut Pieces) {
 
 fn other_kind(random: &mut Random, pieces: &mut Pieces) {
     let place = pieces.any(random);
-    pieces.records[place][2] = random.pick(&[0, 4, 5, 255]);
+    pieces.records[place][2] = random.pick(&[0, 5, 6, 255]);
 }
 
 /// A kind that is known, on a body of another's length.
@@ -247,14 +246,14 @@ fn swapped_kind(random: &mut Random, pieces: &mut Pieces) {
 }
 
 /// Parameters again, at once or later: the same ones, or ones that set-up would
-/// refuse; of the same kind or of the other.
+/// refuse; of the same kind or of another.
 fn second_parameters(random: &mut Random, pieces: &mut Pieces, numbers: &Numbers) {
     let again = if random.chance(50) {
         *numbers
     } else {
         refused_numbers(random)
     };
-    let again = either(random, &again);
+    let again = of_any(random, &again);
     let later = 1 + random.place(pieces.records.len());
     let place = random.pick(&[1, later]);
     pieces
@@ -281,7 +280,7 @@ fn inserted(random: &mut Random, pieces: &mut Pieces) {
     let place = random.place(pieces.records.len() + 1);
     let length = random.pick(&[1, 2, 14, 16, 300, 65_535]);
     let mut body = vec![0; length];
-    body[0] = random.pick(&[0, 1, 2, 3, 4, 200]);
+    body[0] = random.pick(&[0, 1, 2, 3, 4, 5, 200]);
     pieces.records.insert(place, record(&body));
 }
 

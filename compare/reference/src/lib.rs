@@ -39,7 +39,7 @@ pub use graph::{graph, Graph};
 pub use measure::{measure, Buffer, Measurement, Network};
 pub use next_read::{next_read, NextRead, Wait};
 pub use numbers::{set_up, Edition, Limits, Numbers, EDITIONS, EDITION_1, EDITION_2};
-pub use numbers::{Profile, COMPRESSED, PROFILES, VIDEO};
+pub use numbers::{Period, Profile, COMPRESSED, INTERLACED, PROFILES, VIDEO};
 pub use output::{expected_c_call, expected_output};
 pub use packet::Packet;
 pub use record::{parse, write, writer};

@@ -11,15 +11,15 @@ use vtiming_reference::program::{capture_inputs, inputs, run_all, Told, OF_CAPTU
 use vtiming_reference::traffic;
 use vtiming_reference::{expected_c_call, expected_output, graph, next_read, set_up};
 use vtiming_reference::{expected_capture_call, expected_capture_output, expected_packets, Asked};
-use vtiming_reference::{Numbers, Wait, EDITION_1, VIDEO};
+use vtiming_reference::{Numbers, Wait, EDITION_1};
 
 const USAGE: &str = "usage:
   reference print FILE|-          what vtiming prints for the file
   reference ccall EDITION ROOM FILE|-
                                   number, offset and bytes of the C call
-  reference limits RATE SCHEDULE CLASS HEIGHT N MAXUDP TRO|default
-  reference next-read RATE SCHEDULE CLASS HEIGHT N MAXUDP TRO|default FIRST ARRIVAL
-                                  how long a packet waits for the next read of its frame
+  reference limits RATE SCHEDULE CLASS HEIGHT N MAXUDP TRO|default PROFILE
+  reference next-read RATE SCHEDULE CLASS HEIGHT N MAXUDP TRO|default PROFILE FIRST ARRIVAL
+                                  how long a packet waits for the next read of its frame or field
   reference graph FPT MARGIN VL   the graph's doubles for figures in grains
   reference capture PORT OFFSET RATE SCHEDULE CLASS HEIGHT N MAXUDP TRO|default PROFILE EDITION FILE|-
                                   what vcapture prints for the capture
@@ -36,8 +36,8 @@ const USAGE: &str = "usage:
   reference case SEED INDEX       the cases of one generated input, as the C host reads them
   reference program SEED COUNT DIR KEEP COMMAND..
                                   runs the program on COUNT generated files and on fixed ones, in both
-                                  versions, and on the .rec files of DIR, whole and in pieces; a file
-                                  that differs is copied to KEEP
+                                  versions and as every profile, and on the .rec files of DIR, whole and
+                                  in pieces; a file that differs is copied to KEEP
   reference captures SEED COUNT DIR[:DIR..] KEEP COMMAND..
                                   the same of vcapture, on COUNT generated captures, on fixed ones and on
                                   the .pcap files of each DIR; the eleven words follow those of COMMAND";
@@ -48,8 +48,8 @@ fn main() {
     let done = match words.as_slice() {
         ["print", file] => print(file),
         ["ccall", edition, room, file] => c_call(edition, room, file),
-        ["limits", numbers @ ..] if numbers.len() == 7 => limits(numbers),
-        ["next-read", numbers @ .., first, arrival] if numbers.len() == 7 => {
+        ["limits", numbers @ ..] if numbers.len() == 8 => limits(numbers),
+        ["next-read", numbers @ .., first, arrival] if numbers.len() == 8 => {
             wait(numbers, first, arrival)
         }
         ["graph", fpt, margin, vl] => figures(fpt, margin, vl),
@@ -137,13 +137,13 @@ fn asked(words: &[&str]) -> io::Result<Asked> {
     Ok(Asked {
         port: number(words[0])?,
         offset: number(words[1])?,
-        numbers: seven(&words[2..9])?.of(number(words[9])?),
+        numbers: eight(&words[2..10])?,
         edition: number(words[10])?,
     })
 }
 
-/// As video, where nothing else is said.
-fn seven(words: &[&str]) -> io::Result<Numbers> {
+/// The seven numbers and the profile.
+fn eight(words: &[&str]) -> io::Result<Numbers> {
     Ok(Numbers {
         rate: number(words[0])?,
         schedule: number(words[1])?,
@@ -152,12 +152,12 @@ fn seven(words: &[&str]) -> io::Result<Numbers> {
         packets_per_frame: number(words[4])?,
         maxudp: number(words[5])?,
         tro: tro(words[6])?,
-        profile: VIDEO,
+        profile: number(words[7])?,
     })
 }
 
 fn limits(words: &[&str]) -> io::Result<()> {
-    say(&match set_up(EDITION_1, &seven(words)?) {
+    say(&match set_up(EDITION_1, &eight(words)?) {
         Err(number) => format!("refused {}\n", number),
         Ok(limits) => format!(
             "F {} TRO {} C_MAX {} VRX_FULL {}\n",
@@ -169,7 +169,7 @@ fn limits(words: &[&str]) -> io::Result<()> {
 /// The numbers that the C call fills, by the names that they have there.
 fn wait(words: &[&str], first: &str, arrival: &str) -> io::Result<()> {
     let answer = next_read(&Wait {
-        numbers: seven(words)?,
+        numbers: eight(words)?,
         first: number(first)?,
         arrival: number(arrival)?,
     });

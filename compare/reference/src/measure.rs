@@ -24,7 +24,8 @@ pub enum Network {
 /// VRX_FULL) with frame and peak." Request (vi): "Under edition 2 the buffer
 /// answer gains a case that names frame and kind; [...] and none means no frame
 /// closed." Request (vii): of a compressed stream it "is always none, in test plan
-/// edition 2 as well".
+/// edition 2 as well". Of an interlaced one frames are fields, and the lowest j is in
+/// the field.
 #[derive(Clone, Copy, Debug, PartialEq, Eq)]
 pub enum Buffer {
     None,
@@ -58,15 +59,24 @@ pub fn measure(
     }
 }
 
-/// The measurement of packets that are known to be accepted. Either profile "runs
+/// The measurement of packets that are known to be accepted. Every profile "runs
 /// the bucket and the frame times".
 pub fn measure_accepted(limits: &Limits, packets: &[Packet]) -> Measurement {
+    match limits.profile {
+        Profile::Video => measured(limits, packets, video),
+        Profile::Compressed => measured(limits, packets, compressed),
+        Profile::Interlaced => interlaced(limits, packets),
+    }
+}
+
+/// With the buffer answer and the rows that are made of the closed frames.
+fn measured(
+    limits: &Limits,
+    packets: &[Packet],
+    judged: fn(&Limits, &[Frame]) -> (Buffer, Vec<Row>),
+) -> Measurement {
     let bucket = bucket(limits, packets);
-    let frames = closed_frames(packets);
-    let (buffer, rows) = match limits.profile {
-        Profile::Video => video(limits, &frames),
-        Profile::Compressed => compressed(limits, &frames),
-    };
+    let (buffer, rows) = judged(limits, &closed_frames(packets));
     Measurement {
         packets: packets.len() as u64,
         frames: rows.len() as u64,
@@ -88,11 +98,26 @@ fn video(limits: &Limits, frames: &[Frame]) -> (Buffer, Vec<Row>) {
     (buffer_answer(limits, &judged), rows)
 }
 
+/// Fields are judged as frames are. And they are the frames of a progressive stream
+/// that has twice as many, each of half the length and half the packets: as F/n is
+/// the same, reads and drains lie where they did. The limits alone are of the whole
+/// frame, and C_MAX and VRX_FULL are left as they are.
+fn interlaced(limits: &Limits, packets: &[Packet]) -> Measurement {
+    let answer = measured(limits, packets, video);
+    let twice_as_many = Limits {
+        frame: limits.period.length,
+        n: limits.period.packets,
+        ..*limits
+    };
+    assert_eq!(answer, measured(&twice_as_many, packets, video));
+    answer
+}
+
 /// The same without any reads: "rows with peak and least 0 for whole frames", and
 /// no frame is judged. Those of the stream taken for video must be these, once all
 /// is left out of them that comes of reads.
 fn compressed(limits: &Limits, frames: &[Frame]) -> (Buffer, Vec<Row>) {
-    let of_frame = |(number, frame): (usize, &Frame)| match frame.kind(limits.n) {
+    let of_frame = |(number, frame): (usize, &Frame)| match frame.kind(limits.period) {
         Kind::Whole => timed_row(&times(limits, frame), number, frame),
         kind => broken_row(number, kind, frame.place),
     };
@@ -122,7 +147,7 @@ const LEAST: usize = 9;
 /// Frame numbers count broken frames too: each closed frame writes a row with
 /// its "frame number from 0".
 fn judge(limits: &Limits, number: usize, frame: &Frame) -> Judged {
-    let kind = frame.kind(limits.n);
+    let kind = frame.kind(limits.period);
     if kind == Kind::Whole {
         judge_whole(limits, number, frame)
     } else {

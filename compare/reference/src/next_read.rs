@@ -1,27 +1,37 @@
 //! Request (xiii): how long it is from a packet's arrival until the next read
-//! of its frame.
+//! of its frame, or of its field.
 
 use crate::fraction::Fraction;
 use crate::frame::t_cf;
 use crate::numbers::{set_up, Limits, Numbers, EDITION_1};
 use crate::packet::{Packet, Past};
-use crate::reads::{read_instant, strictly_before};
+use crate::reads::{read_instants, strictly_before};
 
 /// How many numbers the C call fills.
 pub const NEXT_READ_NUMBERS: u64 = 3;
 
 /// The longest wait is at rate 1, from half a frame before T_CF until a read 0
-/// that is 41,708 µs after it; and the greatest denominator is 25·20,000.
+/// that is 41,708 µs after it; and the greatest denominator is 25·20,000. Of fields
+/// both are half of that.
 const GREATEST_NUMERATOR: i128 = 844_589_250_000_000;
 
 /// What is asked: a stream, the arrival of the first packet of a frame, and that
 /// of a packet of the frame, which may be the first one itself. Both are in
-/// nanoseconds. The frame may be broken: its reads depend on nothing else.
+/// nanoseconds. The frame may be broken: its reads depend on nothing else. A
+/// compressed stream has no reads; it is answered as of video.
 #[derive(Clone, Copy, Debug, PartialEq, Eq)]
 pub struct Wait {
     pub numbers: Numbers,
     pub first: u64,
     pub arrival: u64,
+}
+
+impl Wait {
+    /// The same as another profile.
+    pub fn of(&self, profile: u64) -> Wait {
+        let numbers = self.numbers.of(profile);
+        Wait { numbers, ..*self }
+    }
 }
 
 /// The read that comes next, and the grains until then: "a numerator over 25·n
@@ -34,8 +44,9 @@ pub struct NextRead {
     pub denominator: i128,
 }
 
-/// Refusals 1 to 7 (there is no edition, and so no 8), then 12 and 13, which a packet meets after a history of the
-/// frame's first packet alone; 15 is for the room, and comes after them.
+/// Refusals 22 of a profile that there is not and 1 to 7 (there is no edition, and so
+/// no 8), then 12 and 13, which a packet meets after a history of the frame's first
+/// packet alone; 15 is for the room, and comes after them.
 fn accepted(wait: &Wait) -> Result<Limits, u8> {
     let limits = set_up(EDITION_1, &wait.numbers)?;
     match Past::of(&[first_packet(wait)]).refuses(&packet(wait)) {
@@ -57,10 +68,8 @@ fn packet(wait: &Wait) -> Packet {
 /// last read of its frame a packet has none: the next frame's are not meant.
 pub fn next_read(wait: &Wait) -> Result<Option<NextRead>, u8> {
     let limits = accepted(wait)?;
-    let start = t_cf(&first_packet(wait), limits.frame);
-    let reads: Vec<Fraction> = (0..limits.n)
-        .map(|j| read_instant(&limits, start, j))
-        .collect();
+    let start = t_cf(&first_packet(wait), limits.period);
+    let reads = read_instants(&limits, start);
     let arrival = packet(wait).grains();
     let next = first_left(&reads, Fraction::whole(arrival));
     Ok(next.map(|j| {
@@ -100,7 +109,7 @@ fn numerator(read: Fraction, arrival: i128, denominator: i128) -> i128 {
 }
 
 /// "over 25·n grains for gapped and over n for linear": that denominator, and
-/// R·F/n over it.
+/// R·F/n over it. Of fields too n and F are the whole frame's.
 fn over(schedule: u64, limits: &Limits) -> (i128, i128) {
     match schedule {
         0 => (25 * limits.n, 24 * limits.frame),

@@ -15,7 +15,7 @@ pub const WRAP: i128 = 1_288_490_188_800_000;
 /// The seven numbers and the profile as the caller gives them. `tro` is in whole
 /// microseconds; `None` is the default. "Records keep class 0 and a default TRO as
 /// written", so nothing is worked out here; what class 0 means in a file is
-/// `record`'s. What takes no profile (the limits, the next read) means video.
+/// `record`'s.
 #[derive(Clone, Copy, Debug, PartialEq, Eq)]
 pub struct Numbers {
     pub rate: u64,
@@ -45,17 +45,19 @@ impl Numbers {
         }
     }
 
-    /// The same stream as another profile: "Stream numbers are as in the base."
+    /// The same numbers as those of another profile.
     pub fn of(&self, profile: u64) -> Numbers {
         Numbers { profile, ..*self }
     }
 }
 
 /// Request (vii): "Add a profile". It has no number but its record's: "a parameter
-/// record of kind 3, laid out as kind 1, chooses it".
+/// record of kind 3, laid out as kind 1, chooses it"; and request (ix): "a parameter
+/// record of kind 4, laid out as kind 1, chooses it".
 pub const VIDEO: u64 = 1;
 pub const COMPRESSED: u64 = 3;
-pub const PROFILES: [u64; 2] = [VIDEO, COMPRESSED];
+pub const INTERLACED: u64 = 4;
+pub const PROFILES: [u64; 3] = [VIDEO, COMPRESSED, INTERLACED];
 
 /// What is measured of a stream.
 #[derive(Clone, Copy, Debug, PartialEq, Eq)]
@@ -63,6 +65,8 @@ pub enum Profile {
     Video,
     /// "ST 2110-22 senders, to which the receiver buffer model does not apply".
     Compressed,
+    /// "On old studio cameras each marker closes a field."
+    Interlaced,
 }
 
 /// Any other is an "unknown kind".
@@ -70,8 +74,33 @@ pub(crate) fn profile_of(number: u64) -> Option<Profile> {
     match number {
         VIDEO => Some(Profile::Video),
         COMPRESSED => Some(Profile::Compressed),
+        INTERLACED => Some(Profile::Interlaced),
         _ => None,
     }
+}
+
+/// What a marker closes: a frame, or a field.
+#[derive(Clone, Copy, Debug, PartialEq, Eq)]
+pub struct Period {
+    /// In grains. Periods start at its multiples.
+    pub length: i128,
+    /// Its packets, and its reads.
+    pub packets: i128,
+}
+
+/// A frame has F and n. "field periods start at multiples of F/2, the field has n/2
+/// packets": none where n is odd.
+fn period_of(profile: Profile, frame: i128, n: i128) -> Option<Period> {
+    let in_a_frame = match profile {
+        Profile::Video | Profile::Compressed => 1,
+        Profile::Interlaced => 2,
+    };
+    // Every frame length is even.
+    assert_eq!(frame % in_a_frame, 0);
+    (n % in_a_frame == 0).then_some(Period {
+        length: frame / in_a_frame,
+        packets: n / in_a_frame,
+    })
 }
 
 /// Request (vi): "the edition is chosen at set-up". What carries none means
@@ -101,14 +130,17 @@ fn edition_of(number: u32) -> Option<Edition> {
 pub struct Limits {
     /// The test plan by which the buffer is judged. No limit depends on it.
     pub edition: Edition,
-    /// Whether there is a buffer to be judged. No limit depends on it either.
+    /// Whether there is a buffer to be judged. "The limits C_MAX and VRX_FULL use n
+    /// and the whole frame" whatever it is.
     pub profile: Profile,
-    /// F, in grains.
+    /// F, in grains: the whole frame's.
     pub frame: i128,
     /// R of the schedule.
     pub r: Fraction,
-    /// n.
+    /// n: the whole frame's.
     pub n: i128,
+    /// The frame, or the field.
+    pub period: Period,
     /// TRO, in grains.
     pub tro: i128,
     pub c_max: i128,
@@ -161,21 +193,19 @@ pub fn class_of(class: u64, schedule: u64) -> Option<Class> {
 }
 
 /// "TRO: given in whole microseconds, below one frame, or default: 43F/1125
-/// for height 1080 and up, else 28F/750."
-pub fn tro_grains(tro: Option<u64>, height: u64, frame: i128) -> Option<i128> {
-    match tro {
-        Some(microseconds) => given_tro(microseconds, frame),
-        None => Some(default_tro(height, frame)),
+/// for height 1080 and up, else 28F/750." Request (ix): "TRO must be given", and "7
+/// also for a default TRO or one of F/2 and above".
+fn tro_grains(profile: Profile, numbers: &Numbers, frame: i128, period: Period) -> Option<i128> {
+    match (numbers.tro, profile) {
+        (Some(microseconds), _) => given_tro(microseconds, period),
+        (None, Profile::Interlaced) => None,
+        (None, _) => Some(default_tro(numbers.height, frame)),
     }
 }
 
-fn given_tro(microseconds: u64, frame: i128) -> Option<i128> {
+fn given_tro(microseconds: u64, period: Period) -> Option<i128> {
     let grains = i128::from(microseconds) * GRAINS_PER_MICROSECOND;
-    if grains < frame {
-        Some(grains)
-    } else {
-        None
-    }
+    (grains < period.length).then_some(grains)
 }
 
 fn default_tro(height: u64, frame: i128) -> i128 {
@@ -222,7 +252,8 @@ fn vrx_full(class: Class, n: i128, maxudp: i128, frame: i128) -> i128 {
 /// against the schedule), height, n, MAXUDP, TRO." Request (vi): "8 for an
 /// edition other than 1 or 2, after 7." Request (vii) has no number of its own: a
 /// profile that there is not is an "unknown kind", 22, which in a file comes before
-/// set-up and so comes before 1 without one.
+/// set-up and so comes before 1 without one. Request (ix): "5 also for odd n here, 7
+/// also for a default TRO or one of F/2 and above."
 pub fn set_up(edition: u32, numbers: &Numbers) -> Result<Limits, u8> {
     let profile = profile_of(numbers.profile).ok_or(22)?;
     let frame = frame_length(numbers.rate).ok_or(1)?;
@@ -230,16 +261,18 @@ pub fn set_up(edition: u32, numbers: &Numbers) -> Result<Limits, u8> {
     let class = class_of(numbers.class, numbers.schedule).ok_or(3)?;
     check((1..=65_535).contains(&numbers.height), 4)?;
     check((1..=20_000).contains(&numbers.packets_per_frame), 5)?;
-    check([1460, 8960].contains(&numbers.maxudp), 6)?;
-    let tro = tro_grains(numbers.tro, numbers.height, frame).ok_or(7)?;
-    let edition = edition_of(edition).ok_or(8)?;
     let n = i128::from(numbers.packets_per_frame);
+    let period = period_of(profile, frame, n).ok_or(5)?;
+    check([1460, 8960].contains(&numbers.maxudp), 6)?;
+    let tro = tro_grains(profile, numbers, frame, period).ok_or(7)?;
+    let edition = edition_of(edition).ok_or(8)?;
     Ok(Limits {
         edition,
         profile,
         frame,
         r,
         n,
+        period,
         tro,
         c_max: c_max(class, n, r, frame),
         vrx_full: vrx_full(class, n, i128::from(numbers.maxudp), frame),

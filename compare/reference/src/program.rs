@@ -13,10 +13,10 @@ use std::time::{Duration, Instant};
 
 use crate::capture::{self, expected_capture_output, Asked};
 use crate::cases::{captures, class_0_streams, edition_streams};
-use crate::generate::{as_profiles, file, under};
+use crate::generate::{as_profiles, file, under, FIRST_KIND};
 use crate::generate::{OTHER_EDITIONS, OTHER_PROFILES, WIDE_PROFILES};
-use crate::numbers::{Numbers, EDITIONS, EDITION_1, EDITION_2};
-use crate::numbers::{COMPRESSED, PROFILES, VIDEO};
+use crate::numbers::{set_up, Numbers, EDITIONS, EDITION_1, EDITION_2};
+use crate::numbers::{COMPRESSED, INTERLACED, PROFILES, VIDEO};
 use crate::output::{expected_output, output_by};
 use crate::record::{packet_body, parameters_body, read, record, write, VERSIONS};
 use crate::traffic;
@@ -64,7 +64,7 @@ impl Input {
         let others = [
             self.class_0_meant_otherwise(),
             self.by_the_other_edition(),
-            self.as_the_other_profile(),
+            self.as_another_profile(),
         ];
         let shown = others.into_iter().flatten();
         let shown = shown.filter(|(_, text)| outcomes(text) != own);
@@ -89,16 +89,19 @@ impl Input {
         }
     }
 
-    /// The profile as which it is measured, and the text that would come as the
-    /// other one.
-    fn as_the_other_profile(&self) -> Option<(&'static str, String)> {
+    /// The profile as which it is measured, and the text that would come as another
+    /// one. As interlaced it may be refused where it is not as video.
+    fn as_another_profile(&self) -> Option<(&'static str, String)> {
         let own = match &self.what {
-            What::RecordFile => read(EDITION_1, &self.bytes).numbers?.profile,
+            What::RecordFile => u64::from(*self.bytes.get(FIRST_KIND)?),
             What::Capture(asked) => asked.numbers.profile,
         };
+        let refused = self.wanted().contains("refused ");
         let (name, other) = match own {
             VIDEO => ("as video", COMPRESSED),
             COMPRESSED => ("as compressed", VIDEO),
+            INTERLACED if refused => ("refused as interlaced alone", VIDEO),
+            INTERLACED => ("as interlaced", VIDEO),
             _ => return None,
         };
         let text = match &self.what {
@@ -189,26 +192,30 @@ pub struct Told {
     pub same: bool,
 }
 
-/// Generated files of the seed and some fixed ones, in both versions and as both
-/// profiles, and every `.rec` file of the directory as it is.
+/// Generated files of the seed and some fixed ones, in both versions and as every
+/// profile, and every `.rec` file of the directory as it is.
 pub fn inputs(seed: u64, count: u64, directory: &Path) -> io::Result<Vec<Input>> {
     let mut inputs = vec![];
     for index in 0..count {
         let name = format!("file {} of seed {}", index, seed);
-        inputs.extend(in_both_versions(index, &name, &file(seed, index)));
+        inputs.extend(as_each_profile(index, &name, &file(seed, index)));
     }
     // So that what class 0 means shows, whatever the seed.
     for (place, (numbers, packets)) in class_0_streams().iter().enumerate() {
         let file = write(VERSIONS[0], numbers, packets);
-        // As video in each version, and as compressed.
+        // As each profile in each version.
         for turn in 0..2 {
             let name = format!("fixed file {}", place);
-            inputs.extend(in_both_versions(turn, &name, &file));
+            inputs.extend(as_each_profile(turn, &name, &file));
         }
     }
-    // So that it shows that edition 1 is meant, and as compressed nothing of it.
+    // So that it shows that edition 1 is meant, and as compressed nothing of it: fields
+    // as interlaced, frames as the others.
     for (place, (numbers, packets)) in edition_streams().iter().enumerate() {
-        inputs.extend(PROFILES.map(|profile| Input {
+        let fields = set_up(EDITION_1, &numbers.of(INTERLACED)).is_ok();
+        let profiles = PROFILES.into_iter();
+        let own = profiles.filter(|profile| fields == (*profile == INTERLACED));
+        inputs.extend(own.map(|profile| Input {
             name: format!("fixed file {} of the editions, kind {}", place, profile),
             bytes: write(VERSIONS[1], &numbers.of(profile), packets),
             what: What::RecordFile,
@@ -224,18 +231,21 @@ pub fn inputs(seed: u64, count: u64, directory: &Path) -> io::Result<Vec<Input>>
     Ok(inputs)
 }
 
-/// One version as video and the other as compressed; which, takes turns.
-fn in_both_versions(turn: u64, name: &str, file: &[u8]) -> Vec<Input> {
+/// As each profile, in one version or the other, which takes turns; a file whose first
+/// record is no parameters in each version, and one that is of no version as it is.
+fn as_each_profile(turn: u64, name: &str, file: &[u8]) -> Vec<Input> {
     let named = |bytes: &[u8]| match bytes {
         [version, _, _, kind, ..] => format!("{}, version {}, kind {}", name, version, kind),
         _ => name.to_string(),
     };
-    let profiles = PROFILES.into_iter().cycle().skip(turn as usize % 2);
-    let inputs = under(&VERSIONS, file)
-        .into_iter()
-        .zip(profiles)
+    let versions = under(&VERSIONS, file);
+    let known = as_profiles(&PROFILES, file).len();
+    let turns = versions.iter().cycle().skip(turn as usize % 2);
+    let inputs = turns
+        .zip(PROFILES)
+        .take(known.max(versions.len()))
         .map(|(file, profile)| {
-            let bytes = as_profiles(&[profile], &file).concat();
+            let bytes = as_profiles(&[profile], file).concat();
             Input {
                 name: named(&bytes),
                 bytes,
@@ -277,8 +287,10 @@ pub fn capture_inputs(seed: u64, count: u64, directories: &[&Path]) -> io::Resul
 fn by_all() -> Vec<(u32, u64)> {
     let editions = [&EDITIONS[..], &OTHER_EDITIONS].concat();
     let mut all: Vec<(u32, u64)> = editions.into_iter().map(|e| (e, VIDEO)).collect();
-    all.extend(EDITIONS.map(|edition| (edition, COMPRESSED)));
-    let profiles = [OTHER_PROFILES, WIDE_PROFILES].concat();
+    for profile in [COMPRESSED, INTERLACED] {
+        all.extend(EDITIONS.map(|edition| (edition, profile)));
+    }
+    let profiles = [&OTHER_PROFILES[..], &WIDE_PROFILES].concat();
     all.extend(profiles.into_iter().map(|profile| (EDITION_1, profile)));
     all
 }
@@ -325,8 +337,8 @@ fn files_of(directory: &Path, suffix: &str) -> io::Result<Vec<PathBuf>> {
 
 /// A file does not say what is to be asked of it: the ports to which it has the
 /// most packets, and one to which it has none, each with so many packets a frame
-/// as the last frame has that closes there, by each edition once and as each profile
-/// once; which goes with which takes turns.
+/// as the last frame has that closes there, or twice as many where that is a field;
+/// as each profile once, by one edition or the other, which takes turns.
 fn asked_of(bytes: &[u8]) -> Vec<Asked> {
     let ports = capture::ports(bytes);
     let silent = (1..=u16::MAX).find(|port| !ports.contains(port));
@@ -336,19 +348,23 @@ fn asked_of(bytes: &[u8]) -> Vec<Asked> {
         let frames = packets.split_inclusive(|packet| packet.marker == 1);
         let counts: Vec<usize> = frames.map(|frame| frame.len()).collect();
         let last = counts.iter().rev().nth(1).copied().unwrap_or(4);
-        let profiles = PROFILES.into_iter().cycle().skip(turn);
-        let by = EDITIONS.into_iter().zip(profiles);
-        for ((edition, profile), (offset, rate, schedule, class)) in
-            by.zip([(37, 6, 0, 1), (0, 3, 1, 3)])
+        let editions = EDITIONS.into_iter().cycle().skip(turn);
+        let by = PROFILES.into_iter().zip(editions);
+        for ((profile, edition), (offset, rate, schedule, class)) in
+            by.zip([(37, 6, 0, 1), (0, 3, 1, 3), (37, 5, 0, 0)])
         {
+            let (fields, tro) = match profile {
+                INTERLACED => (2, Some(700)),
+                _ => (1, None),
+            };
             let numbers = Numbers {
                 rate,
                 schedule,
                 class,
                 height: 1080,
-                packets_per_frame: last as u64,
+                packets_per_frame: fields * last as u64,
                 maxudp: 1460,
-                tro: None,
+                tro,
                 profile,
             };
             all.push(Asked {
@@ -728,7 +744,7 @@ impl Tally {
 
 /// Every last line that a record file can bring about, but a refusal by 14,
 /// which takes a billion packets; and last lines that would be others if class 0
-/// meant something else, edition 2 were meant, or it were of the other profile.
+/// meant something else, edition 2 were meant, or it were of another profile.
 pub const OF_FILES: &[&str] = &[
     "network pass",
     "network burst",
@@ -741,6 +757,8 @@ pub const OF_FILES: &[&str] = &[
     "by edition 1",
     "as video",
     "as compressed",
+    "as interlaced",
+    "refused as interlaced alone",
     "refused 01",
     "refused 02",
     "refused 03",
@@ -758,8 +776,8 @@ pub const OF_FILES: &[&str] = &[
 ];
 
 /// The same of a capture; a marker is one bit there, so that 11 is not among
-/// them, and class 0 has one meaning. Of both editions and of both profiles there
-/// are last lines that would be others by the other one.
+/// them, and class 0 has one meaning. Of both editions and of every profile there
+/// are last lines that would be others by another one.
 pub const OF_CAPTURES: &[&str] = &[
     "network pass",
     "network burst",
@@ -775,6 +793,8 @@ pub const OF_CAPTURES: &[&str] = &[
     "by edition 2",
     "as video",
     "as compressed",
+    "as interlaced",
+    "refused as interlaced alone",
     "refused 01",
     "refused 02",
     "refused 03",
@@ -902,11 +922,11 @@ mod tests {
         assert!(through(&["false"], 10, Way::Whole).contains("it ended with"));
     }
 
-    /// Every generated file that has a version is run in both, one as video and one
-    /// as compressed if its first record has such a kind; one of no version as it is.
-    /// What class 0 means, and the profile, show in the fixed files, whatever the seed.
+    /// Every generated file that has a version is run in both, and as every profile if
+    /// its first record has such a kind; one of no version as it is. What class 0
+    /// means, and the profile, show in the fixed files, whatever the seed.
     #[test]
-    fn files_are_run_in_both_versions_and_as_both_profiles() {
+    fn files_are_run_in_both_versions_and_as_every_profile() {
         let nowhere = Path::new(env!("CARGO_MANIFEST_DIR"));
         let fixed = inputs(1, 0, nowhere).unwrap();
         let outcomes: Vec<String> = fixed.iter().flat_map(Input::outcomes).collect();
@@ -915,6 +935,8 @@ mod tests {
             "class 0 as strict",
             "as video",
             "as compressed",
+            "as interlaced",
+            "refused as interlaced alone",
         ] {
             assert!(outcomes.iter().any(|outcome| outcome == shown));
         }
@@ -923,21 +945,22 @@ mod tests {
             .into_iter()
             .map(|input| input.bytes)
             .collect();
-        let mut in_pairs = [0; 4];
+        let mut in_pairs = BTreeMap::new();
         for index in 0..100 {
             let own = file(1, index);
-            for bytes in under(&VERSIONS, &own) {
-                let twins = as_profiles(&PROFILES, &bytes);
-                assert!(twins.contains(&bytes));
+            for twin in as_profiles(&PROFILES, &own) {
+                let both = under(&VERSIONS, &twin);
                 let run = |twin: &&Vec<u8>| generated.contains(twin);
-                let tried: Vec<&Vec<u8>> = twins.iter().filter(run).collect();
-                assert_eq!(tried.len(), 1);
-                if let ([version @ 1..=2, _, _, kind, ..], 2) = (&tried[0][..], twins.len()) {
-                    in_pairs[usize::from(version - 1) * 2 + usize::from(kind / 3)] += 1;
+                let tried: Vec<&Vec<u8>> = both.iter().filter(run).collect();
+                let known = as_profiles(&PROFILES, &own).len() == PROFILES.len();
+                assert_eq!(tried.len(), if known { 1 } else { both.len() });
+                if let ([version @ 1..=2, _, _, kind, ..], true) = (&tried[0][..], known) {
+                    *in_pairs.entry((*version, *kind)).or_insert(0) += 1;
                 }
             }
         }
-        assert!(in_pairs.iter().all(|count| *count > 20), "{:?}", in_pairs);
+        assert_eq!(in_pairs.len(), VERSIONS.len() * PROFILES.len());
+        assert!(in_pairs.values().all(|count| *count > 20), "{:?}", in_pairs);
     }
 
     /// Every last line, what class 0 means and by which edition it was measured.
@@ -962,7 +985,7 @@ mod tests {
             }
         }
         // One of each is enough: they are run in three ways.
-        assert!(inputs.len() < 160, "{} captures", inputs.len());
+        assert!(inputs.len() < 220, "{} captures", inputs.len());
     }
 
     /// Request (vi): "`vtiming` [...] mean[s] edition 1". By edition 2 some of the
@@ -976,7 +999,7 @@ mod tests {
         assert!(inputs
             .iter()
             .filter(shown)
-            .all(|input| read(EDITION_1, &input.bytes).numbers.unwrap().profile == VIDEO));
+            .all(|input| read(EDITION_1, &input.bytes).numbers.unwrap().profile != COMPRESSED));
         let mut instead: Vec<String> = inputs
             .iter()
             .filter(shown)

@@ -3,8 +3,9 @@
 //! alone; of the library's state nothing else is known here.
 
 use crate::measure::{Buffer, Measurement};
-use crate::numbers::{frame_length, Edition, Limits, Numbers, Profile, GRAINS_PER_MICROSECOND};
-use crate::numbers::{COMPRESSED, EDITION_1, EDITION_2, VIDEO};
+use crate::numbers::{set_up, Edition, Limits, Numbers, Period, Profile};
+use crate::numbers::{COMPRESSED, EDITION_1, EDITION_2, GRAINS_PER_MICROSECOND};
+use crate::numbers::{INTERLACED, PROFILES, VIDEO};
 use crate::output::nine_numbers;
 use crate::packet::{Packet, Past, LONGEST_HISTORY, MOST_PACKETS};
 
@@ -93,7 +94,10 @@ struct Known {
     /// A compressed state keeps nothing of reads, and no buffer answer.
     profile: Profile,
     buffer: Buffer,
+    /// F.
     frame: u64,
+    /// The frame, or the field.
+    period: Period,
     past: Past,
     /// The arrival of the last marker packet; none in the lead-in.
     marked: Option<u64>,
@@ -112,7 +116,8 @@ impl Known {
             edition: stream.limits.edition,
             profile: stream.limits.profile,
             buffer: so_far.buffer,
-            frame: frame_length(numbers.rate).expect("set-up has accepted it") as u64,
+            frame: stream.limits.frame as u64,
+            period: stream.limits.period,
             past: Past::of(history),
             marked: marker.map(|place| history[place].arrival),
             held: open.len() as u64,
@@ -122,15 +127,25 @@ impl Known {
 
     /// The range of what is kept of reads: "at most" so much, or 0.
     fn of_reads(&self, most: u64) -> u64 {
-        match self.profile {
-            Profile::Video => most,
-            Profile::Compressed => 0,
+        if self.judged() {
+            most
+        } else {
+            0
         }
     }
 
-    /// "den is 25n for gapped, n for linear".
-    fn read_den(&self) -> u64 {
-        let n = self.numbers.packets_per_frame;
+    /// Whether there is a buffer to be judged.
+    fn judged(&self) -> bool {
+        self.profile != Profile::Compressed
+    }
+
+    /// Whether set-up accepts the numbers of this stream as another profile.
+    fn accepted_as(&self, profile: u64) -> bool {
+        set_up(EDITION_1, &self.numbers.of(profile)).is_ok()
+    }
+
+    /// "den is 25n for gapped, n for linear", also of fields: n is the frame's.
+    fn read_den_of(&self, n: u64) -> u64 {
         if self.numbers.schedule == 0 {
             25 * n
         } else {
@@ -173,6 +188,8 @@ pub fn changes(stream: &Stream, history: &[Packet], so_far: &Measurement) -> Vec
     stream_numbers(&known, &mut sides);
     edition(&known, &mut sides);
     profile(&known, &mut sides);
+    compressed(&mut sides);
+    interlaced(&known, &mut sides);
     past(&known, &mut sides);
     bucket(&known, &mut sides);
     counts(&known, &mut sides);
@@ -213,15 +230,21 @@ fn stream_numbers(known: &Known, sides: &mut Sides) {
     sides.outside(&[(N, 0)]);
     sides.outside(&[(N, 20_001)]);
     sides.outside(&[(N, (1 << 32) + numbers.packets_per_frame)]);
+    // Request (ix): "5 also for odd n here".
+    let frames = known.profile != Profile::Interlaced;
+    for (n, in_range) in [(1, frames), (2, true), (3, frames), (19_999, frames)] {
+        sides.push(&[&[(N, n)][..], &NO_READS].concat(), in_range);
+    }
     sides.within(&[(MAXUDP, 1460)]);
     sides.within(&[(MAXUDP, 8960)]);
     for maxudp in [0, 1459, 1461, 8961, 65_536 + 1460] {
         sides.outside(&[(MAXUDP, maxudp)]);
     }
-    // "4,294,967,295, or 27000·tro < F".
-    let most = (known.frame - 1) / GRAINS_PER_MICROSECOND as u64;
+    // "4,294,967,295, or 27000·tro < F"; request (ix): "7 also for a default TRO or
+    // one of F/2 and above".
+    let most = ((known.period.length - 1) / GRAINS_PER_MICROSECOND) as u64;
     sides.within(&[(TRO, most)]);
-    sides.within(&[(TRO, 0xffff_ffff)]);
+    sides.push(&[(TRO, 0xffff_ffff)], frames);
     sides.outside(&[(TRO, most + 1)]);
     sides.outside(&[(TRO, 0xffff_fffe)]);
     sides.outside(&[(TRO, 1 << 32)]);
@@ -250,30 +273,42 @@ fn edition(known: &Known, sides: &mut Sides) {
 /// The five words that a compressed state has as 0.
 const OF_READS: [u8; 5] = [READS, WAIT, TOP, LATE, DEFICIT];
 
-/// "any of the two", and a word that is 1 or 3 in its low bits alone is neither. As
-/// video a compressed state is in range, since 0 and none are. As compressed a video
-/// state is in range where there is nothing that it would have to have lost: a first
-/// packet in its open frame is in the buffer, or comes after a read.
+/// What a state of any n and of either period may have of reads: the range of each
+/// hangs on n or on the frame length, and 0 is in all of them.
+const NO_READS: [(u8, u64); 3] = [(READS, 0), (WAIT, 0), (DEFICIT, 0)];
+
+/// "any of the three", and a word that is 1, 3 or 4 in its low bits alone is none of
+/// them. As video every state is in range, since 0 and none are, and half a frame
+/// and half its packets are within a frame. As compressed another is in range where
+/// there is nothing that it would have to have lost: a first packet in its open frame
+/// is in the buffer, or comes after a read.
 fn profile(known: &Known, sides: &mut Sides) {
-    for other in [0, 2, 4, 255, 256 + 1, 256 + 3, (1 << 32) + 3, u64::MAX] {
+    for other in [0, 2, 5, 255, u64::MAX] {
         sides.outside(&[(PROFILE, other)]);
     }
+    for lookalike in PROFILES.map(|profile| 256 + profile) {
+        sides.outside(&[(PROFILE, lookalike)]);
+    }
+    sides.outside(&[(PROFILE, (1 << 32) + COMPRESSED)]);
     let nothing = known.held == 0 && known.buffer == Buffer::None;
     sides.within(&[(PROFILE, VIDEO)]);
-    sides.push(
-        &[(PROFILE, COMPRESSED)],
-        nothing || known.profile == Profile::Compressed,
-    );
-    // What makes a compressed state of any, and then one thing more than that.
+    sides.push(&[(PROFILE, COMPRESSED)], nothing || !known.judged());
+    // Where no frame is open, nothing is kept of one: set-up alone decides. Where one
+    // is, its first packet may come later than a field's can.
+    let fields = known.accepted_as(INTERLACED);
+    if known.held == 0 || !fields || known.profile == Profile::Interlaced {
+        sides.push(&[(PROFILE, INTERLACED)], fields);
+    }
+}
+
+/// What makes a compressed state of any, and then one thing more than that.
+fn compressed(sides: &mut Sides) {
     let mut none = vec![(PROFILE, COMPRESSED)];
     none.extend(OF_READS.map(|word| (word, 0)));
     none.extend(answer(0, 0, 0));
     sides.within(&none);
     for word in OF_READS {
-        let mut kept = none.clone();
-        let changed = kept.iter_mut().find(|(other, _)| *other == word);
-        changed.expect("it is among them").1 = 1;
-        sides.outside(&kept);
+        sides.outside(&with(&none, word, 1));
     }
     let front = none.len() - 3;
     for failed in [
@@ -287,6 +322,39 @@ fn profile(known: &Known, sides: &mut Sides) {
             sides.outside(&[&none[..front], &failed, &by].concat());
         }
     }
+}
+
+/// What makes an interlaced state of any: an even n, a TRO below half a frame, and
+/// nothing of an open frame that hangs on its length or its packets. Then both sides
+/// of what hangs on them: half of what a frame has.
+fn interlaced(known: &Known, sides: &mut Sides) {
+    const PACKETS_OF_A_FIELD: u64 = 3;
+    let even = 2 * PACKETS_OF_A_FIELD;
+    let (den, half) = (known.read_den_of(even), known.frame / 2);
+    let mut fields = vec![(PROFILE, INTERLACED), (N, even), (TRO, 700), (PHASE, 0)];
+    fields.extend(NO_READS);
+    sides.within(&fields);
+    for (word, most) in [
+        (N, 20_000),
+        (TRO, (half - 1) / GRAINS_PER_MICROSECOND as u64),
+        (PHASE, 2 * half),
+        (READS, PACKETS_OF_A_FIELD),
+        (WAIT, 2 * half * den),
+        (DEFICIT, PACKETS_OF_A_FIELD),
+    ] {
+        sides.within(&with(&fields, word, most));
+        sides.outside(&with(&fields, word, most + 1));
+    }
+    for (word, value) in [(N, 1), (N, 5), (N, 19_999), (TRO, 0xffff_ffff)] {
+        sides.outside(&with(&fields, word, value));
+    }
+}
+
+/// These words, with another value for one of them.
+fn with(words: &[(u8, u64)], word: u8, value: u64) -> Vec<(u8, u64)> {
+    assert!(words.iter().any(|(other, _)| *other == word));
+    let changed = |(other, own): &(u8, u64)| (*other, if *other == word { value } else { *own });
+    words.iter().map(changed).collect()
 }
 
 /// The three words of a buffer answer.
@@ -412,9 +480,13 @@ fn open_frame(known: &Known, sides: &mut Sides) {
         sides.within(&[(OPEN_FIRST, u64::MAX)]);
     }
     sides.at_most(STAMP, 0xffff_ffff);
-    sides.at_most(PHASE, 2 * known.frame);
-    sides.at_most(READS, known.of_reads(known.numbers.packets_per_frame));
-    sides.at_most(WAIT, known.of_reads(2 * known.frame * known.read_den()));
+    // Twice the period, as many reads as it has packets.
+    let Period { length, packets } = known.period;
+    let twice = 2 * length as u64;
+    sides.at_most(PHASE, twice);
+    sides.at_most(READS, known.of_reads(packets as u64));
+    let n = known.numbers.packets_per_frame;
+    sides.at_most(WAIT, known.of_reads(twice * known.read_den_of(n)));
 }
 
 /// "at most `held`", "at most n"; of a compressed state the latter three are 0.
@@ -423,7 +495,7 @@ fn kept(known: &Known, sides: &mut Sides) {
     for word in [TOP, LATE] {
         sides.at_most(word, known.of_reads(known.held));
     }
-    sides.at_most(DEFICIT, known.of_reads(known.numbers.packets_per_frame));
+    sides.at_most(DEFICIT, known.of_reads(known.period.packets as u64));
     buffer(known, sides);
     broken(known, sides);
 }
@@ -432,22 +504,22 @@ fn kept(known: &Known, sides: &mut Sides) {
 /// compressed state has none alone, and as video it may have any.
 fn buffer(known: &Known, sides: &mut Sides) {
     let packets = known.past.count;
-    let video = known.profile == Profile::Video;
+    let judged = known.judged();
     for none in [0, 1] {
-        sides.push(&answer(none, 0, 0), video || none == 0);
+        sides.push(&answer(none, 0, 0), judged || none == 0);
         sides.outside(&answer(none, 1, 0));
         sides.outside(&answer(none, 0, 1));
     }
     for failed in [2, 3] {
-        sides.push(&answer(failed, 0, 0), video);
-        sides.push(&answer(failed, packets, packets), video);
+        sides.push(&answer(failed, 0, 0), judged);
+        sides.push(&answer(failed, packets, packets), judged);
         sides.outside(&answer(failed, packets + 1, packets));
         sides.outside(&answer(failed, packets, packets + 1));
     }
     // A failing answer that both editions have, by each.
     for edition in [EDITION_1, EDITION_2] {
         let under = [&answer(2, 0, 0)[..], &[(EDITION, u64::from(edition))]].concat();
-        sides.push(&under, video);
+        sides.push(&under, judged);
         sides.within(&[&under[..], &[(PROFILE, VIDEO)]].concat());
     }
     sides.outside(&answer(5, 0, 0));
@@ -458,7 +530,7 @@ fn buffer(known: &Known, sides: &mut Sides) {
 /// Of a broken frame its kind, 1 to 3, which hangs on no count of packets.
 fn broken(known: &Known, sides: &mut Sides) {
     let packets = known.past.count;
-    let video = known.profile == Profile::Video;
+    let judged = known.judged();
     for (frame, kind, in_range) in [
         (0, 1, true),
         (0, 3, true),
@@ -473,10 +545,11 @@ fn broken(known: &Known, sides: &mut Sides) {
     ] {
         let broken = answer(4, frame, kind);
         let by = |edition| [&broken[..], &[(EDITION, u64::from(edition))]].concat();
-        sides.push(&broken, in_range && video && known.edition == Edition::Two);
+        let two = known.edition == Edition::Two;
+        sides.push(&broken, in_range && judged && two);
         // The same by the one edition and by the other; and by the other as video.
         sides.outside(&by(EDITION_1));
-        sides.push(&by(EDITION_2), in_range && video);
+        sides.push(&by(EDITION_2), in_range && judged);
         let as_video = [&by(EDITION_2)[..], &[(PROFILE, VIDEO)]].concat();
         sides.push(&as_video, in_range);
     }

@@ -1,4 +1,5 @@
-//! The reads of a whole frame and the receiver buffer they empty.
+//! The reads of a whole frame, or of a whole field, and the receiver buffer they
+//! empty.
 
 use crate::fraction::Fraction;
 use crate::numbers::Limits;
@@ -19,7 +20,9 @@ pub struct Reading {
     pub first_late: Option<u64>,
 }
 
-/// "Read j (0 to n−1) is at T_CF + TRO + j·R·F/n, kept as a fraction."
+/// "Read j (0 to n−1) is at T_CF + TRO + j·R·F/n, kept as a fraction." Request (ix):
+/// "reads are spaced R·F/n apart from the field's own first read": the whole frame's
+/// F and n.
 pub fn read_instant(limits: &Limits, t_cf: i128, j: i128) -> Fraction {
     let after = Fraction::whole(j * limits.frame)
         .times(limits.r)
@@ -27,11 +30,17 @@ pub fn read_instant(limits: &Limits, t_cf: i128, j: i128) -> Fraction {
     Fraction::whole(t_cf + limits.tro).plus(after)
 }
 
-/// `packets` are the n packets of a whole frame.
-pub fn reading(limits: &Limits, t_cf: i128, packets: &[Packet]) -> Reading {
-    let reads: Vec<Fraction> = (0..limits.n)
+/// All of them: n of a frame, n/2 of a field. Those of a field may go on after the
+/// next one has started; "the field's own" alone are counted.
+pub(crate) fn read_instants(limits: &Limits, t_cf: i128) -> Vec<Fraction> {
+    (0..limits.period.packets)
         .map(|j| read_instant(limits, t_cf, j))
-        .collect();
+        .collect()
+}
+
+/// `packets` are those of a whole frame or field.
+pub fn reading(limits: &Limits, t_cf: i128, packets: &[Packet]) -> Reading {
+    let reads = read_instants(limits, t_cf);
     let arrivals: Vec<Fraction> = packets
         .iter()
         .map(|packet| Fraction::whole(packet.grains()))

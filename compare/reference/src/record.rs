@@ -11,7 +11,8 @@ use crate::Refusal;
 pub const VERSIONS: [u8; 2] = [1, 2];
 /// "Kind 1, 16 bytes: kind, rate, schedule, class, height (2), n (4), MAXUDP
 /// (2), TRO (4; all ones is default)." Request (vii): "a parameter record of kind
-/// 3, laid out as kind 1". The kind is the profile's number.
+/// 3, laid out as kind 1"; request (ix): "a parameter record of kind 4, laid out as
+/// kind 1". The kind is the profile's number.
 const PARAMETERS_LENGTH: usize = 16;
 /// "Kind 2, 14 bytes: kind, arrival (8), timestamp (4), marker."
 const PACKET_KIND: u8 = 2;
@@ -125,7 +126,7 @@ impl FileReading {
         Ok(body.len())
     }
 
-    /// "23: [...] parameters again", of either kind after either, before set-up
+    /// "23: [...] parameters again", of any kind after any, before set-up
     /// has a word. Set-up gives 8 too, so that a wrong edition is refused where
     /// these parameters would be accepted: at this record, and before any later one
     /// is looked at.
@@ -166,7 +167,7 @@ fn body_of(rest: &[u8]) -> Option<&[u8]> {
 }
 
 /// "22: unknown kind, or wrong length for its kind". Request (vii): "22 and 23 read
-/// with that kind too".
+/// with that kind too", and request (ix): "22 and 23 read with it".
 fn record_of(body: &[u8]) -> Option<Record> {
     let parameters = profile_of(u64::from(body[0])).is_some();
     match (body[0], body.len()) {

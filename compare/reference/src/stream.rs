@@ -3,7 +3,8 @@
 
 use crate::bucket::{drain_instant, drains_by};
 use crate::fraction::Fraction;
-use crate::numbers::{frame_length, set_up, Limits, Numbers, EDITION_1, VIDEO};
+use crate::numbers::{frame_length, set_up, Limits, Numbers, EDITION_1};
+use crate::numbers::{COMPRESSED, INTERLACED, VIDEO};
 use crate::numbers::{GRAINS_PER_MICROSECOND, GRAINS_PER_NANOSECOND, GRAINS_PER_TICK, WRAP};
 use crate::packet::{Packet, LONGEST_HISTORY};
 use crate::random::Random;
@@ -93,6 +94,7 @@ enum Stamps {
     Constant,
 }
 
+/// What it sends is a frame or, of an interlaced stream, a field.
 struct Sender<'a> {
     random: &'a mut Random,
     limits: Limits,
@@ -102,7 +104,8 @@ struct Sender<'a> {
     packets: Vec<Packet>,
 }
 
-/// Numbers that set-up accepts, as video, and a stream sent by them.
+/// Numbers that set-up accepts, as video, and a stream sent by them, in frames or in
+/// fields. If in fields, it accepts them as interlaced too.
 pub fn stream(random: &mut Random) -> (Numbers, Vec<Packet>) {
     let mut numbers = accepted_numbers(random);
     let aim = random.pick(&AIMS);
@@ -110,9 +113,14 @@ pub fn stream(random: &mut Random) -> (Numbers, Vec<Packet>) {
     // of a file or in the other.
     let version = random.pick(&VERSIONS);
     aim_numbers(random, aim, version, &mut numbers);
-    let limits =
-        set_up_in(EDITION_1, version, &numbers).expect("the numbers are chosen to be accepted");
-    let first_frame = first_frame(random, limits.frame);
+    // Of three profiles two are sent in frames.
+    let sent_as = random.pick(&[VIDEO, COMPRESSED, INTERLACED]);
+    if sent_as == INTERLACED {
+        numbers = for_fields(random, &numbers);
+    }
+    let limits = set_up_in(EDITION_1, version, &numbers.of(sent_as))
+        .expect("the numbers are chosen to be accepted");
+    let first_frame = first_frame(random, limits.period.length);
     let stamps = stamps(random);
     let mut sender = Sender {
         random,
@@ -187,9 +195,20 @@ pub(crate) fn limit_numbers(random: &mut Random) -> Numbers {
     numbers
 }
 
+/// Numbers that set-up accepts as video; a third of them, and more by chance, as
+/// interlaced too.
+pub(crate) fn accepted_numbers(random: &mut Random) -> Numbers {
+    let numbers = video_numbers(random);
+    if random.chance(33) {
+        for_fields(random, &numbers)
+    } else {
+        numbers
+    }
+}
+
 /// Rates 3 and 6 have whole nanoseconds in a frame, so that with small n and a
 /// given TRO reads and drains fall on arrivals exactly; they come more often.
-pub(crate) fn accepted_numbers(random: &mut Random) -> Numbers {
+fn video_numbers(random: &mut Random) -> Numbers {
     let rate = random.pick(&[1, 2, 3, 3, 4, 5, 6, 6, 6, 7, 8]);
     let schedule = random.below(2);
     let class = if schedule == 0 {
@@ -206,6 +225,29 @@ pub(crate) fn accepted_numbers(random: &mut Random) -> Numbers {
         maxudp: random.pick(&[1460, 8960]),
         tro: tro(random, rate),
         profile: VIDEO,
+    }
+}
+
+/// The same numbers where set-up accepts them as interlaced: an n beside the own one
+/// that is even, and a TRO that is given and below half a frame.
+fn for_fields(random: &mut Random, numbers: &Numbers) -> Numbers {
+    let n = numbers.packets_per_frame;
+    let even = if n % 2 == 0 {
+        n
+    } else {
+        random.pick(&[n + 1, n + 1, n.max(3) - 1])
+    };
+    let greatest = greatest_field_tro(numbers.rate);
+    let near = random.pick(&[greatest, greatest - 1, greatest / 2]);
+    let any = random.below(greatest + 1);
+    let tro = match numbers.tro {
+        Some(given) if given <= greatest => given,
+        _ => random.pick(&[700, 0, near, near, any]),
+    };
+    Numbers {
+        packets_per_frame: even,
+        tro: Some(tro),
+        ..*numbers
     }
 }
 
@@ -241,6 +283,12 @@ fn tro(random: &mut Random, rate: u64) -> Option<u64> {
 pub(crate) fn greatest_tro(rate: u64) -> u64 {
     let frame = frame_length(rate).expect("a known rate");
     ((frame - 1) / GRAINS_PER_MICROSECOND) as u64
+}
+
+/// The greatest below half a frame, in two of which there is one frame exactly.
+pub(crate) fn greatest_field_tro(rate: u64) -> u64 {
+    let frame = frame_length(rate).expect("a known rate");
+    ((frame - 1) / (2 * GRAINS_PER_MICROSECOND)) as u64
 }
 
 /// All seven numbers wrong, and then mended one after the other: refused by 1 to
@@ -363,7 +411,7 @@ impl Sender<'_> {
 
     /// Of a frame whose first packet comes at `arrival`.
     fn timestamp(&mut self, frame: i128, arrival: i128) -> u32 {
-        let ideal = (self.first_frame + frame) * self.limits.frame / GRAINS_PER_TICK;
+        let ideal = self.t_cf(frame) / GRAINS_PER_TICK;
         let ticks = match self.stamps {
             Stamps::Ideal => ideal,
             Stamps::Shifted(shift) => ideal + shift,
@@ -394,7 +442,7 @@ impl Sender<'_> {
     }
 
     fn how_many_frames(&mut self) -> i128 {
-        let n = self.limits.n;
+        let n = self.limits.period.packets;
         let packets = match self.random.below(100) {
             0..=59 => self.random.between(1, 60),
             60..=84 => self.random.between(1, 400),
@@ -407,7 +455,7 @@ impl Sender<'_> {
     /// Before the first marker: one packet, a few, or nearly a frame. Some
     /// captures have no marker there, so their first frame is lead-in too.
     fn send_lead_in(&mut self) {
-        let most = self.limits.n.min(50);
+        let most = self.limits.period.packets.min(50);
         let count = self.random.pick(&[1, 1, 1, 2, most]);
         let start = self.t_cf(0) + self.limits.tro;
         let timestamp = self.timestamp(0, nanosecond(Fraction::whole(start), false));
@@ -420,14 +468,14 @@ impl Sender<'_> {
     }
 
     fn t_cf(&self, frame: i128) -> i128 {
-        (self.first_frame + frame) * self.limits.frame
+        (self.first_frame + frame) * self.limits.period.length
     }
 
     /// A frame, perhaps broken: short or long by one or by many, without its
     /// marker, or stamped otherwise at some place.
     fn send_frame(&mut self, frame: i128, pattern: Pattern, faulty: bool) {
         let fault = if faulty { self.random.below(14) } else { 99 };
-        let n = self.limits.n;
+        let n = self.limits.period.packets;
         let count = match fault {
             0 => (n - 1).max(1),
             1 => n + 1,
@@ -454,7 +502,7 @@ impl Sender<'_> {
     fn moved(&mut self, arrivals: Vec<i128>) -> Vec<i128> {
         let first = self.in_order(arrivals[0]);
         let wrap = nearest_wrap(first);
-        let near = (wrap - first).abs() * GRAINS_PER_NANOSECOND < self.limits.frame;
+        let near = (wrap - first).abs() * GRAINS_PER_NANOSECOND < self.limits.period.length;
         let edge = match self.stamps {
             Stamps::AroundWrap(_) if near && self.random.chance(75) => wrap,
             Stamps::HalfWrap => first + (-first).rem_euclid(NINE_TICKS),
@@ -506,7 +554,7 @@ impl Sender<'_> {
 
     /// A perfect sender, from TRO on or a little before or after it.
     fn paced(&mut self, t_cf: i128, count: i128, r: Fraction) -> Vec<i128> {
-        let quarter = self.limits.frame / 4;
+        let quarter = self.limits.period.length / 4;
         let any = self.random.between(-quarter, quarter);
         let offset = self.random.pick(&[0, 0, -27, -1000 * 27, any]);
         let up = self.random.chance(30);
@@ -528,11 +576,12 @@ impl Sender<'_> {
     /// A first packet so late that it belongs to the next T_CF would spoil a
     /// pattern built on this frame's reads: with a great TRO it comes early.
     fn first_in_its_frame(&mut self, t_cf: i128) -> i128 {
-        if 2 * self.limits.tro < self.limits.frame {
+        let period = self.limits.period.length;
+        if 2 * self.limits.tro < period {
             let read = self.read(t_cf, 0);
             self.near(read)
         } else {
-            nanosecond(Fraction::whole(t_cf + self.limits.frame / 4), false)
+            nanosecond(Fraction::whole(t_cf + period / 4), false)
         }
     }
 
@@ -622,10 +671,10 @@ impl Sender<'_> {
             .collect()
     }
 
-    /// The first packet half a frame from two frame times, where N turns over;
-    /// the others in steps after it.
+    /// The first packet half a frame from two frame times, where N turns over, of
+    /// fields a quarter of a frame; the others in steps after it.
     fn half_frame(&mut self, t_cf: i128, count: i128) -> Vec<i128> {
-        let half = Fraction::new(2 * t_cf - self.limits.frame, 2);
+        let half = Fraction::new(2 * t_cf - self.limits.period.length, 2);
         let first = self.near(half);
         let step = self.limits.frame / self.limits.n / GRAINS_PER_NANOSECOND;
         let step = self.random.pick(&[0, 1, step / 2, step]);
@@ -634,7 +683,7 @@ impl Sender<'_> {
 
     fn scattered(&mut self, t_cf: i128, count: i128) -> Vec<i128> {
         let start = nanosecond(Fraction::whole(t_cf), false);
-        let width = self.limits.frame / GRAINS_PER_NANOSECOND;
+        let width = self.limits.period.length / GRAINS_PER_NANOSECOND;
         let mut arrivals: Vec<i128> = (0..count)
             .map(|_| start + self.random.between(-width / 2, width))
             .collect();
@@ -655,7 +704,7 @@ impl Sender<'_> {
 
     /// First perhaps one packet and a pause up to some drain instant; then as
     /// many packets at one instant as the bucket holds, or one more or fewer;
-    /// then one packet a drain. Markers come every n packets.
+    /// then one packet a drain. Markers come where a frame has all its packets.
     fn send_at_the_bucket_limit(&mut self) {
         let first = self.first_arrival();
         let pause = self.random.chance(60);
@@ -702,7 +751,7 @@ impl Sender<'_> {
     }
 
     fn send_marked(&mut self, arrivals: &[i128]) {
-        let n = self.limits.n as usize;
+        let n = self.limits.period.packets as usize;
         let phase = self.random.place(n);
         for (i, arrival) in arrivals.iter().enumerate() {
             let frame = (i + phase) / n;

@@ -6,28 +6,35 @@ use crate::fraction::Fraction;
 use crate::frame::t_cf;
 use crate::next_read::Wait;
 use crate::numbers::{set_up, Limits, Numbers, EDITION_1, GRAINS_PER_NANOSECOND};
+use crate::numbers::{INTERLACED, VIDEO};
 use crate::packet::{Packet, LONGEST_HISTORY};
 use crate::random::Random;
 use crate::reads::read_instant;
 use crate::stream::{accepted_numbers, first_frame, refused_numbers};
-use crate::stream::{greatest_tro, mended_numbers, nanosecond, END_OF_TIME, MODERN};
+use crate::stream::{greatest_field_tro, greatest_tro, mended_numbers};
+use crate::stream::{nanosecond, END_OF_TIME, MODERN};
 
 /// Both ends of n, small ones, and that of document 01's 1080p50.
 const PACKETS_PER_FRAME: [u64; 6] = [1, 2, 3, 8, 4320, 20_000];
+/// The same of frames of two fields.
+const PACKETS_OF_TWO_FIELDS: [u64; 5] = [2, 4, 6, 4320, 20_000];
 /// Generated waits are put exactly on a read up to so many packets per frame, as
 /// all reads are looked through for one that is on a nanosecond.
 const SOUGHT_UP_TO: i128 = 512;
 
-/// All fixed ones; some with the given numbers, of which set-up refuses some.
+/// All fixed ones; some with the given numbers, of which set-up refuses some. Each
+/// lies by the reads of the frames or of the fields as which it is given here; as
+/// which others it is asked, `cases` says.
 pub fn fixed_waits(numbers: &[Numbers]) -> Vec<Wait> {
     [around_reads(), longest(), ends_of_time(), refused(numbers)].concat()
 }
 
 // --- a frame and its reads ---
 
-/// "N = round(27t/F), halves up": the first nanosecond that has this N.
+/// "N = round(27t/F), halves up", or of fields 27t/(F/2): the first nanosecond that
+/// has this N.
 fn earliest(limits: &Limits, number: i128) -> i128 {
-    let half_before = Fraction::new((2 * number - 1) * limits.frame, 2);
+    let half_before = Fraction::new((2 * number - 1) * limits.period.length, 2);
     nanosecond(half_before, true)
 }
 
@@ -45,7 +52,7 @@ fn on_a_nanosecond(instant: Fraction) -> bool {
 
 /// The reads of a frame that an arrival can be exactly on.
 fn exact_reads(limits: &Limits, t_cf: i128) -> Vec<i128> {
-    (0..limits.n)
+    (0..limits.period.packets)
         .filter(|&j| on_a_nanosecond(read_instant(limits, t_cf, j)))
         .collect()
 }
@@ -66,7 +73,16 @@ fn stream(rate: u64, schedule: u64, n: u64) -> Numbers {
     }
 }
 
-/// Every rate with both schedules, each n, and each way to come to a TRO.
+/// The same stream with each of these as TRO.
+fn given(usual: Numbers, greatest: u64) -> [Numbers; 3] {
+    [0, 700, greatest].map(|tro| Numbers {
+        tro: Some(tro),
+        ..usual
+    })
+}
+
+/// Every rate with both schedules, each n, and each way to come to a TRO, of frames
+/// and of fields.
 fn streams() -> Vec<Numbers> {
     let mut all = vec![];
     for rate in 1..=8 {
@@ -78,11 +94,13 @@ fn streams() -> Vec<Numbers> {
                     ..usual
                 };
                 all.extend([usual, low]);
-                let given = [0, 700, greatest_tro(rate)].map(|tro| Numbers {
-                    tro: Some(tro),
-                    ..usual
-                });
-                all.extend(given);
+                all.extend(given(usual, greatest_tro(rate)));
+            }
+            for n in PACKETS_OF_TWO_FIELDS {
+                let fields = stream(rate, schedule, n).of(INTERLACED);
+                // Many reads take long, and one TRO is enough there.
+                let least = if n > 8 { 2 } else { 0 };
+                all.extend(&given(fields, greatest_field_tro(rate))[least..]);
             }
         }
     }
@@ -90,12 +108,12 @@ fn streams() -> Vec<Numbers> {
 }
 
 /// Near the epoch, now, and near the end of 64 bits. At a multiple of 27 T_CF is
-/// on a whole nanosecond, at every rate.
-fn frame_number(numbers: &Numbers, frame: i128) -> i128 {
+/// on a whole nanosecond, at every rate, and of fields too.
+fn period_number(numbers: &Numbers, period: i128) -> i128 {
     let number = match (numbers.rate + numbers.schedule) % 3 {
         0 => 27,
-        1 => MODERN * GRAINS_PER_NANOSECOND / frame,
-        _ => END_OF_TIME / frame - 10,
+        1 => MODERN * GRAINS_PER_NANOSECOND / period,
+        _ => END_OF_TIME / period - 10,
     };
     number - number % 27
 }
@@ -108,8 +126,8 @@ fn around_reads() -> Vec<Wait> {
 
 fn around_reads_of(numbers: &Numbers) -> Vec<Wait> {
     let limits = set_up(EDITION_1, numbers).expect("set-up accepts these streams");
-    let number = frame_number(numbers, limits.frame);
-    let t_cf = number * limits.frame;
+    let number = period_number(numbers, limits.period.length);
+    let t_cf = number * limits.period.length;
     let (earliest, latest) = firsts(&limits, number);
     let mut arrivals = vec![earliest];
     for j in worth_a_look(&limits, t_cf) {
@@ -135,7 +153,8 @@ fn around_reads_of(numbers: &Numbers) -> Vec<Wait> {
 /// In order, and each once.
 fn worth_a_look(limits: &Limits, t_cf: i128) -> Vec<i128> {
     let exact = exact_reads(limits, t_cf);
-    let mut reads = vec![0, limits.n / 2, limits.n - 1];
+    let count = limits.period.packets;
+    let mut reads = vec![0, count / 2, count - 1];
     reads.extend(exact.last());
     reads.extend(exact.get(exact.len() / 2));
     reads.sort_unstable();
@@ -149,22 +168,32 @@ fn longest() -> Vec<Wait> {
     let mut waits = vec![];
     for rate in 1..=8 {
         for schedule in 0..=1 {
-            let numbers = Numbers {
-                tro: Some(greatest_tro(rate)),
-                ..stream(rate, schedule, 20_000)
-            };
-            let limits = set_up(EDITION_1, &numbers).expect("set-up accepts the greatest TRO");
-            for number in [1, 2] {
-                let half_before = earliest(&limits, number);
-                waits.extend([half_before - 1, half_before].map(|arrival| Wait {
-                    numbers,
-                    first: clamped(arrival),
-                    arrival: clamped(arrival),
-                }));
+            for (profile, greatest) in [
+                (VIDEO, greatest_tro(rate)),
+                (INTERLACED, greatest_field_tro(rate)),
+            ] {
+                let numbers = Numbers {
+                    tro: Some(greatest),
+                    profile,
+                    ..stream(rate, schedule, 20_000)
+                };
+                waits.extend(longest_of(&numbers));
             }
         }
     }
     waits
+}
+
+fn longest_of(numbers: &Numbers) -> Vec<Wait> {
+    let limits = set_up(EDITION_1, numbers).expect("set-up accepts the greatest TRO");
+    let at = |arrival| Wait {
+        numbers: *numbers,
+        first: clamped(arrival),
+        arrival: clamped(arrival),
+    };
+    let turns = [1, 2].map(|number| earliest(&limits, number));
+    let both_sides = turns.iter().flat_map(|turn| [turn - 1, *turn]);
+    both_sides.map(at).collect()
 }
 
 /// Both sides of 12 and of 13, from the epoch to the last nanosecond, where a
@@ -198,8 +227,16 @@ fn ends_of_time() -> Vec<Wait> {
     ];
     let mut waits = vec![];
     for rate in 1..=8 {
-        for (schedule, n) in [(0, 1), (0, 4), (1, 4), (1, 320)] {
-            let numbers = stream(rate, schedule, n);
+        for (schedule, n, tro) in [
+            (0, 1, None),
+            (0, 4, Some(700)),
+            (1, 4, None),
+            (1, 320, Some(700)),
+        ] {
+            let numbers = Numbers {
+                tro,
+                ..stream(rate, schedule, n)
+            };
             waits.extend(pairs.map(|(first, arrival)| Wait {
                 numbers,
                 first,
@@ -237,7 +274,12 @@ pub fn wait(random: &mut Random) -> Wait {
         return refused_wait(random);
     }
     let numbers = accepted_numbers(random);
-    let limits = set_up(EDITION_1, &numbers).expect("the numbers are chosen to be accepted");
+    // By the reads of fields, where it can be, and by those of frames.
+    let fields = set_up(EDITION_1, &numbers.of(INTERLACED)).ok();
+    let limits = match fields.filter(|_| random.chance(60)) {
+        Some(fields) => fields,
+        None => set_up(EDITION_1, &numbers).expect("the numbers are chosen to be accepted"),
+    };
     let first = first_arrival(random, &limits);
     let arrival = arrival_after(random, &limits, first);
     Wait {
@@ -261,8 +303,9 @@ fn refused_wait(random: &mut Random) -> Wait {
 
 /// At either end of those that have one T_CF, on T_CF, by read 0, or between.
 fn first_arrival(random: &mut Random, limits: &Limits) -> u64 {
-    let number = first_frame(random, limits.frame);
-    let t_cf = number * limits.frame;
+    let period = limits.period.length;
+    let number = first_frame(random, period);
+    let t_cf = number * period;
     let (earliest, latest) = firsts(limits, number);
     let any = random.between(earliest, latest);
     let start = beside(random, Fraction::whole(t_cf));
@@ -271,7 +314,7 @@ fn first_arrival(random: &mut Random, limits: &Limits) -> u64 {
 }
 
 fn arrival_after(random: &mut Random, limits: &Limits, first: u64) -> u64 {
-    let frame = limits.frame / GRAINS_PER_NANOSECOND;
+    let frame = limits.period.length / GRAINS_PER_NANOSECOND;
     let start = i128::from(first);
     let limit = start + i128::from(LONGEST_HISTORY);
     let later = start + random.between(0, 2 * frame);
@@ -288,10 +331,11 @@ fn arrival_after(random: &mut Random, limits: &Limits, first: u64) -> u64 {
 
 /// In the nanoseconds around a read, and on it where that can be.
 fn near_a_read(random: &mut Random, limits: &Limits, first: u64) -> i128 {
-    let t_cf = t_cf(&Packet::new(first, 0, 0), limits.frame);
-    let any = random.between(0, limits.n - 1);
-    let mut j = random.pick(&[0, any, any, any, limits.n - 1]);
-    if limits.n <= SOUGHT_UP_TO && random.chance(50) {
+    let t_cf = t_cf(&Packet::new(first, 0, 0), limits.period);
+    let last = limits.period.packets - 1;
+    let any = random.between(0, last);
+    let mut j = random.pick(&[0, any, any, any, last]);
+    if last < SOUGHT_UP_TO && random.chance(50) {
         let exact = exact_reads(limits, t_cf);
         if !exact.is_empty() {
             j = random.pick(&exact);

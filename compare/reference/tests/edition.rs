@@ -537,7 +537,7 @@ fn a_list_is_fed_by_both_editions() {
 fn edition_2_is_edition_1_up_to_the_first_broken_frame() {
     let mut seen = [0; 4];
     let as_video = |index| as_profiles(&[VIDEO], &file(11, index)).concat();
-    for bytes in (0..1500).map(as_video) {
+    for bytes in (0..2500).map(as_video) {
         let [one, two] = EDITIONS.map(|edition| read(edition, &bytes));
         assert_eq!(one.refusal, two.refusal);
         let (by_1, by_2) = match (one.limits, two.limits) {

@@ -78,14 +78,14 @@ fn look_at_ties(seen: &mut Seen, bytes: &[u8]) {
         }
     }
     for frame in closed_frames(&reading.packets) {
-        if frame.kind(limits.n) == Kind::Whole {
+        if frame.kind(limits.period) == Kind::Whole {
             look_at_reads(seen, &limits, frame.packets);
         }
     }
 }
 
 fn look_at_reads(seen: &mut Seen, limits: &Limits, packets: &[Packet]) {
-    let start = t_cf(&packets[0], limits.frame);
+    let start = t_cf(&packets[0], limits.period);
     for (j, packet) in packets.iter().enumerate() {
         let before = Fraction::whole(packet.grains() - 27);
         let exact = Fraction::whole(packet.grains());
@@ -130,7 +130,7 @@ fn generated_files_reach_everything() {
 }
 
 /// Every rate with every schedule and class, both ends of n and of time, and
-/// first packets on and beside the half frame, where N turns over.
+/// first packets on and beside the half frame or the half field, where N turns over.
 #[test]
 fn generated_files_reach_every_stream_and_both_ends() {
     let mut seen = Seen::default();
@@ -167,31 +167,50 @@ fn generated_files_reach_every_stream_and_both_ends() {
     for what in [
         "a frame of 1",
         "a frame of 20000",
+        "a field of 1",
+        "a field of 10000",
         "the first nanosecond",
         "the last nanosecond",
         "on a half frame",
         "the nanosecond after a half frame",
         "the nanosecond before a half frame",
+        "on a half field",
+        "the nanosecond after a half field",
+        "the nanosecond before a half field",
         "no packets in a frame but its marker",
+        "no packets in a field but its marker",
+        "reads after the next field's start",
     ] {
         assert!(seen.0.contains_key(what), "never seen: {}", what);
     }
 }
 
 fn look_at_start(seen: &mut Seen, limits: &Limits, packets: &[Packet]) {
-    if packets.len() as i128 == limits.n && [1, 20_000].contains(&limits.n) {
-        seen.add(&format!("a frame of {}", limits.n));
+    let what = match limits.profile {
+        Profile::Interlaced => "field",
+        _ => "frame",
+    };
+    let Period {
+        length,
+        packets: all,
+    } = limits.period;
+    if packets.len() as i128 == all && [1, 10_000, 20_000].contains(&all) {
+        seen.add(&format!("a {} of {}", what, all));
     }
-    if packets.len() == 1 && limits.n > 1 {
-        seen.add("no packets in a frame but its marker");
+    if packets.len() == 1 && all > 1 {
+        seen.add(&format!("no packets in a {} but its marker", what));
     }
-    let twice = 2 * (packets[0].grains() - t_cf(&packets[0], limits.frame));
-    if twice == -limits.frame {
-        seen.add("on a half frame");
-    } else if twice - 2 * 27 < -limits.frame {
-        seen.add("the nanosecond after a half frame");
-    } else if twice + 2 * 27 >= limits.frame {
-        seen.add("the nanosecond before a half frame");
+    let start = t_cf(&packets[0], limits.period);
+    let twice = 2 * (packets[0].grains() - start);
+    if twice == -length {
+        seen.add(&format!("on a half {}", what));
+    } else if twice - 2 * 27 < -length {
+        seen.add(&format!("the nanosecond after a half {}", what));
+    } else if twice + 2 * 27 >= length {
+        seen.add(&format!("the nanosecond before a half {}", what));
+    }
+    if read_instant(limits, start, all - 1) > Fraction::whole(start + length) {
+        seen.add(&format!("reads after the next {}'s start", what));
     }
 }
 
@@ -227,7 +246,7 @@ fn the_eleventh_number_is_the_place_where_the_frame_begins() {
         for row in measure_accepted(&limits, &reading.packets).rows {
             assert!(before < row[10] && row[10] <= 999_999_999);
             before = row[10];
-            let count = count_of(&row, limits.n);
+            let count = count_of(&row, limits.period.packets);
             let place = row[10] as usize;
             assert!(begins_and_ends_there(&reading.packets, place, count));
             seen.add(&format!("kind {}", row[1]));
@@ -424,7 +443,7 @@ fn next_reads_agree_with_levels_and_margins() {
         };
         let limits = set_up(EDITION_1, &numbers).unwrap();
         for frame in closed_frames(&reading.packets) {
-            if frame.kind(limits.n) == Kind::Whole {
+            if frame.kind(limits.period) == Kind::Whole {
                 look_at_levels(&mut seen, &numbers, &limits, frame.packets);
             }
         }
@@ -435,7 +454,7 @@ fn next_reads_agree_with_levels_and_margins() {
 }
 
 fn look_at_levels(seen: &mut Seen, numbers: &Numbers, limits: &Limits, packets: &[Packet]) {
-    let start = t_cf(&packets[0], limits.frame);
+    let start = t_cf(&packets[0], limits.period);
     let levels = reading(limits, start, packets).levels;
     for (j, packet) in packets.iter().enumerate() {
         let next = next_read(&Wait {
@@ -445,7 +464,7 @@ fn look_at_levels(seen: &mut Seen, numbers: &Numbers, limits: &Limits, packets: 
         });
         let next = next.expect("these packets are accepted");
         seen.add(if next.is_some() { "left" } else { "none left" });
-        let over = next.map_or(limits.n, |next| next.read);
+        let over = next.map_or(limits.period.packets, |next| next.read);
         assert_eq!(levels[j], j as i128 + 1 - over);
         let to_read_0 = start + limits.tro - packet.grains();
         if to_read_0 >= 0 {
@@ -463,7 +482,7 @@ fn look_at_wait(seen: &mut Seen, wait: &Wait) {
         Err(number) => seen.add(&format!("refused {}", number)),
         Ok(next) => {
             let limits = set_up(EDITION_1, &wait.numbers).unwrap();
-            look_at_next(seen, next, limits.n - 1);
+            look_at_next(seen, next, limits.period.packets - 1);
             look_at_over(seen, wait, &limits, next);
             look_at_arrivals(seen, wait);
         }
@@ -492,17 +511,18 @@ fn look_at_next(seen: &mut Seen, next: Option<NextRead>, last: i128) {
 
 /// The read before, which is over, and the last one.
 fn look_at_over(seen: &mut Seen, wait: &Wait, limits: &Limits, next: Option<NextRead>) {
-    let start = t_cf(&Packet::new(wait.first, 0, 0), limits.frame);
+    let start = t_cf(&Packet::new(wait.first, 0, 0), limits.period);
     let arrival = Packet::new(wait.arrival, 0, 0).grains();
     let read = |j| read_instant(limits, start, j);
-    let over = next.map_or(limits.n, |next| next.read);
+    let reads = limits.period.packets;
+    let over = next.map_or(reads, |next| next.read);
     if over > 0 && read(over - 1) >= Fraction::whole(arrival - 27) {
         seen.add(match next {
             Some(_) => "at most a nanosecond after a read",
             None => "none left, at most a nanosecond after the last",
         });
     }
-    if Fraction::whole(arrival - limits.frame) >= read(limits.n - 1) {
+    if Fraction::whole(arrival - limits.frame) >= read(reads - 1) {
         seen.add("none left, a frame or more after the last");
     }
 }
@@ -547,36 +567,53 @@ fn everything_of_waits() -> Vec<String> {
     all
 }
 
-/// The fixed waits reach all of it, so that nothing depends on the seed; and
-/// generated ones reach it too.
+/// The fixed waits reach all of it as every profile, so that nothing depends on the
+/// seed; and generated ones reach it too.
 #[test]
 fn waits_reach_everything() {
-    let mut seen = Seen::default();
+    let generated: Vec<Wait> = (0..3000)
+        .map(|index| wait(&mut Random::new(2110, index)))
+        .collect();
+    for waits in [waits(), generated] {
+        for profile in PROFILES {
+            let mut seen = Seen::default();
+            for wait in &waits {
+                look_at_wait(&mut seen, &wait.of(profile));
+            }
+            println!("{:#?}", seen.0);
+            let seen: Vec<String> = seen.0.into_keys().collect();
+            assert_eq!(seen, everything_of_waits());
+        }
+    }
+}
+
+/// What is compressed has no reads, and is answered as video is; an interlaced stream
+/// has others.
+#[test]
+fn waits_of_the_profiles_are_answered_by_their_reads() {
+    let mut others = 0;
     for wait in waits() {
-        look_at_wait(&mut seen, &wait);
+        let [video, compressed, interlaced] = PROFILES.map(|profile| next_read(&wait.of(profile)));
+        assert_eq!(video, compressed);
+        others += i32::from(interlaced.is_ok() && interlaced != video);
     }
-    println!("{:#?}", seen.0);
-    let fixed: Vec<String> = seen.0.into_keys().collect();
-    assert_eq!(fixed, everything_of_waits());
-    let mut seen = Seen::default();
-    for index in 0..3000 {
-        look_at_wait(&mut seen, &wait(&mut Random::new(2110, index)));
-    }
-    println!("{:#?}", seen.0);
-    let generated: Vec<String> = seen.0.into_keys().collect();
-    assert_eq!(generated, everything_of_waits());
+    assert!(others > 2000, "{}", others);
 }
 
 /// Every rate with both schedules, small n and great, and a TRO that is default
 /// or given: before read 0, between reads and after the last; and on read 0,
-/// where TRO is whole nanoseconds.
+/// where TRO is whole nanoseconds. Of fields n is even and TRO given.
 #[test]
 fn fixed_waits_reach_every_stream() {
     let mut seen = Seen::default();
     for wait in waits() {
         let Numbers { rate, schedule, .. } = wait.numbers;
         let n = wait.numbers.packets_per_frame;
-        let tro = wait.numbers.tro.map_or("default", |_| "given");
+        let tro = match (wait.numbers.profile, wait.numbers.tro) {
+            (INTERLACED, _) => "fields",
+            (_, Some(_)) => "given",
+            (_, None) => "default",
+        };
         let place = match next_read(&wait) {
             Err(_) => continue,
             Ok(None) => "after",
@@ -588,16 +625,19 @@ fn fixed_waits_reach_every_stream() {
     }
     for rate in 1..=8 {
         for schedule in 0..=1 {
-            for n in [1, 2, 3, 8, 4320, 20_000] {
-                for tro in ["default", "given"] {
-                    let stream = format!("{} {} {} {}", rate, schedule, n, tro);
-                    let mut places = vec!["before", "after"];
-                    places.extend((n > 1).then_some("between"));
-                    places.extend((tro == "given").then_some("on read 0"));
-                    for place in places {
-                        let what = format!("{} {}", stream, place);
-                        assert!(seen.0.contains_key(&what), "never seen: {}", what);
-                    }
+            let of_frames = [1, 2, 3, 8, 4320, 20_000].into_iter();
+            let mut streams: Vec<(u64, &str, bool)> = of_frames
+                .flat_map(|n| [(n, "default", n > 1), (n, "given", n > 1)])
+                .collect();
+            streams.extend([2, 4, 6, 4320, 20_000].map(|n| (n, "fields", n > 2)));
+            for (n, tro, several) in streams {
+                let stream = format!("{} {} {} {}", rate, schedule, n, tro);
+                let mut places = vec!["before", "after"];
+                places.extend(several.then_some("between"));
+                places.extend((tro != "default").then_some("on read 0"));
+                for place in places {
+                    let what = format!("{} {}", stream, place);
+                    assert!(seen.0.contains_key(&what), "never seen: {}", what);
                 }
             }
         }
@@ -618,7 +658,7 @@ fn two_numbers_and_three_are_lent_for_a_next_read() {
     }
     let mut wanted: Vec<String> = (0..3).map(|lent| format!("15 for {}", lent)).collect();
     wanted.extend(["0 for 3", "0 for 4"].map(str::to_string));
-    for number in [1, 2, 3, 4, 5, 6, 7, 12, 13] {
+    for number in [1, 2, 3, 4, 5, 6, 7, 12, 13, 22] {
         wanted.extend([0, 4].map(|lent| format!("{} for {}", number, lent)));
     }
     wanted.sort();
@@ -727,7 +767,7 @@ const REASONS: [Why; 16] = [
 fn captures_reach_everything() {
     let mut seen = Seen::default();
     for (asked, bytes) in captures() {
-        for (edition, profile) in [(1, 1), (2, 1), (3, 1), (2, 3), (1, 4)] {
+        for (edition, profile) in [(1, 1), (2, 1), (3, 1), (2, 3), (2, 4), (1, 5)] {
             look_at_capture(&mut seen, &asked.by(edition).of(profile), &bytes);
         }
     }
@@ -801,7 +841,7 @@ fn reach_every_answer(cases: &[Case]) {
             "write",
             &[0, 1, 2, 3, 4, 5, 6, 7, 10, 11, 12, 13, 20, 22, 24],
         ),
-        ("limits", &[0, 1, 2, 3, 4, 5, 6, 7, 15]),
+        ("limits", &[0, 1, 2, 3, 4, 5, 6, 7, 15, 22]),
         ("graph", &[0, 15, 16]),
         ("set-up", &[0, 1, 2, 3, 4, 5, 6, 7, 8, 15, 22]),
         ("feed", &[0, 9, 10, 11, 12, 13, 14, 15]),
@@ -809,7 +849,7 @@ fn reach_every_answer(cases: &[Case]) {
             "capture",
             &[0, 1, 2, 3, 4, 5, 6, 7, 8, 12, 13, 15, 22, 30, 31, 32, 33],
         ),
-        ("next-read", &[0, 1, 2, 3, 4, 5, 6, 7, 12, 13, 15]),
+        ("next-read", &[0, 1, 2, 3, 4, 5, 6, 7, 12, 13, 15, 22]),
     ];
     for (call, numbers) in wanted {
         for number in numbers {
@@ -831,7 +871,7 @@ fn reach_every_answer(cases: &[Case]) {
 #[test]
 fn the_cases_reach_every_answer_of_every_call() {
     reach_every_answer(&fixed_cases());
-    let generated: Vec<Case> = (0..200 * ROUND).flat_map(|i| cases(1, i)).collect();
+    let generated: Vec<Case> = (0..200 * ROUND).flat_map(|i| cases(2, i)).collect();
     reach_every_answer(&generated);
 }
 
@@ -889,9 +929,10 @@ fn profile_of(call: &Call) -> Option<u64> {
             kind.filter(|kind| PROFILES.contains(kind))
         }
         Call::Write { numbers, .. } | Call::SetUp { numbers, .. } => Some(numbers.profile),
-        Call::Feed { numbers, .. } => Some(numbers.profile),
+        Call::Feed { numbers, .. } | Call::Limits(numbers) => Some(numbers.profile),
+        Call::NextRead(wait) => Some(wait.numbers.profile),
         Call::Capture { asked, .. } => Some(asked.numbers.profile),
-        _ => None,
+        Call::Graph { .. } => None,
     }
 }
 
@@ -902,6 +943,8 @@ fn as_profile(call: &Call, profile: u64) -> Call {
         Call::Measure { file, .. } => file[FIRST_KIND] = profile as u8,
         Call::Write { numbers, .. } | Call::SetUp { numbers, .. } => numbers.profile = profile,
         Call::Capture { asked, .. } => asked.numbers.profile = profile,
+        Call::Limits(numbers) => numbers.profile = profile,
+        Call::NextRead(wait) => wait.numbers.profile = profile,
         _ => unreachable!("no other call is the same as another profile"),
     }
     other
@@ -1013,22 +1056,33 @@ fn sort_of(fixed: bool) -> &'static str {
     }
 }
 
-/// Lists are to be written as video in both versions, and as compressed in both or in
-/// one; then in versions and as profiles that there are not.
+/// What an input that is not video comes with, of the two that there are: as compressed
+/// and then as interlaced with both, or with one.
+fn beside_video<T: PartialEq>(fixed: bool, all: &[(T, u64)]) {
+    let each = if fixed { 2 } else { 1 };
+    assert_eq!(all.len(), 2 * each);
+    for (place, (_, profile)) in all.iter().enumerate() {
+        assert_eq!(*profile, [COMPRESSED, INTERLACED][place / each]);
+    }
+    assert!(!fixed || (all[0].0 != all[1].0 && all[2].0 != all[3].0));
+}
+
+/// Lists are to be written as video in both versions, and as compressed and as
+/// interlaced in both or in one; then in versions and as profiles that there are not.
 fn look_at_written(seen: &mut Seen, fixed: bool, all: &[Tried]) {
     let asked: Vec<(u8, u64)> = all
         .iter()
         .map(|tried| (tried.version.unwrap(), tried.profile.unwrap()))
         .collect();
-    let (compressed, versions) = if fixed { (2, 3) } else { (1, 1) };
-    assert_eq!(asked.len(), if fixed { 12 } else { 5 });
+    let (beside, versions) = if fixed { (4, 3) } else { (2, 1) };
+    assert_eq!(asked.len(), if fixed { 14 } else { 6 });
     assert_eq!(asked[..2], [(1, VIDEO), (2, VIDEO)]);
-    let (as_compressed, others) = asked[2..].split_at(compressed);
-    for (version, profile) in as_compressed {
-        assert!(!is_other_version(*version) && *profile == COMPRESSED);
-        seen.add(&format!("{} in {}", sort_of(fixed), version));
+    let (good, others) = asked[2..].split_at(beside);
+    beside_video(fixed, good);
+    for (version, profile) in good {
+        assert!(!is_other_version(*version));
+        seen.add(&format!("{} {} in {}", sort_of(fixed), profile, version));
     }
-    assert!(!fixed || as_compressed[0] != as_compressed[1]);
     let (by_20, by_22) = others.split_at(versions);
     assert!(by_20.iter().all(|(version, _)| is_other_version(*version)));
     assert!(by_22
@@ -1040,39 +1094,48 @@ fn look_at_written(seen: &mut Seen, fixed: bool, all: &[Tried]) {
     assert!(!fixed || profiles[..4] == OTHER_PROFILES);
     assert!(!fixed || PROFILE_LOOKALIKES.contains(&profiles[4]));
     for (version, profile) in others {
-        let of = (version.clamp(&0, &3), profile.clamp(&0, &4));
+        let of = (version.clamp(&0, &3), profile.clamp(&0, &5));
         let sort = sort_of(fixed);
         seen.add(&format!("{} list version {} as {}", sort, of.0, of.1));
     }
 }
 
-/// A file is measured as video in both versions by both editions; as compressed in
-/// both versions, by both editions or by one, if its first record is one of
-/// parameters; then in versions and by editions that there are not.
+/// A file is measured as video in both versions by both editions; as compressed and as
+/// interlaced in both versions, by both editions or by one, if its first record is one
+/// of parameters; then in versions and by editions that there are not.
 fn look_at_measured(seen: &mut Seen, fixed: bool, all: &[Tried]) {
     let asked: Vec<(u8, u32)> = all
         .iter()
         .map(|tried| (tried.version.unwrap(), tried.edition.unwrap()))
         .collect();
-    let compressed = match (all[0].profile, fixed) {
+    // Of each of the other two profiles.
+    let each = match (all[0].profile, fixed) {
         (None, _) => 0,
         (_, true) => 4,
         (_, false) => 2,
     };
+    let good = 4 + 2 * each;
     let (versions, editions) = if fixed { (3, 5) } else { (1, 1) };
-    assert_eq!(asked.len(), 4 + compressed + versions + editions);
+    assert_eq!(asked.len(), good + versions + editions);
     assert_eq!(asked[..4], [(1, 1), (1, 2), (2, 1), (2, 2)]);
-    for (place, tried) in all[..4 + compressed].iter().enumerate() {
-        let profile = if place < 4 { VIDEO } else { COMPRESSED };
-        assert!(tried.profile.map_or(compressed == 0, |own| own == profile));
+    for (place, tried) in all[..good].iter().enumerate() {
+        let profile = match place {
+            0..=3 => VIDEO,
+            _ if place < 4 + each => COMPRESSED,
+            _ => INTERLACED,
+        };
+        assert!(tried.profile.map_or(each == 0, |own| own == profile));
+        let (version, edition) = asked[place];
+        assert!(!is_other_version(version) && !is_other_edition(edition));
+        let sort = sort_of(fixed);
+        seen.add(&format!(
+            "{} {} in {} by {}",
+            sort, profile, version, edition
+        ));
+        // Nothing comes twice.
+        assert!(!all[..place].contains(tried));
     }
-    let (as_compressed, others) = asked[4..].split_at(compressed);
-    for (version, edition) in as_compressed {
-        assert!(!is_other_version(*version) && !is_other_edition(*edition));
-        seen.add(&format!("{} in {} by {}", sort_of(fixed), version, edition));
-    }
-    let different = |place: usize| !as_compressed[..place].contains(&as_compressed[place]);
-    assert!((0..compressed).all(different));
+    let others = &asked[good..];
     let (by_20, by_8) = others.split_at(versions);
     assert!(by_20.iter().all(|(version, _)| is_other_version(*version)));
     assert!(by_8
@@ -1080,7 +1143,7 @@ fn look_at_measured(seen: &mut Seen, fixed: bool, all: &[Tried]) {
         .all(|(version, edition)| { !is_other_version(*version) && is_other_edition(*edition) }));
     let versions: Vec<u8> = by_20.iter().map(|(version, _)| *version).collect();
     assert!(!fixed || versions == OTHER_VERSIONS);
-    for (tried, (version, edition)) in all[4 + compressed..].iter().zip(others) {
+    for (tried, (version, edition)) in all[good..].iter().zip(others) {
         let (sort, of) = (sort_of(fixed), version.clamp(&0, &3));
         let by = edition.clamp(&0, &3);
         seen.add(&format!("{} version {} by {}", sort, of, by));
@@ -1092,8 +1155,8 @@ fn look_at_measured(seen: &mut Seen, fixed: bool, all: &[Tried]) {
 
 /// A version that there is not is tried by all sorts of editions and as all sorts of
 /// profiles, an edition or a profile that there is not in both versions; and what is
-/// compressed in both, by both.
-const TRIED_IN_VERSIONS: [&str; 26] = [
+/// compressed or interlaced in both, by both.
+const TRIED_IN_VERSIONS: [&str; 36] = [
     "version 0 by 0",
     "version 3 by 1",
     "version 3 by 2",
@@ -1104,22 +1167,32 @@ const TRIED_IN_VERSIONS: [&str; 26] = [
     "version 2 by 0",
     "version 0 as 1",
     "version 0 as 3",
+    "version 0 as 4",
     "version 1 as 3",
+    "version 1 as 4",
     "version 2 as 1",
+    "version 2 as 4",
     "list version 0 as 0",
     "list version 3 as 1",
     "list version 3 as 3",
     "list version 3 as 4",
+    "list version 3 as 5",
     "list version 1 as 0",
     "list version 2 as 2",
-    "list version 1 as 4",
-    "list version 2 as 4",
-    "in 1",
-    "in 2",
-    "in 1 by 1",
-    "in 1 by 2",
-    "in 2 by 1",
-    "in 2 by 2",
+    "list version 1 as 5",
+    "list version 2 as 5",
+    "3 in 1",
+    "3 in 2",
+    "4 in 1",
+    "4 in 2",
+    "3 in 1 by 1",
+    "3 in 1 by 2",
+    "3 in 2 by 1",
+    "3 in 2 by 2",
+    "4 in 1 by 1",
+    "4 in 1 by 2",
+    "4 in 2 by 1",
+    "4 in 2 by 2",
 ];
 
 /// Every file that has a version, and all lists: the fixed ones under 1, 2, 0, 3
@@ -1283,19 +1356,17 @@ fn what_class_0_means_shows_in_the_cases() {
 // --- request (vi) ---
 
 /// By which editions and as which profiles an input without a version comes: as video
-/// by both, as compressed by both or by one, then by editions and as profiles that
-/// there are not.
+/// by both, as compressed and as interlaced by both or by one, then by editions and as
+/// profiles that there are not.
 fn look_at_by(seen: &mut Seen, what: &str, fixed: bool, by: &[(u32, u64)]) {
-    let (compressed, others) = if fixed { (2, 5) } else { (1, 1) };
-    assert_eq!(by.len(), 2 + compressed + 2 * others);
+    let (beside, others) = if fixed { (4, 5) } else { (2, 1) };
+    assert_eq!(by.len(), 2 + beside + 2 * others);
     assert_eq!(by[..2], [(EDITION_1, VIDEO), (EDITION_2, VIDEO)]);
-    let (as_compressed, rest) = by[2..].split_at(compressed);
-    assert!(as_compressed
-        .iter()
-        .all(|(edition, profile)| { !is_other_edition(*edition) && *profile == COMPRESSED }));
-    assert!(!fixed || as_compressed[0] != as_compressed[1]);
-    for (edition, _) in as_compressed {
-        seen.add(&format!("{} as compressed by {}", what, edition));
+    let (good, rest) = by[2..].split_at(beside);
+    beside_video(fixed, good);
+    for (edition, profile) in good {
+        assert!(!is_other_edition(*edition));
+        seen.add(&format!("{} as {} by {}", what, profile, edition));
     }
     let (by_8, by_22) = rest.split_at(others);
     assert!(by_8
@@ -1310,9 +1381,10 @@ fn look_at_by(seen: &mut Seen, what: &str, fixed: bool, by: &[(u32, u64)]) {
     }
 }
 
-/// A list that is fed has its numbers set up by what is refused.
-fn look_at_fed(fixed: bool, input: &[Case]) {
-    let good = if fixed { 4 } else { 3 };
+/// A list that is fed has its numbers set up by what is refused, and as interlaced
+/// where that is.
+fn look_at_fed(seen: &mut Seen, fixed: bool, input: &[Case]) {
+    let good = if fixed { 6 } else { 4 };
     let video = match &input[0].call {
         Call::Feed { numbers, .. } => *numbers,
         _ => unreachable!("it is fed"),
@@ -1320,13 +1392,17 @@ fn look_at_fed(fixed: bool, input: &[Case]) {
     for case in &input[..good] {
         let profile = profile_of(&case.call).unwrap();
         let same = |numbers: &Numbers| *numbers == video.of(profile);
-        assert!(matches!(&case.call, Call::Feed { numbers, .. } if same(numbers)));
+        let fed = matches!(&case.call, Call::Feed { numbers, .. } if same(numbers));
+        assert_eq!(fed, set_up(EDITION_1, &video.of(profile)).is_ok());
+        assert!(fed || profile == INTERLACED);
+        seen.add(&format!("{} fed as {}: {}", sort_of(fixed), profile, fed));
     }
     for case in &input[good..] {
         let profile = profile_of(&case.call).unwrap();
         let same = |numbers: &Numbers| *numbers == video.of(profile);
         assert!(matches!(&case.call, Call::SetUp { numbers, .. } if same(numbers)));
-        let number = if is_other_profile(profile) { 22 } else { 8 };
+        let accepted = set_up(EDITION_1, &video.of(profile));
+        let number = accepted.err().unwrap_or(8);
         assert!(case.rooms.iter().all(|room| room.number == number));
     }
 }
@@ -1336,7 +1412,7 @@ fn look_at_fed(fixed: bool, input: &[Case]) {
 /// its numbers are set up by the others. Files of no version come by each edition and
 /// by others.
 #[test]
-fn every_input_is_tried_by_both_editions_as_both_profiles_and_by_others() {
+fn every_input_is_tried_by_both_editions_as_every_profile_and_by_others() {
     let mut seen = Seen::default();
     for (fixed, input) in all_inputs(2) {
         let first = &input[0].call;
@@ -1362,7 +1438,7 @@ fn every_input_is_tried_by_both_editions_as_both_profiles_and_by_others() {
             .map(|tried| (tried.edition.unwrap(), tried.profile.unwrap()));
         look_at_by(&mut seen, &what, fixed, &by.collect::<Vec<(u32, u64)>>());
         if name == "feed" {
-            look_at_fed(fixed, &input);
+            look_at_fed(&mut seen, fixed, &input);
         } else {
             for (case, tried) in input.iter().zip(&tried) {
                 assert_eq!(case.call, as_tried(first, tried));
@@ -1376,11 +1452,69 @@ fn every_input_is_tried_by_both_editions_as_both_profiles_and_by_others() {
     assert!(seen.0["fixed capture"] > 3000 && seen.0["fixed feed"] > 100);
     // By turns, so about half of them by each edition.
     for (name, count) in [("feed", 200), ("set-up", 50), ("capture", 1000)] {
-        for edition in EDITIONS {
-            let what = format!("generated {} as compressed by {}", name, edition);
+        for (edition, profile) in [(1, 3), (2, 3), (1, 4), (2, 4)] {
+            let what = format!("generated {} as {} by {}", name, profile, edition);
             assert!((count / 3..count).contains(&seen.0[&what]), "{}", what);
         }
     }
+    // Half of the lists that are fed have fields too, and more.
+    assert!(seen.0["generated fed as 4: true"] > 100, "{:#?}", seen.0);
+    assert!(seen.0["generated fed as 4: false"] > 20 && seen.0["fixed fed as 4: true"] > 200);
+}
+
+/// Limits and next reads come as every profile; limits as others too, and so do
+/// generated next reads, and of the fixed ones some.
+#[test]
+fn limits_and_next_reads_are_asked_as_every_profile_and_as_others() {
+    let mut seen = Seen::default();
+    for (fixed, input) in all_inputs(2) {
+        let (first, name) = (&input[0].call, name_of(&input[0].call));
+        if !["limits", "next-read"].contains(&name) {
+            continue;
+        }
+        let profiles: Vec<u64> = input.iter().flat_map(|c| profile_of(&c.call)).collect();
+        let known = profiles
+            .iter()
+            .filter(|profile| !is_other_profile(**profile));
+        let known: Vec<u64> = known.copied().collect();
+        // Of the fixed next reads some are not asked as compressed.
+        assert!(profiles.starts_with(&known) && known[0] == VIDEO);
+        assert!(known == PROFILES || (fixed && known == [VIDEO, INTERLACED]));
+        assert!(known == PROFILES || name == "next-read");
+        for (case, profile) in input.iter().zip(&profiles) {
+            assert_eq!(case.call, as_profile(first, *profile));
+            let number = case.rooms[0].number;
+            seen.add(&format!(
+                "{} {} as {}: {}",
+                sort_of(fixed),
+                name,
+                profile,
+                number
+            ));
+        }
+        seen.add(&format!(
+            "{} {} of {}",
+            sort_of(fixed),
+            name,
+            profiles.len()
+        ));
+    }
+    for sort in ["fixed", "generated"] {
+        for name in ["limits", "next-read"] {
+            for (profile, number) in [(1, 0), (3, 0), (4, 0), (4, 5), (4, 7), (5, 22)] {
+                let what = format!("{} {} as {}: {}", sort, name, profile, number);
+                assert!(seen.0.contains_key(&what), "never seen: {}", what);
+            }
+        }
+    }
+    for alike in [
+        "fixed limits of 8",
+        "fixed next-read of 4",
+        "generated limits of 4",
+    ] {
+        assert!(seen.0.contains_key(alike), "never seen: {}", alike);
+    }
+    assert!(!seen.0.contains_key("generated next-read of 3"));
 }
 
 /// What a whole list is answered: the nine numbers and the rows.
@@ -1454,7 +1588,8 @@ fn look_at_editions(seen: &mut Seen, name: &str, by_1: &Answer, by_2: &Answer) {
     }
 }
 
-/// By edition 1 and by edition 2, in one version, as video.
+/// By edition 1 and by edition 2, in one version, as video and, of a fixed input, as
+/// interlaced.
 fn look_at_input(seen: &mut Seen, input: &[Case]) {
     let by_1 = |case: &&Case| edition_of(&case.call) == Some(EDITION_1) && !compressed(case);
     for by_1 in input.iter().filter(by_1) {
@@ -1468,16 +1603,21 @@ fn look_at_input(seen: &mut Seen, input: &[Case]) {
         };
         let by_2 = match input.iter().find(same) {
             Some(by_2) => by_2,
-            // In a version or as a profile that there is not it comes by one edition
-            // alone.
+            // In a version or as a profile that there is not, and if generated as
+            // interlaced, it comes by one edition alone.
             None => {
                 let other_version = one.version.map_or(false, is_other_version);
-                assert!(other_version || one.profile.map_or(false, is_other_profile));
+                let of_frames = [None, Some(VIDEO), Some(COMPRESSED)].contains(&one.profile);
+                assert!(other_version || !of_frames);
                 continue;
             }
         };
+        let name = match one.profile {
+            Some(INTERLACED) => format!("interlaced {}", name_of(&by_1.call)),
+            _ => name_of(&by_1.call).to_string(),
+        };
         match (answer_of(by_1), answer_of(by_2)) {
-            (Some(one), Some(two)) => look_at_editions(seen, name_of(&by_1.call), &one, &two),
+            (Some(one), Some(two)) => look_at_editions(seen, &name, &one, &two),
             (one, two) => assert!(one.is_none() && two.is_none()),
         }
     }
@@ -1487,10 +1627,20 @@ fn compressed(case: &Case) -> bool {
     profile_of(&case.call) == Some(COMPRESSED)
 }
 
-/// All that two editions can answer to one input, files, captures and feeds alike.
-fn everything_of_editions() -> Vec<String> {
+/// All that two editions can answer to one input, files, captures and feeds alike; as
+/// interlaced too, if it is fixed.
+fn everything_of_editions(fixed: bool) -> Vec<String> {
+    let mut names = ["capture", "feed", "measure"].map(str::to_string).to_vec();
+    if fixed {
+        names.extend(
+            names
+                .clone()
+                .iter()
+                .map(|name| format!("interlaced {}", name)),
+        );
+    }
     let mut all = vec![];
-    for name in ["capture", "feed", "measure"] {
+    for name in names {
         for what in [
             "none and none",
             "none and broken",
@@ -1519,14 +1669,14 @@ fn everything_of_editions() -> Vec<String> {
 #[test]
 fn the_editions_answer_in_every_way() {
     let generated = (0..100 * ROUND).map(|index| cases(6, index)).collect();
-    for inputs in [fixed(), generated] {
+    for (inputs, is_fixed) in [(fixed(), true), (generated, false)] {
         let mut seen = Seen::default();
         inputs
             .iter()
             .for_each(|input| look_at_input(&mut seen, input));
         println!("{:#?}", seen.0);
         let seen: Vec<String> = seen.0.into_keys().collect();
-        assert_eq!(seen, everything_of_editions());
+        assert_eq!(seen, everything_of_editions(is_fixed));
     }
 }
 
@@ -1538,6 +1688,18 @@ fn by_1_as_video<'a>(input: &'a [Case], case: &Case) -> Option<&'a Case> {
             && matches!(profile_of(&by_1.call), None | Some(VIDEO))
             && name_of(&by_1.call) == name_of(&case.call)
     })
+}
+
+/// The refusal of the same input in the same version and as the same profile, by an
+/// edition that there is, if it comes so.
+fn refusal_as_profile(input: &[Case], case: &Case) -> Option<u8> {
+    let same = |other: &&Case| {
+        !edition_of(&other.call).map_or(false, is_other_edition)
+            && version_of(&other.call) == version_of(&case.call)
+            && profile_of(&other.call) == profile_of(&case.call)
+    };
+    let room = |other: &Case| other.rooms.first().map(|room| room.number);
+    input.iter().find(same).and_then(room)
 }
 
 /// An edition that there is not, with whatever else is wrong: what comes before 8
@@ -1554,8 +1716,8 @@ fn look_at_other_editions(seen: &mut Seen, input: &[Case]) {
         for room in &case.rooms {
             if room.number != 8 {
                 seen.add(&format!("{} wins {}", name, room.number));
-                assert!(by_1.map_or(room.number == 20, |by_1| by_1.rooms[0].number
-                    == room.number));
+                let by_any = refusal_as_profile(input, case);
+                assert_eq!(room.number, by_any.unwrap_or(20));
                 continue;
             }
             let place = if name == "measure" { 1 } else { 0 };
@@ -1679,7 +1841,7 @@ fn states_of_both_editions_are_changed_on_both_sides() {
     assert!(!seen.0.contains_key("by 2, broken, edition 1: 0"));
 }
 
-// --- request (vii) ---
+// --- requests (vii) and (ix) ---
 
 /// What one input is answered as compressed and as video, in one version and by one
 /// edition: "peak and least 0 for whole frames", the buffer answer "always none", and
@@ -1703,26 +1865,53 @@ fn look_at_profiles(seen: &mut Seen, what: &str, compressed: &Answer, video: &An
     }
 }
 
-/// Every case of an input that is compressed beside the one that is video.
-fn look_at_compressed(seen: &mut Seen, input: &[Case]) {
+/// Every case of an input that is of a profile, in a version and by an edition that
+/// there are, beside the one that is video.
+fn beside_their_video(input: &[Case], profile: u64) -> Vec<(&Case, &Case)> {
     let both = |case: &&Case| {
         let tried = tried(case);
-        compressed(case)
+        tried.profile == Some(profile)
             && !tried.version.map_or(false, is_other_version)
             && !tried.edition.map_or(false, is_other_edition)
     };
-    for case in input.iter().filter(both) {
+    let as_video = |case| {
         let wanted = Tried {
             profile: Some(VIDEO),
             ..tried(case)
         };
         let video = input.iter().find(|other| tried(other) == wanted);
-        let video = video.expect("it comes as video too");
-        let name = name_of(&case.call);
-        let what = match edition_of(&case.call) {
-            Some(edition) => format!("{} by {}", name, edition),
-            None => name.to_string(),
-        };
+        (case, video.expect("it comes as video too"))
+    };
+    input.iter().filter(both).map(as_video).collect()
+}
+
+fn named_by(call: &Call) -> String {
+    match edition_of(call) {
+        Some(edition) => format!("{} by {}", name_of(call), edition),
+        None => name_of(call).to_string(),
+    }
+}
+
+/// By what the calls that take a profile, or a file that has one, are refused or not.
+const REFUSED_OF_ANY: [(&str, &[u8]); 6] = [
+    (
+        "measure",
+        &[0, 1, 2, 3, 4, 5, 6, 7, 11, 12, 13, 15, 21, 22, 23],
+    ),
+    (
+        "capture",
+        &[0, 1, 2, 3, 4, 5, 6, 7, 12, 13, 15, 30, 31, 32, 33],
+    ),
+    ("set-up", &[0, 1, 2, 3, 4, 5, 6, 7, 15]),
+    ("write", &[0, 1, 2, 3, 4, 5, 6, 7, 10, 11, 12, 13, 24]),
+    ("limits", &[0, 1, 2, 3, 4, 5, 6, 7, 15]),
+    ("next-read", &[0, 1, 2, 3, 4, 5, 6, 7, 12, 13, 15]),
+];
+
+/// Every case of an input that is compressed beside the one that is video.
+fn look_at_compressed(seen: &mut Seen, input: &[Case]) {
+    for (case, video) in beside_their_video(input, COMPRESSED) {
+        let (name, what) = (name_of(&case.call), named_by(&case.call));
         assert_eq!(case.rooms.len(), video.rooms.len());
         match (answer_of(case), answer_of(video)) {
             (Some(one), Some(other)) => look_at_profiles(seen, &what, &one, &other),
@@ -1732,7 +1921,7 @@ fn look_at_compressed(seen: &mut Seen, input: &[Case]) {
             // Written they are the same but for the kind.
             assert_eq!(case.filled[FIRST_KIND], 3);
             let twin = as_profiles(&[VIDEO], &case.filled);
-            assert_eq!(twin, [video.filled.clone()]);
+            assert_eq!(twin, std::slice::from_ref(&video.filled));
         }
         for room in case.rooms.iter().filter(|_| name != "feed") {
             seen.add(&format!("{}: {}", name, room.number));
@@ -1755,18 +1944,7 @@ fn everything_of_profiles() -> Vec<String> {
             }
         }
     }
-    for (name, numbers) in [
-        (
-            "measure",
-            &[0, 1, 2, 3, 4, 5, 6, 7, 11, 12, 13, 15, 21, 22, 23][..],
-        ),
-        (
-            "capture",
-            &[0, 1, 2, 3, 4, 5, 6, 7, 12, 13, 15, 30, 31, 32, 33],
-        ),
-        ("set-up", &[0, 1, 2, 3, 4, 5, 6, 7, 15]),
-        ("write", &[0, 1, 2, 3, 4, 5, 6, 7, 10, 11, 12, 13, 24]),
-    ] {
+    for (name, numbers) in REFUSED_OF_ANY {
         all.extend(numbers.iter().map(|number| format!("{}: {}", name, number)));
     }
     all.sort();
@@ -1786,6 +1964,88 @@ fn what_is_compressed_is_answered_as_video_is_but_for_reads() {
         println!("{:#?}", seen.0);
         let seen: Vec<String> = seen.0.into_keys().collect();
         assert_eq!(seen, everything_of_profiles());
+    }
+}
+
+/// What one input is answered as interlaced and as video, in one version and by one
+/// edition: the bucket is the same, and so is where fields or frames begin and end.
+fn look_at_fields(seen: &mut Seen, what: &str, interlaced: &Answer, video: &Answer) {
+    assert_eq!(interlaced.nine[..6], video.nine[..6]);
+    let [fields, frames] = [interlaced, video].map(|answer| BUFFERS[answer.nine[6] as usize]);
+    seen.add(&format!("{}: {}", what, fields));
+    if fields != frames {
+        seen.add(&format!("{}: {} and not as video", what, fields));
+    }
+    assert_eq!(interlaced.rows.len(), video.rows.len());
+    for (field, frame) in interlaced.rows.iter().zip(&video.rows) {
+        assert_eq!([field[0], field[10]], [frame[0], frame[10]]);
+        seen.add(&format!("{}: a field of kind {}", what, field[1]));
+        if [field[1], frame[1]] == [0, 1] {
+            seen.add(&format!("{}: a field that is a short frame", what));
+        }
+    }
+}
+
+/// Every case of an input that is interlaced beside the one that is video. Where both
+/// are refused it is by one number, but that 5 comes before 6 and all else, and 7
+/// before what comes after set-up.
+fn look_at_interlaced(seen: &mut Seen, input: &[Case]) {
+    for (case, video) in beside_their_video(input, INTERLACED) {
+        let (name, what) = (name_of(&case.call), named_by(&case.call));
+        match (answer_of(case), answer_of(video)) {
+            (Some(one), Some(other)) => look_at_fields(seen, &what, &one, &other),
+            (one, _) => assert!(one.is_none()),
+        }
+        let first = |case: &Case| case.rooms.first().map_or(0, |room| room.number);
+        let (own, other) = (first(case), first(video));
+        if own != other {
+            // What is fed as video may be refused as interlaced by set-up.
+            assert!([5, 7].contains(&own) && (other == 0 || own < other));
+            seen.add(&format!("{}: {} alone", name, own));
+        }
+        for room in &case.rooms {
+            seen.add(&format!("{}: {}", name, room.number));
+        }
+    }
+}
+
+/// What must be seen of what is interlaced.
+fn everything_of_fields() -> Vec<String> {
+    let mut all = vec![];
+    for name in ["capture", "feed", "measure"] {
+        for edition in EDITIONS {
+            let what = format!("{} by {}", name, edition);
+            let answers = if edition == EDITION_1 { 4 } else { 5 };
+            for answer in &BUFFERS[..answers] {
+                all.push(format!("{}: {}", what, answer));
+                all.push(format!("{}: {} and not as video", what, answer));
+            }
+            all.extend((0..4).map(|kind| format!("{}: a field of kind {}", what, kind)));
+            all.push(format!("{}: a field that is a short frame", what));
+        }
+    }
+    for (name, numbers) in REFUSED_OF_ANY {
+        all.extend(numbers.iter().map(|number| format!("{}: {}", name, number)));
+        all.extend([5, 7].map(|number| format!("{}: {} alone", name, number)));
+    }
+    // By edition 2 none is that no frame has closed, and no field then.
+    all.retain(|what| !what.contains("by 2: none and not as video"));
+    all.sort();
+    all
+}
+
+/// By the fixed inputs alone, and by generated ones.
+#[test]
+fn what_is_interlaced_is_answered_in_every_way() {
+    let generated = (0..200 * ROUND).map(|index| cases(16, index)).collect();
+    for inputs in [fixed(), generated] {
+        let mut seen = Seen::default();
+        inputs
+            .iter()
+            .for_each(|input| look_at_interlaced(&mut seen, input));
+        println!("{:#?}", seen.0);
+        let seen: Vec<String> = seen.0.into_keys().collect();
+        assert_eq!(seen, everything_of_fields());
     }
 }
 
@@ -1836,14 +2096,18 @@ fn other_profiles_are_tried_with_every_other_fault() {
             &[0, 1, 2, 3, 4, 5, 6, 7, 8, 12, 13, 15, 30, 31, 32, 33],
         ),
         ("set-up loses", &[0, 1, 2, 3, 4, 5, 6, 7, 8, 15]),
-        ("write as", &[0, 2, 4, 255]),
-        ("capture as", &[0, 2, 4, 255]),
-        ("set-up as", &[0, 2, 4, 255]),
+        ("limits loses", &[0, 1, 2, 3, 4, 5, 6, 7, 15]),
+        ("next-read loses", &[0, 1, 2, 3, 4, 5, 6, 7, 12, 13, 15]),
+        ("write as", &[0, 2, 5, 255]),
+        ("capture as", &[0, 2, 5, 255]),
+        ("set-up as", &[0, 2, 5, 255]),
+        ("limits as", &[0, 2, 5, 255]),
+        ("next-read as", &[0, 2, 5, 255]),
     ] {
         wanted.extend(numbers.iter().map(|number| format!("{} {}", what, number)));
     }
     wanted.sort();
-    let generated = (0..100 * ROUND).map(|index| cases(13, index)).collect();
+    let generated = (0..200 * ROUND).map(|index| cases(13, index)).collect();
     for inputs in [fixed(), generated] {
         let mut seen = Seen::default();
         inputs
@@ -1870,13 +2134,13 @@ fn look_at_kinds(seen: &mut Seen, file: &[u8], number: u8, place: usize) {
             let first = file[FIRST_KIND];
             seen.add(&format!("23: kind {} after {}{}", kind, first, between));
         }
-        22 if (1..=3).contains(&kind) => {
+        22 if (1..=4).contains(&kind) => {
             assert_ne!(length, if kind == 2 { 14 } else { 16 });
             seen.add(&format!("22: kind {} of a wrong length", kind));
         }
         22 => {
             let of = if length == 16 { " of 16 bytes" } else { "" };
-            seen.add(&format!("22: kind {}{}", kind.min(5), of));
+            seen.add(&format!("22: kind {}{}", kind.min(6), of));
         }
         _ => {}
     }
@@ -1884,17 +2148,17 @@ fn look_at_kinds(seen: &mut Seen, file: &[u8], number: u8, place: usize) {
 
 /// "22 and 23 read with that kind too": each order of two kinds of parameters, right
 /// after one another and with packets between them, a packet first, each known kind
-/// of a wrong length, and kind 4; by the fixed inputs alone and by generated ones.
+/// of a wrong length, and kind 5; by the fixed inputs alone and by generated ones.
 #[test]
 fn files_are_refused_with_every_kind() {
     let mut wanted = vec!["23: kind 2 first".to_string()];
-    for (first, again) in [(1, 1), (1, 3), (3, 1), (3, 3)] {
+    for (first, again) in PROFILES.iter().flat_map(|f| PROFILES.map(|a| (f, a))) {
         for between in ["", " and packets"] {
             wanted.push(format!("23: kind {} after {}{}", again, first, between));
         }
     }
-    wanted.extend((1..=3).map(|kind| format!("22: kind {} of a wrong length", kind)));
-    for kind in [0, 4, 5] {
+    wanted.extend((1..=4).map(|kind| format!("22: kind {} of a wrong length", kind)));
+    for kind in [0, 5, 6] {
         wanted.extend(["", " of 16 bytes"].map(|of| format!("22: kind {}{}", kind, of)));
     }
     wanted.sort();
@@ -1913,7 +2177,7 @@ fn files_are_refused_with_every_kind() {
     }
 }
 
-/// Generated files have both kinds, and generated captures every sort of profile, so
+/// Generated files have every kind, and generated captures every sort of profile, so
 /// that the programs meet them.
 #[test]
 fn generated_inputs_have_profiles_of_every_sort() {
@@ -1921,20 +2185,22 @@ fn generated_inputs_have_profiles_of_every_sort() {
     for profile in PROFILES {
         let own = |file: &&Vec<u8>| read(EDITION_1, file).numbers.map(|n| n.profile);
         let count = files.iter().filter(|file| own(file) == Some(profile));
-        assert!(count.count() > 400);
+        assert!(count.count() > 250);
     }
-    let profiles: Vec<u64> = (0..4000)
+    let profiles: Vec<u64> = (0..6000)
         .map(|index| traffic::capture(2110, index).0.numbers.profile)
         .collect();
     let count = |profile| profiles.iter().filter(|p| **p == profile).count();
-    assert!(count(VIDEO) > 1000 && count(COMPRESSED) > 1000);
-    for profile in [OTHER_PROFILES, PROFILE_LOOKALIKES, WIDE_PROFILES].concat() {
+    assert!(PROFILES.iter().all(|profile| count(*profile) > 1000));
+    for profile in [&OTHER_PROFILES[..], &PROFILE_LOOKALIKES, &WIDE_PROFILES].concat() {
         assert!(count(profile) > 0, "never seen: {}", profile);
     }
 }
 
-/// Words of a state: the profile; and those that a compressed state has as 0, which are
-/// reads, wait, top, late, deficit and the buffer answer.
+/// Words of a state: n, TRO, the profile; and those that a compressed state has as 0,
+/// which are reads, wait, top, late, deficit and the buffer answer.
+const N_WORD: u8 = 4;
+const TRO_WORD: u8 = 6;
 const PROFILE_WORD: u8 = 8;
 const WORDS_OF_READS: [u8; 6] = [26, 27, 29, 30, 31, 32];
 
@@ -1946,6 +2212,17 @@ fn look_at_changes(seen: &mut Seen, profile: u64, calls: &[Feed]) {
         if feed.changes.len() == 1 && word.is_some() {
             seen.add(&format!("{} to {}: {}", profile, to, feed.number));
         }
+        for (word, value) in &feed.changes {
+            match (*word, *value) {
+                (N_WORD, n) if n % 2 == 1 && n < 20_000 => {
+                    seen.add(&format!("{}, odd n: {}", to, feed.number));
+                }
+                (TRO_WORD, 0xffff_ffff) => {
+                    seen.add(&format!("{}, TRO default: {}", to, feed.number));
+                }
+                _ => {}
+            }
+        }
         let of_reads = |change: &&(u8, u64)| WORDS_OF_READS.contains(&change.0);
         for (at, value) in feed.changes.iter().filter(of_reads) {
             let some = if *value == 0 { "0" } else { "more" };
@@ -1955,48 +2232,69 @@ fn look_at_changes(seen: &mut Seen, profile: u64, calls: &[Feed]) {
     }
 }
 
-/// A state holds the profile: both sides of its range; and of a compressed state each
-/// number of reads, and each buffer answer, is 9 where it is not 0 or none.
+/// A state holds the profile: both sides of its range; of a compressed state each
+/// number of reads, and each buffer answer, is 9 where it is not 0 or none; and of an
+/// interlaced one an odd n and a default TRO are.
 #[test]
-fn states_of_both_profiles_are_changed_on_both_sides() {
+fn states_of_every_profile_are_changed_on_both_sides() {
     let mut seen = Seen::default();
     for case in fixed_cases() {
         if let Call::Feed { numbers, calls, .. } = case.call {
             look_at_changes(&mut seen, numbers.profile, &calls);
         }
     }
-    let both = [
+    let each = [
         "1 to 1: 0",
         "1 to 3: 0",
         "1 to 3: 9",
+        "1 to 4: 0",
+        "1 to 4: 9",
         "3 to 1: 0",
         "3 to 3: 0",
+        "3 to 4: 0",
+        "3 to 4: 9",
+        "4 to 1: 0",
+        "4 to 3: 0",
+        "4 to 3: 9",
+        "4 to 4: 0",
+        "1, odd n: 0",
+        "3, odd n: 0",
+        "4, odd n: 9",
+        "1, TRO default: 0",
+        "3, TRO default: 0",
+        "4, TRO default: 9",
     ];
-    let mut wanted = both.map(str::to_string).to_vec();
-    for other in [0, 2, 4, 255, 257, 259, (1 << 32) + 3, u64::MAX] {
-        wanted.extend([1, 3].map(|own| format!("{} to {}: 9", own, other)));
+    let mut wanted = each.map(str::to_string).to_vec();
+    for other in [0, 2, 5, 255, 257, 259, 260, (1 << 32) + 3, u64::MAX] {
+        wanted.extend(PROFILES.map(|own| format!("{} to {}: 9", own, other)));
     }
     for word in WORDS_OF_READS {
         wanted.push(format!("1, word {} more: 0", word));
+        wanted.push(format!("4, word {} more: 0", word));
         wanted.push(format!("3, word {} more: 9", word));
         wanted.push(format!("3, word {} 0: 0", word));
     }
     for what in wanted {
         assert!(seen.0.contains_key(&what), "never seen: {}", what);
     }
-    assert!(!seen.0.contains_key("3 to 1: 9") && !seen.0.contains_key("3 to 3: 9"));
+    for never in ["3 to 1: 9", "3 to 3: 9", "4 to 1: 9", "4 to 4: 9"] {
+        assert!(!seen.0.contains_key(never), "seen: {}", never);
+    }
+    for never in ["4, odd n: 0", "4, TRO default: 0"] {
+        assert!(!seen.0.contains_key(never), "seen: {}", never);
+    }
 }
 
-/// A file is tried as the other kind with nothing else changed; one whose first record
+/// A file is tried as the other kinds with nothing else changed; one whose first record
 /// is no parameters stays as it is.
 #[test]
 fn only_the_first_kind_is_changed() {
-    let both = [[1, 0, 16, 1, 7], [1, 0, 16, 3, 7]];
-    for file in both {
-        assert_eq!(as_profiles(&PROFILES, &file), both);
+    let all = [[1, 0, 16, 1, 7], [1, 0, 16, 3, 7], [1, 0, 16, 4, 7]];
+    for file in all {
+        assert_eq!(as_profiles(&PROFILES, &file), all);
     }
     assert_eq!(as_profiles(&[3], &[2, 9, 9, 1]), [[2, 9, 9, 3]]);
-    for alone in [&[][..], &[1, 0, 16], &[1, 0, 16, 2], &[1, 0, 14, 4, 1]] {
+    for alone in [&[][..], &[1, 0, 16], &[1, 0, 16, 2], &[1, 0, 14, 5, 1]] {
         assert_eq!(as_profiles(&PROFILES, alone), [alone]);
     }
 }

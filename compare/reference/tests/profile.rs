@@ -1,7 +1,7 @@
-//! Request (vii) of document 02, "Compressed streams": both profiles on small lists
-//! whose answers are worked out by hand, parameter records of kind 3 in files, 22 of
-//! profiles that there are not among the other refusals, and the round trip of both
-//! kinds.
+//! Request (vii) of document 02, "Compressed streams": video and compressed on small
+//! lists whose answers are worked out by hand, parameter records of every kind in
+//! files, 22 of profiles that there are not among the other refusals, and the round
+//! trip of every kind. What is interlaced is in `interlaced.rs`.
 
 use vtiming_reference::capture::NANOSECONDS;
 use vtiming_reference::cases::edition_streams;
@@ -21,6 +21,15 @@ const SMALL: Numbers = Numbers {
     maxudp: 8960,
     ..FOUR
 };
+
+/// And where every profile is accepted.
+const GIVEN: Numbers = Numbers {
+    tro: Some(700),
+    ..FOUR
+};
+
+/// Those of which "Stream numbers are as in the base".
+const OF_FRAMES: [u64; 2] = [VIDEO, COMPRESSED];
 
 fn example() -> Vec<Packet> {
     [
@@ -212,8 +221,8 @@ fn all_else_is_as_of_video() {
 /// The bucket runs: five packets at one instant are a burst where C_MAX is 4.
 #[test]
 fn the_network_is_judged_as_of_video() {
-    let list = vec![Packet::new(7, 0, 0); 5];
-    for profile in PROFILES {
+    let list = [Packet::new(7, 0, 0); 5];
+    for profile in OF_FRAMES {
         for edition in EDITIONS {
             let network = |count| {
                 let measured = measure(edition, &FOUR.of(profile), &list[..count]);
@@ -241,7 +250,7 @@ fn no_limit_depends_on_the_profile() {
     };
     for numbers in [FOUR, SMALL, wide, low, given, Numbers::narrow(20_000)] {
         let [video, compressed] =
-            PROFILES.map(|profile| set_up(EDITION_1, &numbers.of(profile)).unwrap());
+            OF_FRAMES.map(|profile| set_up(EDITION_1, &numbers.of(profile)).unwrap());
         assert_eq!(video.profile, Profile::Video);
         assert_eq!(compressed.profile, Profile::Compressed);
         let as_video = Limits {
@@ -265,7 +274,7 @@ fn no_limit_depends_on_the_profile() {
 fn class_0_is_read_by_the_version() {
     let numbers = Numbers { class: 0, ..FOUR };
     let list = vec![Packet::new(7, 0, 0); 5];
-    for profile in PROFILES {
+    for profile in OF_FRAMES {
         let text = |version| expected_output(&write(version, &numbers.of(profile), &list));
         assert!(text(1).ends_with("network pass buffer none\n"));
         assert!(text(2).ends_with("network burst 0 4 buffer none\n"));
@@ -276,7 +285,7 @@ fn class_0_is_read_by_the_version() {
 #[test]
 fn a_wrong_edition_is_refused_of_either_profile() {
     for edition in OTHER_EDITIONS {
-        for profile in PROFILES {
+        for profile in OF_FRAMES {
             let numbers = FOUR.of(profile);
             assert_eq!(set_up(edition, &numbers), Err(8));
             let file = write(1, &numbers, &example());
@@ -289,18 +298,18 @@ fn a_wrong_edition_is_refused_of_either_profile() {
 
 // --- 22 and 23 of a file ---
 
-/// "22 and 23 read with that kind too": parameters again, of either kind after either,
+/// "22 and 23 read with that kind too": parameters again, of any kind after any,
 /// right after them and after packets, though set-up would refuse them too.
 #[test]
 fn parameters_come_once_whatever_their_kinds() {
     let lead_in = packet(&Packet::new(5, 0, 1));
     for first in PROFILES {
-        let front = parameters(&FOUR.of(first));
+        let front = parameters(&GIVEN.of(first));
         for again in PROFILES {
             for rate in [6, 0] {
                 let again = parameters(&Numbers {
                     rate,
-                    ..FOUR.of(again)
+                    ..GIVEN.of(again)
                 });
                 for version in [1, 2] {
                     let at_once = of_records(version, &[&front, &again]);
@@ -314,26 +323,27 @@ fn parameters_come_once_whatever_their_kinds() {
 }
 
 #[test]
-fn a_packet_first_is_23_before_either_kind() {
+fn a_packet_first_is_23_before_any_kind() {
     let lead_in = packet(&Packet::new(5, 0, 1));
     for profile in PROFILES {
-        let behind = of_records(1, &[&lead_in, &parameters(&FOUR.of(profile))]);
+        let behind = of_records(1, &[&lead_in, &parameters(&GIVEN.of(profile))]);
         assert_eq!(parse(&behind), Err(refused(23, 1)));
     }
 }
 
-/// Kind 3 has 16 bytes; of any other length it is 22, first of all, after parameters of
-/// either kind and after a packet. 22 comes before 23.
+/// Kinds 3 and 4 have 16 bytes; of any other length they are 22, first of all, after
+/// parameters of any kind and after a packet. 22 comes before 23.
 #[test]
-fn kind_3_of_another_length_is_22() {
+fn kinds_3_and_4_of_another_length_are_22() {
     let lead_in = packet(&Packet::new(5, 0, 1));
-    for length in (1..40).filter(|length| *length != 16) {
+    let lengths = (1..40).filter(|length| *length != 16);
+    for (length, kind) in lengths.flat_map(|length| [(length, 3), (length, 4)]) {
         let mut body = vec![0; length];
-        body[0] = 3;
+        body[0] = kind;
         let wrong = record(&body);
         assert_eq!(parse(&of_records(1, &[&wrong])), Err(refused(22, 1)));
         for first in PROFILES {
-            let front = parameters(&FOUR.of(first));
+            let front = parameters(&GIVEN.of(first));
             let second = of_records(2, &[&front, &wrong]);
             assert_eq!(parse(&second), Err(refused(22, 19)));
             let third = of_records(2, &[&front, &lead_in, &wrong]);
@@ -342,18 +352,18 @@ fn kind_3_of_another_length_is_22() {
     }
 }
 
-/// Every kind on a body of 16 bytes that is good parameters else: 1 and 3 are known.
+/// Every kind on a body of 16 bytes that is good parameters else: 1, 3 and 4 are known.
 /// 21 comes before 22, and 22 before what set-up refuses.
 #[test]
 fn every_other_kind_of_parameters_is_22() {
     for kind in 0..=255 {
         for version in [1, 2] {
-            let file = of_records(version, &[&parameters(&FOUR.of(kind))]);
+            let file = of_records(version, &[&parameters(&GIVEN.of(kind))]);
             let refusal = parse(&file).err();
-            let known = kind == 1 || kind == 3;
+            let known = [1, 3, 4].contains(&kind);
             assert_eq!(refusal, (!known).then(|| refused(22, 1)));
             assert_eq!(parse(&file[..18]), Err(refused(21, 1)));
-            let wrong = Numbers { rate: 0, ..FOUR };
+            let wrong = Numbers { rate: 0, ..GIVEN };
             let file = of_records(version, &[&parameters(&wrong.of(kind))]);
             let number = if known { 1 } else { 22 };
             assert_eq!(parse(&file), Err(refused(number, 1)));
@@ -367,7 +377,7 @@ fn the_refusals_of_a_file_are_those_of_its_video_twin() {
     let mut seen = std::collections::BTreeMap::new();
     for index in 0..1500 {
         let own = file(21, index);
-        let [video, compressed] = match &as_profiles(&PROFILES, &own)[..] {
+        let [video, compressed] = match &as_profiles(&OF_FRAMES, &own)[..] {
             [video, compressed] => [read(EDITION_1, video), read(EDITION_1, compressed)],
             _ => continue,
         };
@@ -386,8 +396,8 @@ fn the_refusals_of_a_file_are_those_of_its_video_twin() {
 
 // --- 22 where a profile is an argument ---
 
-/// Before 1 to 7 and 8, of every number of a byte but 1 and 3, and of such as have no
-/// room in one.
+/// Before 1 to 7 and 8, of every number of a byte but 1, 3 and 4, and of such as have
+/// no room in one.
 #[test]
 fn set_up_refuses_a_profile_by_22_first_of_all() {
     for profile in OTHER_PROFILES.into_iter().chain(WIDE_PROFILES) {
@@ -398,8 +408,8 @@ fn set_up_refuses_a_profile_by_22_first_of_all() {
         }
     }
     for profile in 0..=1000 {
-        let accepted = set_up(EDITION_1, &FOUR.of(profile)).is_ok();
-        assert_eq!(accepted, profile == 1 || profile == 3);
+        let accepted = set_up(EDITION_1, &GIVEN.of(profile)).is_ok();
+        assert_eq!(accepted, [1, 3, 4].contains(&profile));
     }
 }
 
@@ -477,7 +487,7 @@ fn a_capture_as_compressed() {
     }
 }
 
-/// Captures that are refused as either profile, where 87 bytes are lent: by which
+/// Captures that are refused as video and as compressed, where 87 bytes are lent: by which
 /// number and where, by which edition and with which offset.
 fn refused_captures() -> Vec<(Refusal, u32, u32, Vec<u8>)> {
     let good = captured();
@@ -519,7 +529,7 @@ fn a_capture_is_refused_by_22_first_of_all() {
             tro: Some(20_000),
             ..FOUR
         };
-        for profile in PROFILES {
+        for profile in OF_FRAMES {
             assert_eq!(answer(FOUR.of(profile), 87), refusal);
             assert_eq!(answer(late.of(profile), 87), refused(7, 0));
         }
@@ -561,10 +571,10 @@ fn a_list_is_fed_as_compressed() {
 
 // --- the round trip ---
 
-/// Both kinds in both versions: what is written is read, and what is read is written.
+/// Every kind in both versions: what is written is read, and what is read is written.
 #[test]
 fn what_is_written_is_read_and_what_is_read_is_written() {
-    let mut kept = [[0; 2]; 2];
+    let mut kept = std::collections::BTreeMap::new();
     for index in 0..300 {
         let twins = as_profiles(&PROFILES, &file(22, index));
         for bytes in twins.iter().flat_map(|twin| under(&[1, 2], twin)) {
@@ -576,20 +586,20 @@ fn what_is_written_is_read_and_what_is_read_is_written() {
             let lists = Lists::of(&packets);
             let written = writer(version, &numbers, lists.lent(), bytes.len());
             assert_eq!(written, Ok(bytes));
-            kept[usize::from(version) - 1][usize::from(numbers.profile == COMPRESSED)] += 1;
+            *kept.entry((version, numbers.profile)).or_insert(0) += 1;
         }
     }
-    assert!(
-        kept.iter().flatten().all(|count| *count > 100),
-        "{:?}",
-        kept
-    );
+    assert_eq!(kept.len(), 2 * PROFILES.len());
+    assert!(kept.values().all(|count| *count > 50), "{:?}", kept);
     for (numbers, packets) in edition_streams() {
-        for (version, profile) in [(1, VIDEO), (1, COMPRESSED), (2, VIDEO), (2, COMPRESSED)] {
+        for (version, profile) in PROFILES.into_iter().flat_map(|p| [(1, p), (2, p)]) {
             let numbers = numbers.of(profile);
             let written = writer(version, &numbers, Lists::of(&packets).lent(), 1000);
+            // Of those of frames TRO is default.
+            let refusal = set_up(EDITION_1, &numbers).err();
+            assert_eq!(refusal.is_some(), written.is_err());
             let records = (version, numbers, packets.clone());
-            assert_eq!(parse(&written.unwrap()), Ok(records));
+            assert!(written.map_or(true, |file| parse(&file) == Ok(records)));
         }
     }
 }
