@@ -1,5 +1,6 @@
 -- "Both sides of each limit": the twelve cases of document 01 as one list under one claim, that what the definitions give
--- is what document 01 gives; and a list of the same kind for fields (document 02, ix). Each case stands under its words. Numbers of any kind are written as integers, one list a side.
+-- is what document 01 gives; and a list of the same kind for fields (document 02, ix). Each case stands under its words. Numbers of any
+-- kind are written as integers, one list a side.
 use Rattle.laws.specs.Kit.{_≡_, refl, List, [], _∷_, map, ℕ, ℤ, pos, negℤ}
 use Rattle.laws.specs.Choose.{pick}
 use Rattle.laws.specs.Count.{count}

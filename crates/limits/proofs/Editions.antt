@@ -80,7 +80,10 @@ module _ (profile : Profile) (p : Parameters) (edition : ℕ) where
 
   -- N2, S11: 8 comes after 1 to 7, and is given exactly where none of these is and the edition is neither 1 nor 2
   pub refused-8 : (setUpIn profile p edition ≡ 8) ↔ ((setUpRefusal profile p ≡ 0) × (KnownEdition edition → ⊥))
-  refused-8 = (λ e. (fine e (ℕ-discrete (setUpRefusal profile p) 0), λ h. omega (arith, in-known h, at-most-7 profile p)), λ x. in-edition (x .0) ∙ edition-8 edition (x .1))
+  refused-8 = (
+    λ e. (fine e (ℕ-discrete (setUpRefusal profile p) 0), λ h. omega (arith, in-known h, at-most-7 profile p)),
+    λ x. in-edition (x .0) ∙ edition-8 edition (x .1),
+  )
     where
       fine : setUpIn profile p edition ≡ 8 → Dec (setUpRefusal profile p ≡ 0) → setUpRefusal profile p ≡ 0
       fine e (yes z) = z

@@ -67,7 +67,8 @@ module _ (edition : ℕ) (s : List ℕ) where
         own-refused p =
             rw (in-first profile numbers edition p, reads-refused here (setUpRefusal profile numbers) same-refusal p)
 
-        edition-refused : setUpRefusal profile numbers ≡ 0 → 0 < editionRefusal edition → answer.Refused (setUpIn profile numbers edition) 1 ≡ checkedOf edition s
+        edition-refused : setUpRefusal profile numbers ≡ 0 → 0 < editionRefusal edition
+            → answer.Refused (setUpIn profile numbers edition) 1 ≡ checkedOf edition s
         unfolding checkedOf
         edition-refused f p =
             rw (in-edition profile numbers edition f, reads-packets here (same-refusal ∙ f), ne-eqb (editionRefusal edition) 0 (λ z. omega arith))

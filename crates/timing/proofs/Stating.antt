@@ -54,7 +54,9 @@ module _ (t : Stated) where
   )
     where
       first : statedRefusal t ≡ 22 → Dec (profileRefusal (t .kind) ≡ 0) → profileRefusal (t .kind) ≡ 22
-      first e (yes z) = absurd (omega (arith, second (profileRefusal (t .kind)) (setUpOf (statedOf t)) z, at-most-8 (profileOf (t .kind)) (t .parameters) (t .edition), e))
+      first e (yes z) =
+          let most = at-most-8 (profileOf (t .kind)) (t .parameters) (t .edition) in
+          absurd (omega (arith, second (profileRefusal (t .kind)) (setUpOf (statedOf t)) z, most, e))
       first e (no n) =
           let some : 0 < profileRefusal (t .kind) = omega arith in
           omega (arith, before (profileRefusal (t .kind)) (setUpOf (statedOf t)) some, e)

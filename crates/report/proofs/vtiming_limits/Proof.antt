@@ -53,7 +53,8 @@ returns-3 c =
     let set-up = not-short .before in
     let r = set-up .before in
     rw (sym (r .before .stated .ensures))
-    (limits-done _ _ (sym (r .refusal .ensures) ∙ set-up .if1 .left) (omega arith) (rw (c .frame-length .ensures, c .before .before .rules .ensures, numbers .numbers .ensures)))
+    (limits-done _ _ (sym (r .refusal .ensures) ∙ set-up .if1 .left) (omega arith)
+    (rw (c .frame-length .ensures, c .before .before .rules .ensures, numbers .numbers .ensures)))
 
 pub vtiming-limits-spec : {M : Type 1} → statement M
 vtiming-limits-spec =

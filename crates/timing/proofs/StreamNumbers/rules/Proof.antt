@@ -37,7 +37,9 @@ has-buffer-requires : tie.Need-has-buffer-requires
 has-buffer-requires c κs = search needs
 
 mul-frame : tie.Need-mul-t10
-mul-frame c = omega (arith, frame-most (c .before .before .before .before .before .before .before .before .before .before .before .args .self .parameters .rate))
+mul-frame c =
+    let period = c .before .before .before .before .before .before .before in
+    omega (arith, frame-most (period .before .before .before .before .args .self .parameters .rate))
 
 mul-drains : tie.Need-mul-t11
 mul-drains c = search needs
