@@ -3,7 +3,6 @@
 -- `captureFilled`, film's Paper), and any run of the program for captures, of which `outputOf` of reel's Paper says what it prints.
 use Rattle.laws.specs.Kit.{_≡_, refl, _∙_, Bool, true, false, List, [], ℕ, _+_, _≤_, _<_, min, ℤ, length, getD, ne-eqb}
 use Rattle.endian.specs.Number.{Bytes}
-use Rattle.limits.specs.Paper.{isProfile}
 use Rattle.limits.specs.Accepted.{KnownEdition}
 use Rattle.packet.specs.declared.Refusal.{Refusal}
 use Rattle.packet.specs.declared.Scanned.the-variants as scanned

@@ -1,6 +1,5 @@
 -- The room of a capture's answer does not depend on the edition: what is checked does not, and the check's count of frames tells the room.
 use Rattle.laws.specs.Kit.{_≡_, refl, sym, ap, _∙_, List, ℕ}
-use Rattle.limits.specs.declared.Parameters.{Parameters}
 use Rattle.limits.specs.Paper.{profileOf}
 use Rattle.limits.specs.Accepted.{KnownEdition}
 use Rattle.limits.proofs.Editions.{in-known, in-one}

@@ -1,6 +1,6 @@
 -- Kind, row and answer of a frame, case by case, each from the facts that its branch of the code has found.
 use Rattle.laws.specs.Kit.{_≡_, refl, length, ℕ, _≤_, _<_, arith, eqb, ltb, lt-ltb, le-ltb, eq-eqb, ne-eqb}
-use Rattle.laws.specs.Kit.{true, false, not, not-false}
+use Rattle.laws.specs.Kit.{false, not, not-false}
 use Rattle.laws.proofs.Choose.{pick-either}
 use Rattle.frame.specs.declared.Plan.{Plan}
 use Rattle.frame.specs.declared.Frame.{Frame}

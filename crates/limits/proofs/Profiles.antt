@@ -1,5 +1,5 @@
 -- The profiles and the numbers that stand for them are the same both ways, and 22 is for every other number: by the numbers, one by one.
-use Rattle.laws.specs.Kit.{_≡_, refl, sym, ap, _∙_, _↔_, _⊎_, inl, inr, Bool, true, false, ℕ, _≤_, arith, eqb, eq-eqb, ne-eqb, eqb-true, eqb-false}
+use Rattle.laws.specs.Kit.{_≡_, refl, sym, ap, _∙_, _↔_, _⊎_, inl, inr, Bool, true, false, ℕ, _≤_, arith, eqb, ne-eqb, eqb-true}
 use Rattle.laws.proofs.Choose.{pick-either, false-true}
 use Rattle.limits.specs.declared.Profile.{Profile}
 use Rattle.limits.specs.declared.Profile.the-variants.{Video, Compressed, Interlaced}

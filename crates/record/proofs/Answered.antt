@@ -13,7 +13,7 @@ use Rattle.record.specs.declared.Head.{Head}
 use Rattle.record.specs.declared.Head.the-variants as head
 use Rattle.record.specs.declared.Next.{Next}
 use Rattle.record.specs.declared.Next.the-variants.{Packet, End, More, Refused}
-use Rattle.record.specs.Paper.{packetBytes, headBytes, packetAt, Heading, heading, resolved, formatRefusal, packetRefusal, numbersRefusal}
+use Rattle.record.specs.Paper.{packetBytes, headBytes, packetAt, Heading, heading, formatRefusal, packetRefusal, numbersRefusal}
 use Rattle.record.specs.Paper.{Ending, done, stopped, Packets, packetsIn, Reading, unread, read, readingOf, file, endedFile, asFile}
 use Rattle.record.specs.Step.{cursor, after, packetOf, headRead, nextRead}
 use Rattle.record.specs.Pieces.{goesOn, nextAt, taken, Heard, heard, callsOf, allCalls, answers, allAnswers}

@@ -1,7 +1,6 @@
 -- What 22 and 23 say of each kind of record, by the tests of a record that is all there.
-use Rattle.laws.specs.Kit.{_≡_, refl, sym, _∙_, Bool, true, false, List, ℕ, eq-eqb, ne-eqb}
+use Rattle.laws.specs.Kit.{_≡_, sym, _∙_, Bool, true, false, List, ℕ, eq-eqb, ne-eqb}
 use Rattle.limits.specs.declared.Profile.the-variants.{Video, Compressed, Interlaced}
-use Rattle.limits.specs.Paper.{isProfile}
 use Rattle.limits.proofs.Profiles.{is-chosen, no-other}
 use Rattle.record.specs.Paper.{parametersLength, packetLength, bodyLength, kindOf, isParameters, kindLength, formatRefusal}
 use Rattle.record.specs.Step.{Whole}

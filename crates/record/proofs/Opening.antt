@@ -13,7 +13,7 @@ use Rattle.record.specs.declared.FileNumbers.{FileNumbers}
 use Rattle.record.specs.declared.Head.{Head}
 use Rattle.record.specs.declared.Head.the-variants.{Ready, More, Refused}
 use Rattle.record.specs.declared.Checked.the-variants as answer
-use Rattle.record.specs.Paper.{headBytes, Heading, heading, resolved, Ending, done, stopped, Packets, packetsIn, endedFile, numbersRefusal}
+use Rattle.record.specs.Paper.{headBytes, Heading, heading, Ending, done, stopped, Packets, packetsIn, endedFile, numbersRefusal}
 use Rattle.record.specs.Step.{headRead}
 use Rattle.record.specs.Walk.{numbersOf, asChecked, checkedOf, finishBy, finish, refusedBy}
 use Rattle.record.proofs.Head.{the-type}

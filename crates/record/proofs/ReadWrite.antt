@@ -15,7 +15,7 @@ use Rattle.record.specs.declared.Written.{Written}
 use Rattle.record.specs.declared.Written.the-variants.{Done}
 use Rattle.record.specs.Write.{fileLength, headingRefusal, WriteGives}
 use Rattle.record.specs.Paper.{parametersBytes, packetBytes, headBytes, numbersRefusal}
-use Rattle.record.specs.Paper.{versionOf, versionFits, kindOf, parametersAt, packetAt, Heading, resolved, formatRefusal, parametersRefusal}
+use Rattle.record.specs.Paper.{versionOf, versionFits, kindOf, parametersAt, packetAt, Heading, formatRefusal, parametersRefusal}
 use Rattle.record.specs.Paper.{packetRefusal}
 use Rattle.record.specs.Paper.{Ending, done, stopped, Packets, packetsIn, file, refused, endedFile, asFile, fileOf}
 use Rattle.record.specs.Layout.{headOf, recordsOf, bytesIn}

@@ -14,7 +14,7 @@ use Rattle.record.specs.declared.Next.the-variants.{Packet, End, More, R
 use Rattle.record.specs.Paper.{packetBytes, headBytes, numbersRefusal}
 use Rattle.record.specs.Paper.{versionKnown, versionOf, versionFits, bodyLength, kindOf, isParameters, kindLength, parametersAt}
 use Rattle.record.specs.Paper.{formatRefusal}
-use Rattle.record.specs.Paper.{Heading, heading, resolved, parametersRefusal, packetsIn, unread, read, readingOf}
+use Rattle.record.specs.Paper.{Heading, heading, parametersRefusal, packetsIn, unread, read, readingOf}
 use Rattle.record.specs.Step.{cursor, after, packetOf, stepOver, framedOf, Whole, firstOf, headBy, headPiece, headRead}
 use Rattle.record.specs.Step.{wholeOf, nextBy, nextPiece, nextRead}
 use Rattle.record.proofs.Format.{Front, scrap, zero-length, short, whole, front, framed-nothing, framed-byte, framed-zero}

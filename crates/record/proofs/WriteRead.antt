@@ -12,7 +12,7 @@ use Rattle.packet.specs.Step.{nothing, numberOf, nextOf, closes, scanOf}
 use Rattle.packet.proofs.Refusals.{accepted}
 use Rattle.packet.proofs.Turn.{scan-goes, ready-accepted, fine-ready, scanned-fine}
 use Rattle.record.specs.Paper.{packetLength, packetBytes, headBytes, numbersRefusal}
-use Rattle.record.specs.Paper.{packetAt, Heading, resolved, formatRefusal, packetRefusal}
+use Rattle.record.specs.Paper.{packetAt, Heading, formatRefusal, packetRefusal}
 use Rattle.record.specs.Paper.{done, Packets, more, packetsIn, read, readingOf, file, asFile, fileOf}
 use Rattle.endian.specs.Fields.{Fit}
 use Rattle.record.specs.Layout.{packetWidths, packetFields, packetRecord, recordsOf, bytesIn}

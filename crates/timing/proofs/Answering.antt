@@ -1,6 +1,6 @@
 -- The numbers that the answers stand for: by the tests that each answer goes by.
 use Rattle.laws.specs.Kit.{_≡_, refl, sym, _∙_, Bool, true, false, _&&_, List, ℕ, _*_, _≤_, _<_, arith, eqb, leb, ℤ, length, eqb-true}
-use Rattle.laws.specs.Kit.{eq-eqb, ne-eqb, le-leb, lt-leb}
+use Rattle.laws.specs.Kit.{ne-eqb, le-leb, lt-leb}
 use lib.Ieee.{binary64, inFloat}
 use Rattle.laws.specs.Choose.{pick, orElse}
 use Rattle.laws.proofs.Choose.{pick-either}

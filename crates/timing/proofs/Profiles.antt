@@ -1,7 +1,7 @@
 -- A compressed stream is measured as video is, beside the buffer: its state is the video's without what is kept of reads and the buffer answer,
 -- and its rows are the video's with peak and least 0; and whatever the profile, the bucket is the video's. Packet by packet: a step leads from
 -- one pair of states to the next.
-use Rattle.laws.specs.Kit.{_≡_, refl, ap, _∙_, Bool, true, false, _&&_, List, [], _∷_, _++_, map, map-append, ℕ, eqb}
+use Rattle.laws.specs.Kit.{_≡_, refl, ap, _∙_, Bool, true, false, _&&_, List, [], _∷_, map, map-append, ℕ, eqb}
 use Rattle.laws.specs.Choose.{pick}
 use Rattle.laws.specs.Fold.{fold}
 use Rattle.limits.specs.declared.Parameters.{Parameters}
@@ -11,7 +11,6 @@ use Rattle.packet.specs.declared.Packet.{Packet}
 use Rattle.packet.specs.Paper.{marked}
 use Rattle.packet.specs.Step.{nextOf}
 use Rattle.frame.specs.declared.Frame.{Frame}
-use Rattle.frame.specs.declared.Frames.{Frames}
 use Rattle.frame.specs.declared.Row.{Row}
 use Rattle.frame.specs.declared.Buffer.{Buffer}
 use Rattle.frame.specs.declared.Buffer.the-variants.{None}
