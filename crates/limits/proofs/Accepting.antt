@@ -156,10 +156,26 @@ no-frame (suc i) other = go (leb (suc i) 8) refl
 
 -- ---- fields
 
+-- what is taken of one profile is taken of another, by what that one asks of n and TRO
+as-profile : (q r : Profile) (p : Parameters) → Accepted q p → p .n % periods r ≡ 0 → TroFact r (frameLength (p .rate)) (p .tro) → Accepted r p
+as-profile q r p a whole tro = record {
+  rate-known = a .rate-known;
+  schedule-known = a .schedule-known;
+  class-fits = a .class-fits;
+  height-fits = a .height-fits;
+  n-fits = a .n-fits;
+  n-whole = whole;
+  maxudp-known = a .maxudp-known;
+  tro-fits = tro;
+}
+
 -- S13: set-up takes numbers as interlaced exactly where it takes them as video, n is even, TRO is given, and it lies below half a frame
 pub interlaced-takes : (p : Parameters) → (setUpRefusal Interlaced p ≡ 0)
     ↔ ((setUpRefusal Video p ≡ 0) × (p .n % 2 ≡ 0) × ¬ (p .tro ≡ allOnes) × (2 * (microsecond * p .tro) < frameLength (p .rate)))
-interlaced-takes p = (λ e. go (accepted Interlaced p e), λ x. accepts Interlaced p (back (accepted Video p (x .0)) (x .1) (x .3)))
+interlaced-takes p = (
+  λ e. go (accepted Interlaced p e),
+  λ x. accepts Interlaced p (as-profile Video Interlaced p (accepted Video p (x .0)) (x .1) (inr (x .3))),
+)
   where
     given-below : TroFact Interlaced (frameLength (p .rate)) (p .tro) → 2 * (microsecond * p .tro) < frameLength (p .rate)
     given-below (inl f) = absurd (false-true (f .0))
@@ -169,29 +185,8 @@ interlaced-takes p = (λ e. go (accepted Interlaced p e), λ x. accepts Interlac
         → (setUpRefusal Video p ≡ 0) × (p .n % 2 ≡ 0) × ¬ (p .tro ≡ allOnes) × (2 * (microsecond * p .tro) < frameLength (p .rate))
     go a =
         let below = given-below (a .tro-fits) in (
-          accepts Video p (record {
-            rate-known = a .rate-known;
-            schedule-known = a .schedule-known;
-            class-fits = a .class-fits;
-            height-fits = a .height-fits;
-            n-fits = a .n-fits;
-            n-whole = mod-one (p .n);
-            maxudp-known = a .maxudp-known;
-            tro-fits = inr (omega (arith, below));
-          }),
+          accepts Video p (as-profile Interlaced Video p a (mod-one (p .n)) (inr (omega (arith, below)))),
           a .n-whole,
           λ e. omega (arith, e, below, frame-most (p .rate)),
           below,
         )
-
-    back : Accepted Video p → p .n % 2 ≡ 0 → 2 * (microsecond * p .tro) < frameLength (p .rate) → Accepted Interlaced p
-    back a even below = record {
-      rate-known = a .rate-known;
-      schedule-known = a .schedule-known;
-      class-fits = a .class-fits;
-      height-fits = a .height-fits;
-      n-fits = a .n-fits;
-      n-whole = even;
-      maxudp-known = a .maxudp-known;
-      tro-fits = inr below;
-    }

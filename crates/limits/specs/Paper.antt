@@ -109,7 +109,7 @@ hasBuffer Video = true
 hasBuffer Compressed = false
 hasBuffer Interlaced = true
 
--- S13: "each marker closes a field [..]: field periods start at multiples of F/2, the field has n/2 packets" (document 02, ix): how many
+-- S13: "each marker closes a field. [..] field periods start at multiples of F/2, the field has n/2 packets" (document 02, ix): how many
 -- periods a frame has, each with a marker of its own
 abbrev pub periods : Profile → ℕ
 periods Video = 1

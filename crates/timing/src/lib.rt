@@ -175,7 +175,7 @@ impl StreamNumbers {
         limits::frame_length(self.parameters.rate)
     }
 
-    // The plan is of one period, a frame or a field; all else is of the whole frame.
+    // Period and packets are those of a frame or of a field; all else is of the whole frame.
     pub fn rules(self) -> Rules
         ensures { λ r. ⌜ r ≡ rulesOf self ⌝ }
     {
