@@ -2,6 +2,8 @@
 // fills it above a limit.
 // It knows `grain`, for when the drains are. It must never know a rate code, a class or a frame: a step
 // is told how many drain instants came since the packet before, and the limit is a number.
+#![tactic(auto)]
+
 ghost use Rattle.std.specs.Prelude.{◌≡◌, ◌-◌, ◌≤◌, ◌<◌};
 ghost use Rattle.laws.specs.Kit.{leb};
 ghost use Rattle.laws.specs.Choose.{pick};
@@ -11,20 +13,20 @@ ghost use Rattle.bucket.specs.Range.{ranges};
 ghost use Rattle.bucket.specs.Step.{empty_of, step_of, arrived_of, judged};
 
 // The packets first .. last of the history, numbered from 0.
-#[derive(Drop)]
+#[derive(Clone, Copy)]
 pub struct Run {
     pub first: u64,
     pub last: u64,
 }
 
-#[derive(Drop)]
+#[derive(Clone, Copy)]
 pub enum Network {
     Pass,
     Burst(Run),
 }
 
 // After some packets: the level, where the run that the level names began, the greatest level, the answer.
-#[derive(Drop)]
+#[derive(Clone, Copy)]
 pub struct Bucket {
     pub level: u64,
     pub start: u64,

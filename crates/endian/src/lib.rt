@@ -1,13 +1,15 @@
 // Numbers of two, four and eight bytes, the highest byte first, read from and written to lent bytes; of two and four, read in
 // either order.
 // It knows bytes and numbers. It must never know what a number means: a file's layout lies above.
+#![tactic(auto)]
+
 ghost use Rattle.std.specs.Prelude.{◌≡◌, ◌<◌};
 ghost use Rattle.laws.specs.Kit.{sets, reverse};
 ghost use Rattle.endian.specs.Number.{number_at, number_of, bytes_of, Room};
 ghost use Rattle.endian.specs.Order.{number_by};
 
 // Which byte of a number stands first: the highest, or the lowest.
-#[derive(Drop)]
+#[derive(Clone, Copy)]
 pub enum Order {
     Big,
     Little,

@@ -1,6 +1,8 @@
 // What a program in C calls for a capture: a whole capture measured into lent bytes. include/vtiming.h documents each function; their names
 // are fixed. It has an archive of its own: beside another loop over packets in one archive the heavy step would be a call in both.
 // It knows the capture's check and the measurement, and puts them together. It must never know a byte of a header.
+#![tactic(auto)]
+
 ghost use Rattle.std.specs.Prelude.{◌≡◌};
 ghost use Rattle.laws.specs.Kit.{length, drop};
 ghost use Rattle.timing.specs.Feed.{RunAsks, RunGives};
@@ -25,7 +27,7 @@ const ELEVEN: usize = SUMMARY + 2;
 const ELEVEN_BYTES: usize = NUMBER * ELEVEN;
 
 // What is lent for a capture: fine with its records and those of them that are skipped, or the number and the place of the refusal.
-#[derive(Drop)]
+#[derive(Clone, Copy)]
 enum Weighed {
     Fine { records: u64, skipped: u64 },
     Refused { number: u8, place: u64 },

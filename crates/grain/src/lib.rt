@@ -2,6 +2,8 @@
 // 27·t does not fit; an instant is a fraction and is never rounded.
 // It knows `laws`. It must never know a rate code, a class or a frame's packets: the frame length, the
 // spacing and its denominator are parameters, so that each law is proved once for all of them.
+#![tactic(auto)]
+
 ghost use Rattle.std.specs.Prelude.{◌≡◌, ◌+◌, ◌*◌, ◌-◌, ◌/◌, ◌%◌, ◌≤◌, ◌<◌};
 ghost use Rattle.laws.specs.Kit.{sub_ℕ};
 ghost use Rattle.std.specs.Int.{w64};
@@ -19,7 +21,7 @@ pub const GRAINS_PER_TICK: u64 = 300000;
 const WRAP: u64 = 4294967296 * GRAINS_PER_TICK;
 
 // Instants or reads that lie num/den grains apart: a fraction, never divided out.
-#[derive(Drop)]
+#[derive(Clone, Copy)]
 pub struct Spacing {
     pub num: u64,
     pub den: u64,
@@ -100,7 +102,7 @@ pub fn bits(x: i64) -> u64
 }
 
 // x in whole num's, and what is left.
-#[derive(Drop)]
+#[derive(Clone, Copy)]
 pub struct Division {
     pub whole: u64,
     pub rest: u64,
@@ -141,7 +143,7 @@ pub fn divided(x: u64, num: u64) -> Division
 }
 
 // How long it is to the next of a frame's reads, times den; or no read is left.
-#[derive(Drop)]
+#[derive(Clone, Copy)]
 pub enum NextRead {
     In(u64),
     NoneLeft,
@@ -149,7 +151,7 @@ pub enum NextRead {
 
 // What is known of a frame's reads at a time: how many are over, and how long it is until the next. The wait is what a step goes on with:
 // it is that of `next`, had the reads no end. So a step has no test for the last read, and who asks for no `next` pays for none.
-#[derive(Drop)]
+#[derive(Clone, Copy)]
 pub struct Reads {
     pub count: u64,
     pub next: NextRead,
@@ -157,7 +159,7 @@ pub struct Reads {
 }
 
 // What a step keeps of them.
-#[derive(Drop)]
+#[derive(Clone, Copy)]
 struct Kept {
     count: u64,
     wait: u64,

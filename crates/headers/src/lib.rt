@@ -1,6 +1,8 @@
 // Which frames of a capture are handed on: the headers of Ethernet, IPv4, UDP and RTP, and what is read of a packet.
 // It knows how these headers lie one behind the other. It must never know a capture file, a time or what is measured.
 // Captured bytes alone decide: no length that a header tells is trusted, but compared with how many bytes were captured.
+#![tactic(auto)]
+
 ghost use Rattle.std.specs.Prelude.{◌≡◌, ◌≤◌, ◌<◌};
 ghost use Rattle.laws.specs.Kit.{length};
 ghost use Rattle.endian.specs.Number.{Room};
@@ -10,7 +12,7 @@ ghost use Rattle.headers.specs.Step.{Shown, Placed, ip_at, ether_fits, ip_fits, 
 use endian::{read16, read32};
 
 // What becomes of a frame: its timestamp and marker are handed on, or it is skipped.
-#[derive(Drop)]
+#[derive(Clone, Copy)]
 pub enum Handed {
     On { stamp: u32, marker: u8 },
     Skipped,

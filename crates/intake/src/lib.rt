@@ -1,5 +1,7 @@
 // A capture fed to a measurement: the check of the whole capture, then its packets, one by one, in the state and the lent rows.
 // It knows the capture's reader and the measurement, and puts them together. It must never know a byte of a header.
+#![tactic(auto)]
+
 ghost use Rattle.laws.specs.Kit.{length, drop};
 ghost use Rattle.timing.specs.Step.{numbers};
 ghost use Rattle.timing.specs.Feed.{RunAsks, RunGives};
@@ -12,7 +14,7 @@ use timing::{Rules, State};
 
 // The state after the capture's packets, how many packets it handed on and how many records it skipped; or the number and the place, with
 // the state as it was.
-#[derive(Drop)]
+#[derive(Clone, Copy)]
 pub enum Taken {
     Accepted {
         state: State,

@@ -1,6 +1,8 @@
 // The mathematics that has no video in it, all but four functions of numbers in specs/ and proofs/: the greatest, the count and the lowest
 // below a number; folding a list from the left and cutting it; differences of naturals as integers; tests and what they mean.
 // It knows nothing and must never know a rate, a packet or a frame.
+#![tactic(auto)]
+
 ghost use Rattle.std.specs.Prelude.{◌≡◌, ◌-◌};
 ghost use Rattle.laws.specs.Kit.{max, min};
 ghost use Rattle.laws.specs.Choose.{or_else};

@@ -4,6 +4,7 @@
 // It knows plain numbers, as the record file holds them, a frame length in grains, whatever its rate, and
 // from `grain` how many grains a nanosecond has. It must never know a packet, an arrival or a state: what a
 // limit is held against lies above.
+#![tactic(auto)]
 
 ghost use Rattle.std.specs.Prelude.{◌≡◌, ◌/◌, ◌<◌};
 ghost use Rattle.laws.specs.Kit.{max};
@@ -27,7 +28,7 @@ const DEFAULT_TRO: u32 = 4294967295;
 pub const FIRST_EDITION: u32 = 1;
 
 // The parameters that a stream is set up with, of the sizes that a record file has: class 0 and a TRO of all ones stay what they are.
-#[derive(Drop)]
+#[derive(Clone, Copy)]
 pub struct Parameters {
     pub rate: u8,
     pub schedule: u8,
@@ -60,7 +61,7 @@ impl Parameters {
 
 // What a stream is: video, as in the base; compressed, to which the receiver buffer model does not apply; or interlaced, whose
 // markers close fields, two a frame.
-#[derive(Drop)]
+#[derive(Clone, Copy)]
 pub enum Profile {
     Video,
     Compressed,
@@ -68,7 +69,7 @@ pub enum Profile {
 }
 
 // An unknown class is refused at set-up; the limits give it 0, so that they answer for any number.
-#[derive(Drop)]
+#[derive(Clone, Copy)]
 pub enum Class {
     Narrow,
     NarrowLinear,

@@ -1,6 +1,8 @@
 // What came before a packet, the refusals 11 to 14 of a packet against it, and the scan of three lent slices:
 // the first refused packet's number and place, or how many frames close. The scan writes nothing.
 // It knows arrivals, markers and how many packets there were. It must never know a rate, a frame length or a bucket.
+#![tactic(auto)]
+
 ghost use Rattle.std.specs.Prelude.{◌≡◌, ◌+◌, ◌-◌, ◌^◌, ◌≤◌, ◌<◌};
 ghost use Rattle.laws.specs.Kit.{length};
 ghost use Rattle.laws.specs.Every.{every};
@@ -10,7 +12,7 @@ ghost use Rattle.packet.specs.Range.{ranges};
 ghost use Rattle.packet.specs.Step.{nothing, first_of, elapsed_of, since_of, number_of, next_of, no_packets, tallied, Countable, scan_of, scanned_of};
 
 // A packet: its arrival in nanoseconds since the SMPTE epoch, its RTP timestamp, and its marker, which is 0 or 1 where it is accepted.
-#[derive(Drop)]
+#[derive(Clone, Copy)]
 pub struct Packet {
     pub time: u64,
     pub stamp: u32,
@@ -18,7 +20,7 @@ pub struct Packet {
 }
 
 // How many packets came before, and the first and the last arrival of them; all 0 where none did.
-#[derive(Drop)]
+#[derive(Clone, Copy)]
 pub struct Past {
     pub packets: u64,
     pub first: u64,
@@ -26,7 +28,7 @@ pub struct Past {
 }
 
 // The packets so far: what came before the next, whether a marker did, and how many frames closed.
-#[derive(Drop)]
+#[derive(Clone, Copy)]
 pub struct Tally {
     pub past: Past,
     pub begun: bool,
@@ -34,28 +36,28 @@ pub struct Tally {
 }
 
 // Packets that 11 and 12 accept, one after the other: the last arrival, and how many markers came.
-#[derive(Drop)]
+#[derive(Clone, Copy)]
 pub struct Run {
     pub last: u64,
     pub marks: usize,
 }
 
 // Through all packets, or broken off at one that 11 or 12 refuses.
-#[derive(Drop)]
+#[derive(Clone, Copy)]
 pub enum Ran {
     Through(Run),
     Broken,
 }
 
 // Document 01's number, and the refused packet's place in the history, from 0; place 0 for number 10.
-#[derive(Drop)]
+#[derive(Clone, Copy)]
 pub struct Refusal {
     pub number: u8,
     pub place: u64,
 }
 
 // Fine with the number of frames that close, or the first refusal.
-#[derive(Drop)]
+#[derive(Clone, Copy)]
 pub enum Scanned {
     Fine(usize),
     Refused(Refusal),

@@ -1,6 +1,8 @@
 // A record file that comes in pieces, as the program's lines: the start of the file set up, then the records of each piece
 // measured, and each line put into lent bytes as it is known.
 // It knows the reader, the measurement and the lines. It must never know where the bytes come from, nor where they go.
+#![tactic(auto)]
+
 ghost use Rattle.std.specs.Prelude.{◌≡◌, ◌+◌, ◌≤◌};
 ghost use Rattle.laws.specs.Kit.{not, length};
 ghost use Rattle.text.specs.Lines.{line_room, Line};
@@ -17,14 +19,14 @@ use text::LINE;
 use timing::{Judged, Rules, SetUp, State, StreamNumbers};
 
 // Where the reader stands, and what was measured up to there.
-#[derive(Drop)]
+#[derive(Clone, Copy)]
 pub struct Walk {
     pub at: Cursor,
     pub state: State,
 }
 
 // The start of a file: more bytes are wanted; its refusal; or the walk after its head.
-#[derive(Drop)]
+#[derive(Clone, Copy)]
 pub enum Opened {
     More,
     Refused { number: u8, offset: u64 },
@@ -33,7 +35,7 @@ pub enum Opened {
 
 // The walk after a piece: so many of its bytes were used, and so many bytes of whole lines were written. `ended`: the last line
 // is among them.
-#[derive(Drop)]
+#[derive(Clone, Copy)]
 pub struct TakeAnswer {
     pub walk: Walk,
     pub used: usize,

@@ -1,6 +1,8 @@
 // The measurement for a C program, call after call over its own arrays: a stream is set up, packets are fed. Between the calls
 // the program holds the state, as words of 64 bits in the order of docs/STATE.md.
 // It knows set-up and feeding, and which number of a state stands in which word. It must never measure anything itself.
+#![tactic(auto)]
+
 ghost use Rattle.std.specs.Prelude.{◌≡◌, ◌≤◌};
 ghost use Rattle.laws.specs.Kit.{true, length, take, sets};
 ghost use Rattle.laws.specs.Every.{flag as flag_of};
@@ -21,14 +23,14 @@ use timing::{Fed, Judged, SUMMARY, State, Stated, StreamNumbers};
 const WORDS: usize = 35;
 
 // What lent words hold: a state, or nothing that is one.
-#[derive(Drop)]
+#[derive(Clone, Copy)]
 enum Held {
     Known(State),
     Nothing,
 }
 
 // Document 01's number, 0 where the call is accepted, and the place.
-#[derive(Drop)]
+#[derive(Clone, Copy)]
 struct Answer {
     number: u8,
     place: u64,

@@ -1,5 +1,7 @@
 // A record file as the program's lines, step by step: what stands in the window, and the lines that it tells.
 // It knows `printer`, and what a step of a program answers. It must never know where the bytes come from, nor where they go.
+#![tactic(auto)]
+
 ghost use Rattle.std.specs.Prelude.{◌≤◌};
 ghost use Rattle.laws.specs.Kit.{length};
 ghost use Rattle.text.specs.Lines.{line_room};
@@ -12,14 +14,14 @@ use record::HEAD_BYTES;
 use window::{Span, Told};
 
 // The version byte and the parameters are still wanted, or the walk behind them.
-#[derive(Drop)]
+#[derive(Clone, Copy)]
 pub enum Stage {
     Head,
     Walking(Walk),
 }
 
 // The stage after a step, and what the program does with it.
-#[derive(Drop)]
+#[derive(Clone, Copy)]
 pub struct Stepped {
     pub stage: Stage,
     pub told: Told,

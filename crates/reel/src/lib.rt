@@ -1,6 +1,8 @@
 // A capture that comes in pieces, as the program's lines: set-up, the offset and the header, then the records of each piece measured, and
 // each line put into lent bytes as it is known.
 // It knows the capture's reader, the measurement and the lines. It must never know where the bytes come from, nor where they go.
+#![tactic(auto)]
+
 ghost use Rattle.std.specs.Prelude.{◌≡◌, ◌+◌, ◌≤◌};
 ghost use Rattle.laws.specs.Kit.{length};
 ghost use Rattle.text.specs.Lines.{line_room, Line, refusal_line};
@@ -13,7 +15,7 @@ use text::LINE;
 use timing::{Judged, Rules, SetUp, State, Stated};
 
 // What the program is asked: the stream as it is stated, its port, and the offset of the capture's clock.
-#[derive(Drop)]
+#[derive(Clone, Copy)]
 pub struct Asked {
     pub stated: Stated,
     pub port: u16,
@@ -21,7 +23,7 @@ pub struct Asked {
 }
 
 // Where the reader stands, what was measured up to there, and how many records were read and skipped.
-#[derive(Drop)]
+#[derive(Clone, Copy)]
 pub struct Reel {
     pub setting: Setting,
     pub cursor: Cursor,
@@ -31,7 +33,7 @@ pub struct Reel {
 }
 
 // The start of a capture: more bytes are wanted; its refusal; or the reel behind its header.
-#[derive(Drop)]
+#[derive(Clone, Copy)]
 pub enum Threaded {
     More,
     Refused { number: u8 },
@@ -40,7 +42,7 @@ pub enum Threaded {
 
 // The reel after a piece: so many of its bytes were used, and so many bytes of whole lines were written. `ended`: the last line is among
 // them.
-#[derive(Drop)]
+#[derive(Clone, Copy)]
 pub struct TakeAnswer {
     pub reel: Reel,
     pub used: usize,

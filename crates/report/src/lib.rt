@@ -1,6 +1,8 @@
 // What a program in C calls: a whole record file measured into lent bytes, a record file written, the limits of a stream,
 // and for a graph the next read of a packet and the figures of a row. include/vtiming.h documents each function; their names are fixed.
 // It knows the record file and the measurement, and puts them together. It must never print, and keeps nothing between calls.
+#![tactic(auto)]
+
 ghost use Rattle.std.specs.Prelude.{◌≡◌, ◌+◌, ◌≤◌};
 ghost use Rattle.laws.specs.Kit.{true, leb, length, sets};
 ghost use Rattle.laws.specs.Lay.{Put};
@@ -30,7 +32,7 @@ const ROW_BYTES: usize = NUMBER * frame::ROW;
 pub const SUMMARY_BYTES: usize = NUMBER * SUMMARY;
 
 // What is lent for a file: fine with its stream numbers, or the number and the offset of the refusal.
-#[derive(Drop)]
+#[derive(Clone, Copy)]
 enum Asked {
     Fine(StreamNumbers),
     Refused { number: u8, offset: u64 },

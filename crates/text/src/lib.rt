@@ -1,6 +1,8 @@
 // How the program's lines are written, into lent bytes: a number in decimal, a row's line, and the last line of a file that was
 // measured or refused.
 // It knows `frame` and `bucket`, for what a row and the answers are. It must never know how they came about, nor where the bytes go.
+#![tactic(auto)]
+
 ghost use Rattle.std.specs.Prelude.{◌++◌, ◌+◌, ◌*◌, ◌≤◌, ◌<◌, ◌≡◌};
 ghost use Rattle.laws.specs.Kit.{length};
 ghost use Rattle.frame.specs.Step.{row_width};

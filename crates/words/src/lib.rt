@@ -1,6 +1,8 @@
 // The words that the program for captures is called with: the number that a word is, and what eleven numbers ask.
 // It knows decimal digits, and from `reel` what is asked. It must never know where the words come from, nor what a number may be: of
 // each place it knows one number that is refused, and the refusal itself is the profile's, set-up's and the offset's.
+#![tactic(auto)]
+
 ghost use Rattle.std.specs.Prelude.{◌≡◌, ◌-◌, ◌≤◌};
 ghost use Rattle.laws.specs.Kit.{length};
 ghost use Rattle.words.specs.Paper.{is_digit, placed, number_in, most_digits, word_of, asked_of, given_of};
@@ -10,14 +12,14 @@ use reel::Asked;
 use timing::Stated;
 
 // The number that a word is; or it is none.
-#[derive(Drop)]
+#[derive(Clone, Copy)]
 pub enum Word {
     NoNumber,
     Number { value: u64 },
 }
 
 // The eleven numbers in the order of the words.
-#[derive(Drop)]
+#[derive(Clone, Copy)]
 pub struct Numbers {
     pub port: u64,
     pub offset: u64,
@@ -33,7 +35,7 @@ pub struct Numbers {
 }
 
 // What they ask; or they are no call.
-#[derive(Drop)]
+#[derive(Clone, Copy)]
 pub enum Given {
     NoCall,
     Asked(Asked),
