@@ -1,10 +1,9 @@
 /* vtiming: packet timing of one ST 2110-20 video stream, progressive or interlaced, or of a compressed one, ST 2110-22, for a host
  * written in C or C++.
  *
- * Link with libvtiming.a of the package (`pkg-config --cflags --libs vtiming`), or with the archives as `rt staticlib report`
- * and `rt staticlib film` make them, target/staticlib/libreport.a and libfilm.a, which has the functions of captures (x86-64
- * Linux). They need no other library and call no function of the host. The manual, MANUAL.md, says what the measured numbers
- * mean for a station.
+ * Link with libvtiming.a of the package (`pkg-config --cflags --libs vtiming`), or with the archives as `rt lib --cpu x86-64`
+ * makes them in crates/report_c and crates/film_c, out/libreport_c.a and out/libfilm_c.a, which has the functions of captures (x86-64
+ * Linux). They need no other library and call no function of the host. The manual, MANUAL.md, says what the measured numbers mean for a station.
  *
  * What is lent. Every pointer is lent for the length of the call and no longer: nothing is kept, nothing is allocated,
  * nothing is freed. Each pointer comes with its length, counted in elements of its type; where the length is 0 the pointer

@@ -62,10 +62,12 @@ input() {
     fi
 }
 
-# newest: no source is newer than the last build. Where that cannot be known it is built again.
+# newest: no source is newer than the last build (what `rt` writes, in crates/NAME/out/, is none). Where that cannot be known it is built
+# again.
 newest() {
     local newer
-    newer=$(find "$here/crates.txt" "$here/crates" -newer "$1" -print -quit) && [ -z "$newer" ]
+    newer=$(find "$here/crates.txt" "$here"/crates/*/src "$here"/crates/*/specs "$here"/crates/*/proofs -newer "$1" -print -quit) &&
+        [ -z "$newer" ]
 }
 
 # build: the program, proved, where it is missing or older than its sources.
@@ -79,7 +81,8 @@ build() {
         fail "the program must be built first, and $target cannot be written: run this once as somebody who may write there," \
             "or make room on the disk, or copy the repository to a folder of your own"
     echo "$name: proving and building the program; this is done once and can take some minutes" >&2
-    (cd "$here" && rt check "$name") </dev/null >"$log" 2>&1 || {
+    # `rt` proves it, links it and runs it once, with nothing to read.
+    (cd "$here/crates/$name" && rt run --cpu x86-64) </dev/null >"$log" 2>&1 || {
         rm -f "$began"
         tail -n 5 "$log" >&2
         fail "the program could not be built; $log says why"
@@ -131,7 +134,7 @@ work() {
     options "$@"
     input "${operands[@]}"
 
-    local run_words=() program=$here/target/bin/$name
+    local run_words=() program=$here/crates/$name/out/$name
     if [ -n "$installed" ]; then
         # VTIMING_RUNNER: a command that runs it where the processor is not x86-64, as an emulator.
         set -f

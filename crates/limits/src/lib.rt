@@ -354,7 +354,7 @@ pub fn vrx_full(class: Class, maxudp: u16, frame: u64, n: u32) -> u64
     }
 }
 
-// MAX(INT(bytes/MAXUDP), INT(n/(typeof.k.T)))
+// MAX(INT(bytes/MAXUDP), INT(n/(k·T)))
 fn full(bytes: u64, maxudp: u16, n: u32, k: u64, frame: u64) -> u64
     requires { Divides k }
     ensures { result ≡ max (int (whole bytes ÷ whole maxudp)) (int (whole n ÷ (whole k · seconds frame))) }
@@ -365,7 +365,7 @@ fn full(bytes: u64, maxudp: u16, n: u32, k: u64, frame: u64) -> u64
     )
 }
 
-// INT(n/(typeof.k.R.T)). A second is divided by k first, with nothing left over, and then by one divisor
+// INT(n/(k·R·T)). A second is divided by k first, with nothing left over, and then by one divisor
 // at a time: the whole number is the same, and no product leaves 64 bits, whatever the frame.
 fn int_over(n: u32, k: u64, schedule: u8, frame: u64) -> u64
     requires { Divides k }

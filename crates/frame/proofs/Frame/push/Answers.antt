@@ -1,0 +1,36 @@
+-- The frame opened, what goes by taken off the wait, one packet more: the products fit by Opening. Where the buffer is not judged the packet
+-- is counted, and nothing else.
+use Rattle.std.specs.Prelude.{◌*◌}
+use Rattle.laws.specs.Kit.{ℕ, arith, ap, ◌∙◌}
+use Rattle.grain.specs.Carry.{reads_onward}
+use Rattle.frame.specs.declared.Frame.{Frame}
+use Rattle.frame.specs.Step.{counted_of, ticked_of, reads_of}
+use Rattle.frame.proofs.Opening.{opened_timed, reach_fits, push_judged, push_unjudged}
+use borrow.Author.Rules.{rules}
+use Rattle.frame.proofs.Frame.push.Goals as goal
+
+pub overflow_mul-by : goal.overflow_mul-by
+overflow_mul-by c = record { fits = rw c.gone_by.ensures (omega (arith, (reach_fits _ _ c.opened-f.ensures c.requires.0 c.requires.1).goes)) }
+
+pub reads_on-reads-requires : goal.reads_on-reads-requires
+reads_on-reads-requires c = rw c.gone_by.ensures (reach_fits _ _ c.opened-f.ensures c.requires.0 c.requires.1)
+
+pub counted-counted-requires : goal.counted-counted-requires
+counted-counted-requires c = (opened_timed _ _ c.opened-f.ensures c.requires.0 c.requires.1).few
+
+pub returns-then-plan : goal.returns-then-plan
+returns-then-plan c = let a = c.args in
+    c.counted-counted.ensures
+    ∙ ap (counted_of _ a.stamp) (c.reads_on-reads.ensures
+    ∙ ap (λ (x : ℕ). reads_onward c.opened-f.result.reads c.opened-f.result.wait a.plan.packets a.plan.reads.num
+    (x * a.plan.reads.den)) c.gone_by.ensures)
+    ∙ ap (λ (f : Frame). counted_of f a.stamp (reads_of a.plan f a.gone)) c.opened-f.ensures
+    ∙ push_judged a.plan a.self a.gone a.t a.stamp c.if-plan.true
+
+pub ticked-requires : goal.ticked-requires
+ticked-requires c = (opened_timed _ _ c.opened-f.ensures c.requires.0 c.requires.1).few
+
+pub returns : goal.returns
+returns c = let a = c.args in
+    c.ticked.ensures ∙ ap (λ (f : Frame). ticked_of f a.stamp) c.opened-f.ensures
+    ∙ push_unjudged a.plan a.self a.gone a.t a.stamp c.if-plan.false

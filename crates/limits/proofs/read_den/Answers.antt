@@ -1,0 +1,13 @@
+-- R has a denominator of at most 25.
+use Rattle.laws.specs.Kit.{arith, mul-le-mul_right}
+use Rattle.limits.proofs.Laws.{den_small}
+use borrow.Author.Rules.{rules}
+use Rattle.limits.proofs.read_den.Goals as goal
+
+pub overflow_mul-result : goal.overflow_mul-result
+overflow_mul-result c =
+    let start = c.args in
+    rw c.active_den.ensures (omega (arith, mul-le-mul_right start.n (den_small start.schedule)))
+
+pub returns : goal.returns
+returns c = cc

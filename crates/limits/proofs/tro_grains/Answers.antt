@@ -1,0 +1,18 @@
+-- Given, default for a tall picture, default for a low one: each is a share of the frame as a fraction.
+use Rattle.laws.specs.Kit.{eq-eqb, ne_eqb, le-leb, lt-leb}
+use Rattle.limits.specs.Paper.{tro_grains, default_tro}
+use Rattle.limits.proofs.Laws.{share}
+use borrow.Author.Rules.{rules}
+use Rattle.limits.proofs.tro_grains.Goals as goal
+
+pub returns-then-tro-ne-DEFAULT_TRO : goal.returns-then-tro-ne-DEFAULT_TRO
+unfolding tro_grains
+returns-then-tro-ne-DEFAULT_TRO c = simp (ne_eqb _ _ c.if-tro-ne-DEFAULT_TRO.true)
+
+pub returns-then-height-ge1080 : goal.returns-then-height-ge1080
+unfolding tro_grains default_tro
+returns-then-height-ge1080 c = simp (eq-eqb _ _ c.if-tro-ne-DEFAULT_TRO.false, le-leb _ _ c.if-height-ge1080.true) (share 43 c.args.frame 1125)
+
+pub returns-else-height-ge1080 : goal.returns-else-height-ge1080
+unfolding tro_grains default_tro
+returns-else-height-ge1080 c = simp (eq-eqb _ _ c.if-tro-ne-DEFAULT_TRO.false, lt-leb _ _ c.if-height-ge1080.false) (share 28 c.args.frame 750)

@@ -1,0 +1,6 @@
+-- The fresh tally, field by field.
+use borrow.Author.Rules.{rules}
+use Rattle.packet.proofs.Tally.none.Goals as goal
+
+pub returns : goal.returns
+returns c = cc

@@ -1,0 +1,13 @@
+-- One packet more: each return is one law, from the tests before it.
+use Rattle.packet.proofs.Turn.{tally_passes, tally_closes, tally_begins}
+use borrow.Author.Rules.{rules}
+use Rattle.packet.proofs.Tally.with.Goals as goal
+
+pub returns-then-p-ne1 : goal.returns-then-p-ne1
+returns-then-p-ne1 c = tally_passes _ _ c.next-next.ensures c.if-p-ne1.true
+
+pub returns-then-self : goal.returns-then-self
+returns-then-self c = tally_closes _ _ c.next-next.ensures c.if-p-ne1.false c.if-self.true
+
+pub returns : goal.returns
+returns c = tally_begins _ _ c.next-next.ensures c.if-p-ne1.false c.if-self.false

@@ -1,0 +1,17 @@
+-- Where the lead-in is over the row is made and its line put; else nothing is.
+use Rattle.printer.proofs.Answers.{line_is, line_none, row_line_lem, no_row}
+use borrow.Author.Rules.{rules}
+use Rattle.printer.proofs.put_closed.Goals as goal
+
+pub row-requires : goal.row-requires
+row-requires c = (c.requires.makes.planned, c.requires.makes.made c.if-s.true)
+
+pub put_row-requires : goal.put_row-requires
+put_row-requires c = c.requires.fits
+
+pub returns-then-s : goal.returns-then-s
+returns-then-s c = line_is (row_line_lem c.args.rules c.args.s c.if-s.true c.row.ensures)
+    c.put_row.ensures
+
+pub returns : goal.returns
+returns c = line_none _ _ (no_row c.args.rules c.args.s c.if-s.false)

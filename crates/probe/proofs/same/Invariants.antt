@@ -1,0 +1,13 @@
+-- The rest of the two, from where the loop is, is alike exactly where the whole is.
+use Rattle.std.specs.Prelude.{◌≡◌, ◌-◌, ◌≤◌}
+use Rattle.laws.specs.Kit.{refl, sym, ◌∙◌, arith, length, drop}
+use Rattle.probe.specs.Words as words
+use Rattle.probe.proofs.Alike.{unequal, alike_here, differ_here, alike_ends}
+use borrow.Author.Rules.{rules}
+use Rattle.probe.proofs.same.Given as goal
+
+abbrev pub invariant-loop-k : goal.invariant-loop-k
+invariant-loop-k l = (words.same (drop l.k l.a) (drop l.k l.b) ≡ words.same l.a l.b) × (l.k ≤ length l.a) × (length l.a ≡ length l.b)
+
+abbrev pub decreases-loop-k : goal.decreases-loop-k
+decreases-loop-k l = length l.a - l.k

@@ -1,0 +1,25 @@
+-- Each return is one law, from the tests before it.
+use Rattle.laws.specs.Kit.{sym, ◌∙◌}
+use Rattle.record.proofs.Format.{packet_room}
+use Rattle.record.proofs.Ways.{whole_22, whole_23, whole_packet}
+use Rattle.std.proofs.Common.{rules}
+use Rattle.record.proofs.Cursor.whole_record.Goals as goal
+
+pub returns-then-body-kind_length : goal.returns-then-body-kind_length
+returns-then-body-kind_length c = sym (whole_22 _ _ _ _ (λ e. c.if-body-kind_length.true (e ∙ sym c.kind_length.ensures)))
+
+pub returns-then-is_parameters : goal.returns-then-is_parameters
+returns-then-is_parameters c =
+    let fits = c.if-body-kind_length.false ∙ c.kind_length.ensures in
+    sym (whole_23 _ _ _ _ fits (sym c.is_parameters.ensures ∙ c.if-is_parameters.true))
+
+pub packet_of-requires : goal.packet_of-requires
+packet_of-requires c =
+    let fits = c.if-body-kind_length.false ∙ c.kind_length.ensures in
+    packet_room c.requires fits (sym c.is_parameters.ensures ∙ c.if-is_parameters.false)
+
+pub returns : goal.returns
+returns c =
+    let fits = c.if-body-kind_length.false ∙ c.kind_length.ensures in
+    c.packet_of.ensures
+    ∙ rw c.after_packet.ensures (sym (whole_packet _ _ _ _ fits (sym c.is_parameters.ensures ∙ c.if-is_parameters.false)))

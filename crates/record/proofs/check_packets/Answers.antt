@@ -1,0 +1,51 @@
+-- The packets of a file: what a run that is admitted says, and else the walk over the records.
+use Rattle.std.specs.Prelude.{◌≡◌, ◌+◌, ◌*◌, ◌≤◌, ◌<◌}
+use Rattle.laws.specs.Kit.{sym, ap, subst, ◌∙◌, List, ℕ, arith, length, drop, length-drop}
+use Rattle.std.proofs.Common.{rules}
+use Rattle.record.specs.Paper.{packet_bytes}
+use Rattle.record.specs.Walk.{records_left}
+use Rattle.record.specs.declared.Checked.TheVariants.{Fine}
+use Rattle.record.proofs.Ways.{rest_all}
+use Rattle.record.proofs.Quickly.{left_fills, quick_finish}
+use Rattle.record.proofs.check_packets.Goals as goal
+use Rattle.record.proofs.check_packets.Goals.{Then-count-ne0}
+
+-- where there are records, they fill the file
+module _ (c : Then-count-ne0) where
+  abbrev at : ℕ
+  at = c.args.from.at
+
+  abbrev file : List ℕ
+  file = c.args.s.now
+
+  fills : length (drop at file) ≡ packet_bytes * c.records_left-count.result
+  fills =
+      let many = c.records_left-count.ensures in
+      let some : 0 < records_left (drop at file) = subst (λ (n : ℕ). 0 < n) many (omega arith) in
+      left_fills (drop at file) some ∙ ap (λ (n : ℕ). packet_bytes * n) (sym many)
+
+  some : 0 < c.records_left-count.result
+  some = omega arith
+
+  room : packet_bytes ≤ length (drop at file)
+  room = omega (arith, fills, some)
+
+  inside : at + packet_bytes * c.records_left-count.result ≤ length file
+  inside = omega (arith, fills, length-drop at file)
+
+pub run_packets-ran-requires : goal.run_packets-ran-requires
+run_packets-ran-requires c = inside c
+
+pub slice_bounds-packet_at-count : goal.slice_bounds-packet_at-count
+slice_bounds-packet_at-count c = omega (arith, inside (goal.at.slice_bounds-packet_at-count c).Then-count-ne0)
+
+pub packet_at-first-requires : goal.packet_at-first-requires
+packet_at-first-requires c = record { inside = rw (rest_all _ _) (room (goal.at.packet_at-first-requires c).Then-count-ne0) }
+
+pub returns-then-admits : goal.returns-then-admits
+returns-then-admits c =
+    let through = sym c.run_packets-ran.ensures ∙ c.in-Through.is in
+    let fine = sym c.admits.ensures ∙ c.if-admits.true in
+    ap (Fine c.args.numbers c.records_left-count.result) c.closed.ensures
+    ∙ quick_finish _ (at (goal.at.returns-then-admits c).Then-count-ne0) (drop (at (goal.at.returns-then-admits c).Then-count-ne0) (file (goal.at.returns-then-admits c).Then-count-ne0)) _ (some (goal.at.returns-then-admits c).Then-count-ne0) (fills (goal.at.returns-then-admits c).Then-count-ne0) through
+    (rw (c.none.ensures, c.packet_at-first.ensures, rest_all (file (goal.at.returns-then-admits c).Then-count-ne0) (at (goal.at.returns-then-admits c).Then-count-ne0)) at fine)

@@ -1,0 +1,8 @@
+-- The kinds that stand for a profile.
+use Rattle.std.proofs.Common.{rules}
+use Rattle.record.specs.Paper.{is_parameters}
+use Rattle.record.proofs.is_parameters.Goals as goal
+
+pub returns : goal.returns
+unfolding is_parameters
+returns c = c.is_profile.ensures

@@ -1,0 +1,6 @@
+-- The packet that stands there, taken apart.
+use Rattle.std.proofs.Common.{rules}
+use Rattle.record.proofs.packet_of.Goals as goal
+
+pub returns : goal.returns
+returns c = rw c.packet_at.ensures

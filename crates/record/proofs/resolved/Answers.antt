@@ -1,0 +1,6 @@
+-- Number by number; the class alone is told.
+use Rattle.std.proofs.Common.{rules}
+use Rattle.record.proofs.resolved.Goals as goal
+
+pub returns : goal.returns
+returns c = rw c.class_in.ensures

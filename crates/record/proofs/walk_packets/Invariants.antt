@@ -1,0 +1,22 @@
+-- The packets of a file. The invariant: what is left, read from where the cursor is into the tally so far, finishes as the whole does.
+-- Each turn is a law of one answer; a record takes 16 bytes, so the walk ends.
+use Rattle.std.specs.Prelude.{◌-◌, ◌≤◌, ◌≡◌}
+use Rattle.laws.specs.Kit.{sym, ◌∙◌, arith, length, drop}
+use Rattle.std.proofs.Common.{rules}
+use Rattle.packet.specs.Step.{nothing, no_packets}
+use Rattle.packet.proofs.Refusals.{accepted}
+use Rattle.packet.proofs.Turn.{tally_keeps}
+use Rattle.record.specs.Paper.{packets_in}
+use Rattle.record.specs.Walk.{finish}
+use Rattle.record.proofs.Walking.{stops, goes, refuses, next_at, next_within}
+use borrow.Enum.Refused.{opened}
+use Rattle.record.proofs.walk_packets.Given as goal
+
+abbrev pub invariant-loop-packet : goal.invariant-loop-packet
+invariant-loop-packet l =
+    (finish l.numbers l.tally (packets_in l.tally.past l.cursor.at (drop l.cursor.at l.s))
+    ≡ finish l.numbers no_packets (packets_in nothing l.initial.cursor.at (drop l.initial.cursor.at l.s)))
+    × (l.tally.closed ≤ l.tally.past.packets)
+
+abbrev pub decreases-loop-packet : goal.decreases-loop-packet
+decreases-loop-packet l = length l.s - l.cursor.at

@@ -1,0 +1,28 @@
+-- By what lies ahead: each return is one law (Turning).
+use Rattle.laws.specs.Kit.{subst, refl, arith}
+use Rattle.capture.specs.declared.Ahead.{Ahead}
+use Rattle.reel.specs.Step.{AheadFits}
+use Rattle.reel.proofs.Turning.{stop_packet, stop_wait, stop_end, stop_refused}
+use Rattle.std.proofs.Common.{rules}
+use Rattle.reel.proofs.Reel.stop.Goals as goal
+
+pub overflow_add-result : goal.overflow_add-result
+overflow_add-result c =
+    let fits = subst (λ (a : Ahead). AheadFits a c.args.used) c.in-Wait.is c.requires.1 in
+    omega (arith, fits)
+
+pub returns-in-Packet : goal.returns-in-Packet
+returns-in-Packet c =
+    stop_packet c.args.self c.in-Packet.is (omega (arith, c.requires.0)) c.put_ahead-next.ensures
+
+pub returns-in-Wait : goal.returns-in-Wait
+returns-in-Wait c =
+    stop_wait c.args.self c.in-Wait.is (omega (arith, c.requires.0)) c.put_ahead-next.ensures c.passed.ensures refl
+
+pub returns-in-End : goal.returns-in-End
+returns-in-End c =
+    stop_end c.args.self c.in-End.is c.requires.0 c.put_ahead-next.ensures
+
+pub returns-in-Refused : goal.returns-in-Refused
+returns-in-Refused c =
+    stop_refused c.args.self c.in-Refused.is c.requires.0 c.put_ahead-next.ensures

@@ -1,0 +1,30 @@
+-- Where the lead-in is over the row is made and stored; else nothing is.
+use Rattle.std.specs.Prelude.{◌+◌}
+use Rattle.laws.specs.Kit.{sym, ap, ℕ, arith}
+use Rattle.timing.specs.Feed.{closed_row}
+use Rattle.timing.proofs.Laying.{row_fits, puts_one, puts_none}
+use Rattle.report.proofs.Bytes.{as_bytes, row_length}
+use borrow.Author.Rules.{rules}
+use Rattle.report.proofs.put_closed.Goals as goal
+
+pub row-requires : goal.row-requires
+row-requires c = (c.requires.makes.planned, c.requires.makes.made c.if-s.true)
+
+pub put_row-requires : goal.put_row-requires
+put_row-requires c =
+    rw c.row.ensures (row_fits as_bytes c.args.rules c.args.s c.if-s.true c.requires)
+
+pub overflow_add-result : goal.overflow_add-result
+overflow_add-result c =
+    let fits = row_fits as_bytes c.args.rules c.args.s c.if-s.true c.requires in
+    omega (arith, fits, row_length (closed_row c.args.rules c.args.s))
+
+pub returns-then-s : goal.returns-then-s
+returns-then-s c =
+    let row = c.row in
+    puts_one as_bytes c.args.rules c.args.s c.args.at _ row.result
+    c.if-s.true
+    row.ensures (ap (λ (n : ℕ). c.args.at + n) (sym (row_length row.result))) c.put_row.ensures
+
+pub returns : goal.returns
+returns c = puts_none as_bytes c.args.rules c.args.s c.args.at _ c.if-s.false

@@ -1,0 +1,38 @@
+-- What is left of the ten numbers, stored from the next place on, gives the end; each turn stores one.
+use Rattle.std.specs.Prelude.{◌≡◌, ◌+◌, ◌-◌, ◌*◌, ◌≤◌}
+use Rattle.laws.specs.Kit.{refl, ap, ◌∙◌, map, arith, add-zero, length, drop, sets}
+use Rattle.frame.specs.Step.{row_width}
+use Rattle.report.proofs.Bytes.{length_signs, row_length, sign_passed, store_turn, store_done}
+use borrow.Author.Rules.{rules}
+use Rattle.report.specs.Paper.{number_bytes, signed, in_bytes, encoded}
+use Rattle.report.proofs.put_row.Goals as goal
+
+pub loop-k-init : goal.loop-k-init
+loop-k-init c = (
+  rw add-zero,
+  omega arith,
+  refl,
+  ap length c.numbers-numbers.ensures,
+  omega (arith, c.requires, row_length c.args.row),
+)
+
+pub loop-k-preserved : goal.loop-k-preserved
+loop-k-preserved c =
+    let l = c.loop-k in
+    let ten = c.numbers-numbers.result in
+    let passed = c.bits-arg-1.given in
+    let x = c.bits.ensures ∙ sign_passed ten l.k (record { sfits = passed }) in (
+      rw c.write64.ensures
+          (store_turn _ _ l.k _ (map signed ten) l.out (omega arith) (omega (arith, l.invariant.3, length_signs ten)) x ∙ l.invariant.0),
+      omega arith,
+      search rules,
+      l.invariant.3,
+      l.invariant.4,
+    )
+
+pub returns : goal.returns
+returns c =
+    let l = c.loop-k in
+    let ten = c.numbers-numbers.result in
+    store_done _ l.k (map signed ten) l.out (omega (arith, l.invariant.3, length_signs ten)) l.invariant.0
+    ∙ rw c.numbers-numbers.ensures

@@ -1,0 +1,16 @@
+-- What is left of the ten numbers, stored from the next place on, gives the end; each turn stores one.
+use Rattle.std.specs.Prelude.{◌≡◌, ◌+◌, ◌-◌, ◌*◌, ◌≤◌}
+use Rattle.laws.specs.Kit.{refl, ap, ◌∙◌, map, arith, add-zero, length, drop, sets}
+use Rattle.frame.specs.Step.{row_width}
+use Rattle.report.proofs.Bytes.{length_signs, row_length, sign_passed, store_turn, store_done}
+use borrow.Author.Rules.{rules}
+use Rattle.report.specs.Paper.{number_bytes, signed, in_bytes, encoded}
+use Rattle.report.proofs.put_row.Given as goal
+
+abbrev pub invariant-loop-k : goal.invariant-loop-k
+invariant-loop-k l =
+    (sets l.out (l.at + number_bytes * l.k) (in_bytes (drop l.k (map signed l.numbers))) ≡ sets l.initial.out l.at (encoded l.numbers)) × (l.k ≤ row_width)
+    × (length l.out ≡ length l.initial.out) × (length l.numbers ≡ row_width) × (l.at + number_bytes * row_width ≤ length l.initial.out)
+
+abbrev pub decreases-loop-k : goal.decreases-loop-k
+decreases-loop-k l = row_width - l.k

@@ -1,0 +1,38 @@
+-- The call by its branches: 9, the scan's refusal, 15, or the run (Feeding).
+use Rattle.laws.specs.Kit.{sym, ◌∙◌, not-true, not-false}
+use Rattle.timing.proofs.Feeding.{fed_9, fed_refused, fed_15, one_length, runs, fed}
+use borrow.Author.Rules.{rules}
+use Rattle.timing.proofs.State.feed.Goals as goal
+
+pub returns-then-not-in_range : goal.returns-then-not-in_range
+returns-then-not-in_range c = let r = c.in_range in fed_9 _ _ _ _ _ (sym r.ensures ∙ not-true r.result c.if-not-in_range.true-raw)
+
+pub returns-then-rows-closed : goal.returns-then-rows-closed
+returns-then-rows-closed c =
+    let i = c.in_range in
+    fed_15 _ _ _ _ _ (sym i.ensures ∙ not-false i.result c.if-not-in_range.false-raw) c.scan-scanned.ensures c.in-Fine.is
+    c.if-rows-closed.true
+
+pub run-self-requires : goal.run-self-requires
+run-self-requires c =
+    let i = c.in_range in
+    let a = c.args in
+    let e = sym i.ensures ∙ not-false i.result c.if-not-in_range.false-raw in (
+      one_length a.self a.rows.now a.arrivals.now a.stamps.now a.markers.now e c.scan-scanned.ensures
+          c.in-Fine.is,
+      runs a.self a.rows.now a.arrivals.now a.stamps.now a.markers.now e c.scan-scanned.ensures
+          c.in-Fine.is c.rules-rules.ensures c.if-rows-closed.false,
+    )
+
+pub returns-else-rows-closed : goal.returns-else-rows-closed
+returns-else-rows-closed c =
+    let i = c.in_range in
+    let e = sym i.ensures ∙ not-false i.result c.if-not-in_range.false-raw in
+    fed _ _ _ _ _ e c.scan-scanned.ensures c.in-Fine.is c.rules-rules.ensures c.if-rows-closed.false
+    c.run-self.ensures
+
+pub returns-in-Refused : goal.returns-in-Refused
+returns-in-Refused c =
+    let i = c.in_range in
+    fed_refused _ _ _ _ _ (sym i.ensures ∙ not-false i.result c.if-not-in_range.false-raw) c.scan-scanned.ensures
+    c.in-Refused.is

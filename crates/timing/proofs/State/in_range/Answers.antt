@@ -1,0 +1,28 @@
+-- Set-up's answer first, and then each part by its own answer; what set-up accepts has a plan.
+use Rattle.laws.specs.Kit.{◌∙◌, sym, subst, eq-eqb, ne_eqb}
+use Rattle.laws.specs.Every.{after}
+use Rattle.frame.specs.Range.{Planned}
+use Rattle.timing.specs.declared.Rules.{Rules}
+use Rattle.timing.proofs.InRange.{by_parts}
+use Rattle.timing.proofs.Planning.{planned}
+use borrow.Author.Rules.{rules}
+use Rattle.timing.proofs.State.in_range.Goals as goal
+
+pub returns-then-refusal-ne0 : goal.returns-then-refusal-ne0
+unfolding after
+returns-then-refusal-ne0 c = rw (by_parts c.args.self, ne_eqb _ 0 (λ z. c.if-refusal-ne0.true (c.refusal.ensures ∙ z)))
+
+pub in_range-requires-3 : goal.in_range-requires-3
+in_range-requires-3 c = subst (λ (q : Rules). Planned q.plan) (sym c.rules-rules.ensures) (planned _ (sym c.refusal.ensures ∙ c.if-refusal-ne0.false))
+
+pub returns : goal.returns
+unfolding after
+returns c =
+    rw (
+      by_parts c.args.self,
+      c.in_range-3.ensures,
+      c.in_range-2.ensures,
+      c.in_range.ensures,
+      c.rules-rules.ensures,
+      eq-eqb _ 0 (sym c.refusal.ensures ∙ c.if-refusal-ne0.false),
+    )

@@ -1,0 +1,6 @@
+-- The profile by its kind, and the rest as it was stated.
+use borrow.Author.Rules.{rules}
+use Rattle.timing.proofs.Stated.numbers.Goals as goal
+
+pub returns : goal.returns
+returns c = rw c.profile_of.ensures
