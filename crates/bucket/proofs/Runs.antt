@@ -1,6 +1,6 @@
 -- Peak and first burst in sums of naturals, over any D: the peak is the
 -- greatest level, and the first level above the limit names the first burst.
-use Rattle.std.specs.Prelude.{◌≡◌, ◌+◌, ◌-◌, ◌≤◌, ◌<◌}
+use Rattle.std.specs.Prelude.{◌≡◌, ◌+◌, ◌≤◌, ◌<◌}
 use Rattle.laws.specs.Kit.{refl, Bool, true, false, ℕ, zero, suc, arith, not-suc-le-zero, dec_lt, ltb, ltb-true}
 use Rattle.laws.specs.Kit.{ltb-false}
 use Rattle.laws.specs.Climb.{Climbs}

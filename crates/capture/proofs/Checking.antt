@@ -7,7 +7,7 @@ use Rattle.laws.specs.Choose.{pick}
 use types.Run.{OneOf, miss}
 use denote.Enum.Declared.{tag_of}
 use Rattle.packet.specs.declared.Packet as packet
-use Rattle.packet.specs.Step.{number_of, tallied, Countable}
+use Rattle.packet.specs.Step.{number_of, Countable}
 use Rattle.packet.proofs.Refusals.{accepted}
 use Rattle.packet.proofs.Turn.{tally_keeps}
 use Rattle.capture.specs.declared.Setting.{Setting}
@@ -21,10 +21,9 @@ use Rattle.capture.specs.declared.Front.{Front}
 use Rattle.capture.specs.declared.Front.TheVariants as front
 use Rattle.capture.specs.contracts.Front.{the_type}
 use Rattle.capture.specs.declared.Seen.{Seen}
-use Rattle.capture.specs.declared.Checked.{Checked}
 use Rattle.capture.specs.declared.Checked.TheVariants.{Fine, Refused}
-use Rattle.capture.specs.Paper.{header_bytes, record_bytes, Header, capture, unknown, header_of, check_headed, checked_of}
-use Rattle.capture.specs.Paper.{Records, none, done, stopped, records_in, check_all, check_records}
+use Rattle.capture.specs.Paper.{header_bytes, record_bytes, Header, capture, unknown, header_of, checked_of}
+use Rattle.capture.specs.Paper.{Records, records_in, check_all, check_records}
 use Rattle.capture.specs.Step.{opened_by, opened_of, front_of, tell_by, refusal_of, refused_at, seen_of, closing, Room}
 use Rattle.capture.proofs.Records.{Says, front_says, records_end, whole_size, whole_record}
 

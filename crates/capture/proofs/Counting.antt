@@ -1,7 +1,7 @@
 -- Every record is handed on or skipped; and the check of a capture is the scan of the packets handed on, or else names the record at
 -- which the file stops. By the records.
 use Rattle.std.specs.Prelude.{◌≡◌, ◌∷◌, ◌+◌}
-use Rattle.laws.specs.Kit.{refl, sym, ap, ◌∙◌, List, [], ℕ, suc, arith, add-zero, length, eq-eqb, ne_eqb, ℕ_discrete}
+use Rattle.laws.specs.Kit.{refl, sym, ◌∙◌, List, [], ℕ, suc, arith, add-zero, length, eq-eqb, ne_eqb, ℕ_discrete}
 use Rattle.laws.specs.Fold.{fold}
 use Rattle.packet.specs.declared.Packet.{Packet}
 use Rattle.packet.specs.declared.Tally.{Tally}

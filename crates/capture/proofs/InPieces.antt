@@ -1,11 +1,10 @@
 -- However a capture is cut into windows, the reader gives what the whole gives: what it says of a window and what is left for later are,
 -- together, the rest of the file from where it stood. By what was told, and by the bytes that are still to pass.
 use Rattle.std.specs.Prelude.{◌≡◌, ◌++◌, ◌+◌, ◌-◌, ◌≤◌, ◌<◌}
-use Rattle.laws.specs.Kit.{refl, sym, ap, subst, ◌∙◌, Bool, true, false, List, [], append-nil, ℕ, arith, ltb}
+use Rattle.laws.specs.Kit.{refl, sym, ap, ◌∙◌, Bool, true, false, List, [], append-nil, ℕ, arith, ltb}
 use Rattle.laws.specs.Kit.{eqb, length, drop, length-append, drop-append-le, drop-length, dec_le, eq-eqb, ne_eqb, lt-ltb, le-ltb, eqb-true}
 use Rattle.laws.specs.Kit.{eqb-false, ltb-true, ltb-false}
 use lib.Seq.{drop-append-add}
-use Rattle.laws.specs.Choose.{pick}
 use Rattle.laws.proofs.Choose.{pick_either}
 use Rattle.headers.specs.Step.{matter}
 use Rattle.capture.specs.declared.Setting.{Setting}
@@ -16,7 +15,7 @@ use Rattle.capture.specs.declared.Front.TheVariants as front
 use Rattle.capture.specs.declared.Cursor.{Cursor}
 use Rattle.capture.specs.declared.Next.{Next}
 use Rattle.capture.specs.declared.Next.TheVariants as next
-use Rattle.capture.specs.Paper.{record_bytes, done, stopped, none, records_in}
+use Rattle.capture.specs.Paper.{record_bytes, stopped, none, records_in}
 use Rattle.capture.specs.Step.{front_of, between, settled_by, passed_of, begun_by, next_of, tell_by, rest_from}
 use Rattle.capture.specs.Pieces.{Keeps}
 use Rattle.capture.proofs.Records.{Says, front_says, records_end, size_some, record_there, record_cut}

@@ -1,12 +1,11 @@
 -- A window with its skipped records passed over: what lies ahead is, behind so many skipped records, what the rest of the file holds. By the
 -- records that are passed over.
 use Rattle.std.specs.Prelude.{◌≡◌, ◌∷◌, ◌++◌, ◌+◌}
-use Rattle.laws.specs.Kit.{refl, sym, ap, subst, ◌∙◌, Bool, true, false, List, [], append-nil, ℕ, zero, suc}
+use Rattle.laws.specs.Kit.{refl, sym, ap, subst, ◌∙◌, Bool, true, List, [], ℕ, zero, suc}
 use Rattle.std.specs.Prelude.{◌≤◌, ◌<◌}
-use Rattle.laws.specs.Kit.{arith, length, drop, length-drop, drop-drop, eq-eqb}
+use Rattle.laws.specs.Kit.{arith, length, drop, length-drop, drop-drop}
 use types.Run.{OneOf, miss}
 use denote.Enum.Declared.{tag_of}
-use Rattle.packet.specs.declared.Packet as packets
 use Rattle.capture.specs.declared.Setting.{Setting}
 use Rattle.capture.specs.declared.Cursor.{Cursor}
 use Rattle.capture.specs.declared.Next.{Next}
@@ -14,7 +13,7 @@ use Rattle.capture.specs.declared.Next.TheVariants as next
 use Rattle.capture.specs.contracts.Next.{the_type}
 use Rattle.capture.specs.declared.Ahead.{Ahead}
 use Rattle.capture.specs.declared.Ahead.TheVariants as ahead
-use Rattle.capture.specs.Paper.{packet, skipped, done, stopped, Records, none, more, records_in}
+use Rattle.capture.specs.Paper.{packet, skipped, done, stopped, none, more, records_in}
 use Rattle.capture.specs.Step.{between, next_of, rest_from, behind_by, ahead_next, ahead_by, ahead_of, skipping, UsedFits}
 use Rattle.capture.specs.Pieces.{Keeps}
 use Rattle.capture.proofs.InPieces.{next_keeps}

@@ -1,14 +1,13 @@
 -- Arrivals with offset k are those with offset 0, k seconds later, and all else is the same. By the records.
-use Rattle.std.specs.Prelude.{◌≡◌, ◌∷◌, ◌+◌, ◌*◌}
-use Rattle.laws.specs.Kit.{refl, sym, ap, ◌∙◌, Bool, true, false, List, [], ℕ, zero, suc, arith, eqb, length, drop}
+use Rattle.std.specs.Prelude.{◌≡◌, ◌+◌, ◌*◌}
+use Rattle.laws.specs.Kit.{refl, Bool, true, false, List, ℕ, zero, suc, arith, eqb, length, drop}
 use Rattle.laws.specs.Choose.{pick}
 use Rattle.headers.specs.declared.Handed.{Handed}
 use Rattle.headers.specs.declared.Handed.TheVariants.{On, Skipped}
 use Rattle.headers.specs.Step.{handed_of}
 use Rattle.capture.specs.declared.Format.{Format}
-use Rattle.capture.specs.declared.Setting.{Setting}
-use Rattle.capture.specs.Paper.{record_bytes, seconds_at, sub_at, captured_at, frame_at, unit_of, arrival_of, cut_short, late, found_by, found_at, done}
-use Rattle.capture.specs.Paper.{stopped, Found, packet, skipped, Records, none, more, records_by, records_in, later, all_later, later_all, asked}
+use Rattle.capture.specs.Paper.{record_bytes, seconds_at, sub_at, captured_at, frame_at, arrival_of, cut_short, late, found_by, found_at, done}
+use Rattle.capture.specs.Paper.{stopped, none, more, records_by, records_in, later, all_later, later_all, asked}
 
 module _ (f : Format) (port k : ℕ) where
   arrival_later : (seconds sub : ℕ) → arrival_of (asked f port k) seconds sub ≡ arrival_of (asked f port 0) seconds sub + k * 1000000000

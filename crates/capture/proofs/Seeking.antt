@@ -1,7 +1,7 @@
 -- Packet by packet: the search for the next packet finds the first of those handed on, and what is left behind it are the others. By the
 -- records that are passed over.
 use Rattle.std.specs.Prelude.{◌≡◌, ◌∷◌, ◌+◌, ◌≤◌, ◌<◌}
-use Rattle.laws.specs.Kit.{refl, sym, ap, subst, ◌∙◌, Bool, true, List, [], ℕ, zero, suc, arith, length, drop}
+use Rattle.laws.specs.Kit.{refl, sym, ap, subst, ◌∙◌, true, List, [], ℕ, zero, suc, arith, length, drop}
 use Rattle.laws.specs.Kit.{length-drop, drop-drop, drop_of_length-le, eq-eqb}
 use types.Run.{OneOf, miss}
 use denote.Enum.Declared.{tag_of}
@@ -15,7 +15,7 @@ use Rattle.capture.specs.declared.Front.TheVariants as front
 use Rattle.capture.specs.contracts.Front.{the_type}
 use Rattle.capture.specs.declared.Sought.{Sought}
 use Rattle.capture.specs.declared.Sought.TheVariants as sought
-use Rattle.capture.specs.Paper.{record_bytes, Records, none, done, stopped, handed_on, records_in}
+use Rattle.capture.specs.Paper.{record_bytes, Records, handed_on, records_in}
 use Rattle.capture.specs.Step.{front_of, tell_by, handed_in, sought_by, seek_front, seek_by, sought_of, found_of}
 use Rattle.capture.proofs.Records.{Says, front_says, records_end, whole_size, whole_record}
 

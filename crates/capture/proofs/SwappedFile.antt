@@ -1,23 +1,23 @@
 -- A capture written in the other byte order is opened in that order, and has the same answer. What the header says is a predicate on its
 -- answer; the two magics are no other magic turned.
-use Rattle.std.specs.Prelude.{◌≡◌, ◌∷◌, ◌++◌, ◌+◌, ◌-◌, ◌≤◌, ◌<◌}
-use Rattle.laws.specs.Kit.{refl, sym, ap, subst, ◌∙◌, Bool, true, false, List, [], reverse, ℕ, arith}
-use Rattle.laws.specs.Kit.{ltb, eqb, leb, length, take, drop, length-drop, length-append, take_at, drop_at, drop-drop, length-take-le, le-ltb}
+use Rattle.std.specs.Prelude.{◌≡◌, ◌++◌, ◌≤◌}
+use Rattle.laws.specs.Kit.{refl, sym, ap, subst, ◌∙◌, Bool, true, false, List, reverse, ℕ, arith}
+use Rattle.laws.specs.Kit.{ltb, eqb, length, take, drop, length-drop, length-append, take_at, drop_at, drop-drop, length-take-le, le-ltb}
 use Rattle.laws.specs.Kit.{eq-eqb, ne_eqb, ltb-false, eqb-true, eqb-false}
 use Rattle.laws.specs.Choose.{pick}
 use Rattle.laws.proofs.Choose.{pick_either}
 use Rattle.endian.specs.declared.Order.{Order}
 use Rattle.endian.specs.declared.Order.TheVariants.{Big, Little}
 use Rattle.endian.specs.Number.{number_of, bytes_of, Bytes}
-use Rattle.endian.specs.Order.{turned, number_by}
+use Rattle.endian.specs.Order.{number_by}
 use Rattle.endian.proofs.Width.{bytes_number}
 use Rattle.capture.specs.declared.Format.{Format}
 use Rattle.capture.specs.declared.Setting.{Setting}
 use Rattle.capture.specs.declared.Seen.{Seen}
 use Rattle.capture.specs.Paper.{header_bytes, microseconds, nanoseconds, Header, capture, unknown, format, linked_by, magic_by, header_of}
-use Rattle.capture.specs.Paper.{Records, records_in, check_records, check_headed, checked_of}
+use Rattle.capture.specs.Paper.{records_in, checked_of}
 use Rattle.capture.specs.Swap.{other, other_order, other_setting, word_at, swap_records, swap_file}
-use Rattle.capture.proofs.Swapping.{turned_back, word_length, swap_length, records_swapped}
+use Rattle.capture.proofs.Swapping.{turned_back, word_length, records_swapped}
 
 -- no magic, in one order
 abbrev NoMagic : Order → List ℕ → Type 0

@@ -1,6 +1,6 @@
 -- The answers of the header, of a window and of the reader, one law for each way out of their functions. By the tests.
 use Rattle.std.specs.Prelude.{◌≡◌, ◌+◌, ◌-◌, ◌*◌, ◌≤◌, ◌<◌}
-use Rattle.laws.specs.Kit.{refl, sym, ap, ◌∙◌, Bool, true, false, List, ℕ, arith, length, take, drop}
+use Rattle.laws.specs.Kit.{Bool, true, false, List, ℕ, arith, length, take, drop}
 use Rattle.laws.specs.Kit.{leb, length-drop, take_all, lt-ltb, le-ltb, le-leb, lt-leb, eq-eqb, ne_eqb}
 use Rattle.laws.specs.Choose.{pick}
 use Rattle.endian.specs.declared.Order.{Order}
@@ -8,16 +8,12 @@ use Rattle.endian.specs.declared.Order.TheVariants.{Big, Little}
 use Rattle.endian.specs.Order.{number_by}
 use Rattle.headers.specs.declared.Handed.{Handed}
 use Rattle.headers.specs.Step.{matter, handed_of}
-use Rattle.capture.specs.declared.Format.{Format}
 use Rattle.capture.specs.declared.Setting.{Setting}
-use Rattle.capture.specs.declared.Opened.{Opened}
 use Rattle.capture.specs.declared.Opened.TheVariants as opened
-use Rattle.capture.specs.declared.Told.{Told}
-use Rattle.capture.specs.declared.Told.TheVariants.{Packet, Skipped, Late}
+use Rattle.capture.specs.declared.Told.TheVariants.{Late}
 use Rattle.capture.specs.declared.Front.{Front}
 use Rattle.capture.specs.declared.Front.TheVariants as front
 use Rattle.capture.specs.declared.Cursor.{Cursor}
-use Rattle.capture.specs.declared.Next.{Next}
 use Rattle.capture.specs.declared.Next.TheVariants as next
 use Rattle.capture.specs.Paper.{header_bytes, record_bytes, microseconds, nanoseconds, unknown, format, linked_by, magic_by, header_of}
 use Rattle.capture.specs.Paper.{seconds_at, sub_at, captured_at, second_of, unit_of, arrival_of}

@@ -1,6 +1,6 @@
 -- A capture written in the other byte order: the words of its headers turned, the captured bytes as they are.
-use Rattle.std.specs.Prelude.{◌∷◌, ◌++◌, ◌+◌}
-use Rattle.laws.specs.Kit.{List, [], reverse, ℕ, zero, suc, ltb, length, take, drop}
+use Rattle.std.specs.Prelude.{◌++◌, ◌+◌}
+use Rattle.laws.specs.Kit.{List, reverse, ℕ, zero, suc, ltb, length, take, drop}
 use Rattle.laws.specs.Choose.{pick}
 use Rattle.endian.specs.declared.Order.{Order}
 use Rattle.endian.specs.declared.Order.TheVariants.{Big, Little}

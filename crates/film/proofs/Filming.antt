@@ -1,8 +1,8 @@
 -- A capture in lent bytes: the count of frames that its check gives tells how long its report is, so that what is weighed decides the number,
 -- the place and the bytes; the rows are stored behind, and then the eleven numbers in front. By what the check says.
-use Rattle.std.specs.Prelude.{◌≡◌, ◌∷◌, ◌++◌, ◌+◌, ◌*◌, ◌≤◌, ◌<◌}
+use Rattle.std.specs.Prelude.{◌≡◌, ◌∷◌, ◌++◌, ◌*◌, ◌≤◌}
 use Rattle.laws.specs.Kit.{refl, sym, ap, subst, ◌∙◌, Bool, true, false, List, [], map, append-nil, ℕ}
-use Rattle.laws.specs.Kit.{arith, leb, eqb, pos, length, drop, length-append, length-map, sets, le-leb, lt-leb, leb-true, leb-false, eq-eqb}
+use Rattle.laws.specs.Kit.{arith, leb, pos, length, drop, length-append, sets, le-leb, leb-true, eq-eqb}
 use Rattle.laws.specs.Kit.{ne_eqb, ℕ_discrete}
 use Rattle.laws.specs.Choose.{pick}
 use Rattle.laws.specs.Fold.{fold}
@@ -27,7 +27,7 @@ use Rattle.timing.specs.declared.Rules.{Rules}
 use Rattle.timing.specs.declared.State.{State}
 use Rattle.timing.specs.declared.Stated.{Stated}
 use Rattle.timing.specs.Step.{set_up_of, stated_of, stated_refusal, rules_of, fresh_of, rows_after, numbers}
-use Rattle.timing.specs.Answers.{summary_width, summary_of}
+use Rattle.timing.specs.Answers.{summary_of}
 use Rattle.timing.specs.Feed.{RunAsks, RunGives}
 use Rattle.timing.specs.Range.{in_range, Sound}
 use Rattle.timing.proofs.Stating.{stated_fine}
@@ -36,11 +36,11 @@ use Rattle.timing.proofs.Dealing.{sound_after}
 use Rattle.timing.proofs.Scanning.{scan_runs, numbers_length}
 use Rattle.film.specs.declared.Weighed.{Weighed}
 use Rattle.film.specs.declared.Weighed.TheVariants as weighed
-use Rattle.report.specs.Paper.{state_of, rows_of, in_bytes, encoded, row_bytes, number_bytes, summary_bytes, Answer, answer}
+use Rattle.report.specs.Paper.{state_of, rows_of, in_bytes, row_bytes, number_bytes, Answer, answer}
 use Rattle.report.specs.Step.{needed_behind}
-use Rattle.film.specs.Paper.{eleven_of, capture_bytes, capture_checked, answered_by, capture_answer, filled_from, capture_filled, room_by}
+use Rattle.film.specs.Paper.{eleven_of, capture_bytes, capture_checked, answered_by, capture_answer, filled_from, capture_filled}
 use Rattle.film.specs.Paper.{capture_room}
-use Rattle.film.specs.Step.{eleven_width, eleven_bytes, weighed_by, weighed_of, FilmAsks, FilmGives, CaptureGives}
+use Rattle.film.specs.Step.{eleven_width, eleven_bytes, weighed_by, weighed_of, FilmAsks, FilmGives}
 use Rattle.report.proofs.Bytes.{nine, length_stored, stored_append, length_encoded, encoded_append, naturals, front_last}
 
 module _ (t : Stated) (port offset : ℕ) (b : List ℕ) where

@@ -8,7 +8,7 @@ use Rattle.frame.specs.declared.Plan.{Plan}
 use Rattle.frame.specs.declared.Buffer.{Buffer}
 use Rattle.frame.specs.declared.BrokenFrame.{BrokenFrame}
 use Rattle.frame.specs.declared.Buffer.TheVariants.{None, Pass, Under, Over, Broken}
-use Rattle.frame.specs.Paper.{History, closes_at, number_at, kind_at, Whole, Judged, PassIs, BrokenIs, AnswerIs, DecidedIs, BufferIs}
+use Rattle.frame.specs.Paper.{History, closes_at, number_at, kind_at, Whole, Judged, PassIs, BrokenIs, AnswerIs, DecidedIs}
 use Rattle.frame.specs.Paper.{has_failed, is_none, broken_fails, Fails, FirstDecides, failed, passed, unjudged}
 use Rattle.frame.specs.Editions.{FirstAnswerIs, FirstBufferIs, FrameFails, broken, dry, overfull, NoneClosed, AllFit}
 use Rattle.frame.specs.ByPlace.{answer_at}

@@ -1,9 +1,9 @@
 -- A frame whose times are set: what holds of it before its next packet is counted, so that every product fits.
-use Rattle.std.specs.Prelude.{◌≡◌, ◌+◌, ◌*◌, ◌≤◌, ◌<◌}
+use Rattle.std.specs.Prelude.{◌≡◌, ◌*◌, ◌≤◌, ◌<◌}
 use Rattle.laws.specs.Kit.{sym, ap, subst, Bool, true, false, ℕ, arith, mul-le-mul, mul-le-mul_right, eqb}
 use Rattle.laws.specs.Choose.{pick}
 use Rattle.laws.proofs.Choose.{pick_either}
-use Rattle.grain.specs.Paper.{grains, phase}
+use Rattle.grain.specs.Paper.{grains}
 use Rattle.grain.specs.Carry.{ReadsAsks}
 use Rattle.grain.proofs.Rounding.{phase_small}
 use Rattle.grain.proofs.Extremes.{reads_fit}

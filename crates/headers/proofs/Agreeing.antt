@@ -1,14 +1,13 @@
 -- What becomes of a frame hangs on its captured length and on its first 162 bytes alone: two lists that agree so far have one answer.
 -- By the list of conditions: each is carried over, and back.
-use Rattle.std.specs.Prelude.{◌≡◌, ◌∷◌, ◌++◌, ◌+◌, ◌*◌, ◌/◌, ◌%◌, ◌≤◌, ◌<◌}
-use Rattle.laws.specs.Kit.{refl, sym, ap, subst, ◌∙◌, Bool, true, false, List, [], ℕ}
+use Rattle.std.specs.Prelude.{◌≡◌, ◌++◌, ◌+◌, ◌≤◌, ◌<◌}
+use Rattle.laws.specs.Kit.{refl, sym, ap, ◌∙◌, List, ℕ}
 use Rattle.laws.specs.Kit.{min, arith, length, take, drop, get_or, length-drop, length-append, get_or-append}
 use lib.Seq.{ext_get_or, get_or-take, get_or-drop, length-take-le}
-use Rattle.laws.specs.Choose.{pick}
 use Rattle.endian.specs.Number.{number_of, number_at}
 use Rattle.headers.specs.declared.Handed.{Handed}
 use Rattle.headers.specs.declared.Handed.TheVariants.{On, Skipped}
-use Rattle.headers.specs.Paper.{byte_at, pair_at, Internet, plain, tagged, HandedOn, on_at}
+use Rattle.headers.specs.Paper.{Internet, plain, tagged, HandedOn, on_at}
 use Rattle.headers.specs.Step.{handed_of}
 use Rattle.headers.proofs.Exactly.{handed_so, handed_only, skipped_so}
 

@@ -1,14 +1,13 @@
 -- A frame is handed on exactly when all conditions of the list hold, and at most one set of places meets them. By the tests, one after the other.
-use Rattle.std.specs.Prelude.{◌≡◌, ◌&&◌, ◌∷◌, ◌+◌, ◌-◌, ◌*◌, ◌/◌, ◌%◌, ◌≤◌}
-use Rattle.laws.specs.Kit.{refl, sym, ap, subst, ◌∙◌, Bool, true, false, List, [], ℕ}
-use Rattle.laws.specs.Kit.{arith, leb, eqb, le-leb, eq-eqb, ne_eqb, leb-true, eqb-true, eqb-false}
+use Rattle.std.specs.Prelude.{◌≡◌, ◌+◌, ◌-◌, ◌*◌, ◌/◌, ◌%◌, ◌≤◌}
+use Rattle.laws.specs.Kit.{refl, sym, ap, ◌∙◌, Bool, true, false, List, ℕ}
+use Rattle.laws.specs.Kit.{arith, le-leb, eq-eqb, eqb-true}
 use Rattle.laws.specs.Choose.{pick}
 use Rattle.laws.specs.Every.{after, All}
-use Rattle.laws.proofs.Choose.{pick_either}
 use Rattle.laws.proofs.Every.{◌and◌, facts, of_facts}
 use Rattle.headers.specs.declared.Handed.TheVariants.{On, Skipped}
-use Rattle.headers.specs.Paper.{byte_at, pair_at, ipv4, tag, Internet, plain, tagged, HandedOn, on_at}
-use Rattle.headers.specs.Step.{tagged_at, ip_at, udp_at, udp_in, rtp_at, end_at, ether_fits, ip_fits, udp_fits, extension_fits, rtp_fits, fits, handed_of}
+use Rattle.headers.specs.Paper.{byte_at, pair_at, ipv4, Internet, plain, tagged, HandedOn, on_at}
+use Rattle.headers.specs.Step.{tagged_at, ip_at, udp_in, rtp_at, end_at, ether_fits, ip_fits, udp_fits, extension_fits, rtp_fits, fits, handed_of}
 use Rattle.headers.proofs.Handing.{goes_on}
 
 -- where the type says that IPv4 starts

@@ -1,6 +1,6 @@
 -- The tests of a frame's headers, one law for each way out of its functions: by the tests, one after the other.
 use Rattle.std.specs.Prelude.{◌≡◌, ◌&&◌, ◌+◌, ◌-◌, ◌*◌, ◌/◌, ◌%◌, ◌≤◌, ◌<◌}
-use Rattle.laws.specs.Kit.{refl, sym, ap, ◌∙◌, Bool, true, false, List, ℕ, arith, leb}
+use Rattle.laws.specs.Kit.{sym, ◌∙◌, true, false, List, ℕ, leb}
 use Rattle.laws.specs.Kit.{eqb, le-leb, lt-leb, eq-eqb, ne_eqb}
 use Rattle.laws.specs.Every.{after}
 use Rattle.headers.specs.Paper.{byte_at, pair_at, ipv4, tag}

@@ -1,8 +1,8 @@
 -- What becomes of a frame, one law for each way out, and the room that a header which fits has.
-use Rattle.std.specs.Prelude.{◌≡◌, ◌&&◌, ◌∷◌, ◌+◌, ◌≤◌, ◌<◌}
-use Rattle.laws.specs.Kit.{refl, sym, ap, ◌∙◌, Bool, true, false, List, [], ℕ, arith, leb, eqb, le-leb}
-use Rattle.laws.specs.Kit.{lt-leb, leb-true}
-use Rattle.headers.specs.declared.Handed.TheVariants.{On, Skipped}
+use Rattle.std.specs.Prelude.{◌≡◌, ◌+◌, ◌≤◌, ◌<◌}
+use Rattle.laws.specs.Kit.{true, false, List, ℕ, le-leb}
+use Rattle.laws.specs.Kit.{lt-leb}
+use Rattle.headers.specs.declared.Handed.TheVariants.{Skipped}
 use Rattle.laws.specs.Every.{after}
 use Rattle.laws.proofs.Every.{facts}
 use Rattle.headers.specs.Paper.{on_at}

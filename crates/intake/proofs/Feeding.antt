@@ -1,7 +1,7 @@
 -- A capture call is `feed` of the packets that it hands on; a capture that stops at a record names what the scan of the packets before it
 -- names, or else that record. By the header, and by what the scan says.
 use Rattle.std.specs.Prelude.{◌≡◌, ◌+◌, ◌*◌, ◌≤◌, ◌<◌}
-use Rattle.laws.specs.Kit.{refl, sym, ap, ◌∙◌, Bool, true, false, List, [], ℕ, arith, leb, ℤ, length, sets}
+use Rattle.laws.specs.Kit.{refl, sym, ap, ◌∙◌, Bool, true, false, List, [], ℕ, arith, leb, ℤ, length}
 use Rattle.laws.specs.Choose.{pick}
 use Rattle.packet.specs.declared.Packet.{Packet}
 use Rattle.packet.specs.declared.Scanned.{Scanned}
@@ -12,18 +12,17 @@ use Rattle.frame.specs.Step.{row_width}
 use Rattle.capture.specs.declared.Format.{Format}
 use Rattle.capture.specs.declared.Checked.{Checked}
 use Rattle.capture.specs.declared.Checked.TheVariants as checked
-use Rattle.capture.specs.Paper.{Header, capture, unknown, header_of, Ending, done, stopped, seen_from, checked_of}
+use Rattle.capture.specs.Paper.{capture, unknown, header_of, Ending, done, stopped, seen_from, checked_of}
 use Rattle.capture.specs.Step.{seen_all, checked_by}
 use Rattle.capture.proofs.Checking.{check_offset, check_unknown}
 use Rattle.capture.proofs.Counting.{scan_closed}
 use Rattle.timing.specs.declared.State.{State}
-use Rattle.timing.specs.declared.Fed.TheVariants as fed
 use Rattle.timing.specs.Range.{in_range}
 use Rattle.timing.specs.Feed as F
 use Rattle.timing.proofs.Feeding.{nothing_fed}
 use Rattle.intake.specs.declared.Taken.TheVariants.{Accepted, Refused}
-use Rattle.intake.specs.Paper.{records_of, packets_of, skipped_of, Outcome, refused_by, accepted_as, room_for, by_check, capture_of, fed_as}
-use Rattle.intake.proofs.Reading.{seen, scan, check_known}
+use Rattle.intake.specs.Paper.{records_of, packets_of, skipped_of, refused_by, accepted_as, room_for, by_check, capture_of, fed_as}
+use Rattle.intake.proofs.Reading.{seen, check_known}
 
 module _ (s : State) (rows : List ℤ) (port offset : ℕ) (b : List ℕ) where
   -- ---- before the records

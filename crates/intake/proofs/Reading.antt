@@ -1,20 +1,18 @@
 -- The check of a capture whose header is known is the scan of the packets that it hands on, or else names the record at which it stops; where
 -- nothing is refused, every record is counted. By the header.
-use Rattle.std.specs.Prelude.{◌≡◌, ◌+◌, ◌≤◌, ◌<◌}
-use Rattle.laws.specs.Kit.{refl, sym, ap, subst, ◌∙◌, Bool, false, List, [], ℕ, arith, length, drop}
-use Rattle.laws.specs.Kit.{ltb, leb, dec_le, sets, ℤ}
+use Rattle.std.specs.Prelude.{◌≡◌, ◌+◌, ◌≤◌}
+use Rattle.laws.specs.Kit.{refl, sym, ap, subst, ◌∙◌, Bool, List, [], ℕ, arith, length, drop}
+use Rattle.laws.specs.Kit.{dec_le, ℤ}
 use Rattle.laws.specs.Fold.{fold}
 use Rattle.packet.specs.declared.Packet.{Packet}
 use Rattle.packet.specs.declared.Past.{Past}
 use Rattle.packet.specs.declared.Scanned.{Scanned}
 use Rattle.packet.specs.declared.Scanned.TheVariants as scanned
-use Rattle.packet.specs.Step.{scan_of, tally_of}
+use Rattle.packet.specs.Step.{scan_of}
 use Rattle.capture.specs.declared.Format.{Format}
-use Rattle.capture.specs.declared.Setting.{Setting}
 use Rattle.capture.specs.declared.Seen.{Seen}
-use Rattle.capture.specs.declared.Checked.{Checked}
-use Rattle.capture.specs.declared.Checked.TheVariants.{Fine, Refused}
-use Rattle.capture.specs.Paper.{header_bytes, Header, capture, unknown, header_of, Ending, done, stopped, handed_on, skipped_in, seen_from, checked_of}
+use Rattle.capture.specs.declared.Checked.TheVariants.{Fine}
+use Rattle.capture.specs.Paper.{header_bytes, Header, capture, unknown, header_of, Ending, done, stopped, handed_on, seen_from, checked_of}
 use Rattle.capture.specs.Step.{handed_in, seen_all, checked_by}
 use Rattle.capture.proofs.Checking.{check_offset, check_unknown, check_capture}
 use Rattle.capture.proofs.Counting.{check_scan, scan_closed, all_counted}

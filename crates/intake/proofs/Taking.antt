@@ -1,6 +1,6 @@
 -- The whole call, case by case, each from what its branch of the code has found.
-use Rattle.std.specs.Prelude.{◌≡◌, ◌+◌, ◌-◌, ◌*◌, ◌/◌, ◌≤◌, ◌<◌}
-use Rattle.laws.specs.Kit.{refl, sym, ap, ◌∙◌, subst, true, false, List, ℕ, arith, le-div_iff_mul-le}
+use Rattle.std.specs.Prelude.{◌≡◌, ◌-◌, ◌*◌, ◌/◌, ◌≤◌, ◌<◌}
+use Rattle.laws.specs.Kit.{sym, ap, ◌∙◌, subst, true, false, List, ℕ, arith, le-div_iff_mul-le}
 use Rattle.laws.specs.Kit.{div-lt_iff_lt-mul, ℤ, length, le-leb, lt-leb}
 use Rattle.frame.specs.Step.{row_width}
 use Rattle.capture.specs.declared.Seen.{Seen}
@@ -9,13 +9,13 @@ use Rattle.capture.specs.declared.Checked.TheVariants as checked
 use Rattle.capture.specs.Paper.{seen_from, checked_of}
 use Rattle.timing.specs.declared.State.{State}
 use Rattle.timing.specs.declared.Rules.{Rules}
-use Rattle.timing.specs.Step.{rules_of, state_after, rows_after, numbers}
+use Rattle.timing.specs.Step.{rules_of, rows_after, numbers}
 use Rattle.timing.specs.Range.{in_range}
 use Rattle.timing.specs.Feed.{RunAsks, RunGives}
 use Rattle.timing.proofs.InRange.{sound_of}
 use Rattle.timing.proofs.Scanning.{scan_runs, numbers_length}
 use Rattle.intake.specs.declared.Taken.TheVariants.{Accepted, Refused}
-use Rattle.intake.specs.Paper.{packets_of, skipped_of, Outcome, refused_by, accepted_as, room_for, by_check, capture_of, TakeGives}
+use Rattle.intake.specs.Paper.{packets_of, skipped_of, Outcome, accepted_as, room_for, by_check, capture_of, TakeGives}
 use Rattle.intake.proofs.Reading.{Read, checked_read, skipped_read, handed_read}
 
 is : {o q : Outcome} → q ≡ o → TakeGives o q.answer q.rows

@@ -1,10 +1,9 @@
 -- A capture call: the request's answer, on what the reader (crate capture) and the measurement (crate timing) say. This page is what a
 -- reader must believe of it.
 use Rattle.std.specs.Prelude.{◌≡◌, ◌*◌}
-use Rattle.laws.specs.Kit.{List, [], ℕ, leb, ℤ, length, drop, sets}
+use Rattle.laws.specs.Kit.{List, ℕ, leb, ℤ, length, drop, sets}
 use Rattle.laws.specs.Choose.{pick}
 use Rattle.packet.specs.declared.Packet.{Packet}
-use Rattle.capture.specs.declared.Seen.{Seen}
 use Rattle.capture.specs.declared.Checked.{Checked}
 use Rattle.capture.specs.declared.Checked.TheVariants as checked
 use Rattle.capture.specs.Paper.{header_bytes, Header, capture, unknown, header_of, Records, none, done, records_in, handed_on, skipped_in}

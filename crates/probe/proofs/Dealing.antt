@@ -3,7 +3,6 @@ use Rattle.std.specs.Prelude.{◌≡◌, ◌∷◌, ◌≤◌}
 use Rattle.laws.specs.Kit.{refl, sym, ap, ◌∙◌, subst, Bool, true, false, List, [], map, ℕ, arith, leb, ℤ, length}
 use Rattle.laws.specs.Kit.{take, sets, le-leb}
 use Rattle.laws.specs.Choose.{pick}
-use Rattle.packet.specs.Paper.{packets}
 use Rattle.limits.specs.Steps.{ParametersHeld}
 use Rattle.limits.proofs.Editions.{in_fine}
 use Rattle.timing.specs.declared.StreamNumbers.{StreamNumbers}

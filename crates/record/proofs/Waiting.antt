@@ -11,7 +11,7 @@ use Rattle.record.specs.declared.Head.{Head}
 use Rattle.record.specs.declared.Head.TheVariants as head
 use Rattle.record.specs.declared.Next.{Next}
 use Rattle.record.specs.Paper.{version_known, body_length, kind_of, is_parameters, kind_length}
-use Rattle.record.specs.Step.{framed_of, Whole, first_of, head_by, head_piece, head_read, whole_of, next_by, next_piece, next_read}
+use Rattle.record.specs.Step.{framed_of, first_of, head_by, head_piece, head_read, whole_of, next_by, next_piece, next_read}
 use Rattle.record.specs.Pieces.{read_number, wants_more, head_waits, head_number, Depends, HeadDepends}
 use Rattle.record.proofs.Format.{Front, scrap, zero_length, short, whole, front, framed_nothing, framed_byte, framed_zero, framed_short}
 use Rattle.record.proofs.Format.{framed_whole}

@@ -1,5 +1,5 @@
 -- The writer's answers, one law for each way out, and what it leaves in the lent bytes: the file, and beyond it what was there.
-use Rattle.std.specs.Prelude.{◌≡◌, ◌∷◌, ◌++◌, ◌+◌, ◌*◌, ◌≤◌, ◌<◌}
+use Rattle.std.specs.Prelude.{◌≡◌, ◌∷◌, ◌++◌, ◌*◌, ◌≤◌, ◌<◌}
 use Rattle.laws.specs.Kit.{refl, sym, ap, ◌∙◌, true, false, List, [], ℕ, suc, arith, zero-add, length, take}
 use Rattle.laws.specs.Kit.{drop, get_or, length-append, sets, sets-eq, take_at, leb, eqb, eq-eqb, ne_eqb, le-leb, lt-leb, leb-true}
 use Rattle.laws.specs.Kit.{eqb-true}
@@ -10,7 +10,7 @@ use Rattle.packet.specs.declared.Refusal.{Refusal}
 use Rattle.packet.specs.declared.Scanned.{Scanned}
 use Rattle.packet.specs.declared.Scanned.TheVariants as scan
 use Rattle.packet.specs.declared.Packet.{Packet}
-use Rattle.packet.specs.Paper.{packets, OneLength, at}
+use Rattle.packet.specs.Paper.{packets, OneLength}
 use Rattle.packet.specs.Step.{nothing, scanned_of}
 use Rattle.packet.proofs.Lent.{packets_length}
 use Rattle.packet.proofs.Turn.{scanned_fine}

@@ -1,20 +1,17 @@
 -- The start of a capture: set-up, the offset and the header; what an answer to the first window says of the whole capture. By these in order.
 use Rattle.std.specs.Prelude.{◌≡◌, ◌++◌, ◌+◌, ◌≤◌, ◌<◌}
-use Rattle.laws.specs.Kit.{refl, sym, ap, subst, ◌∙◌, Bool, true, false, List, [], append-nil, ℕ, arith, ltb, leb}
+use Rattle.laws.specs.Kit.{refl, sym, ap, ◌∙◌, Bool, true, List, [], append-nil, ℕ, arith, ltb, leb}
 use Rattle.laws.specs.Kit.{eqb, length, take, drop, length-append, length-drop, drop-append-le, take-append-le, le-leb, lt-leb, leb-true, leb-false}
 use Rattle.laws.specs.Kit.{eqb-true, eqb-false, ne_eqb, eq-eqb, le-ltb, lt-ltb, ltb-true, ltb-false}
-use Rattle.laws.specs.Choose.{pick}
 use Rattle.laws.proofs.Choose.{pick_either, false_true}
 use Rattle.endian.specs.declared.Order.{Order}
 use Rattle.endian.specs.declared.Order.TheVariants.{Big, Little}
 use Rattle.endian.specs.Number.{number_of}
 use Rattle.endian.specs.Order.{turned, number_by}
 use Rattle.text.specs.Lines.{refusal_line}
-use Rattle.capture.specs.declared.Format.{Format}
 use Rattle.capture.specs.declared.Opened.{Opened}
-use Rattle.capture.specs.declared.Opened.TheVariants as opened
 use Rattle.capture.specs.Paper.{header_bytes, Header, capture, unknown, linked_by, magic_by, header_of, records_in}
-use Rattle.capture.specs.Step.{opened_by, opened_of, between, rest_from}
+use Rattle.capture.specs.Step.{opened_by, opened_of, rest_from}
 use Rattle.timing.specs.declared.State.{State}
 use Rattle.timing.specs.declared.SetUp.{SetUp}
 use Rattle.timing.specs.declared.SetUp.TheVariants.{Fresh, Refused as NotSetUp}

@@ -1,19 +1,18 @@
 -- What was to be printed is what a call writes, and then what is still to be printed. One packet at a time: what lies ahead of the reel is
 -- what lies there in the whole capture, and each answer's line is the request's. By the turns still allowed.
-use Rattle.std.specs.Prelude.{◌≡◌, ◌∷◌, ◌++◌}
-use Rattle.laws.specs.Kit.{refl, sym, ap, subst, ◌∙◌, Bool, true, false, List, [], append-nil, append_assoc, ℕ, zero, suc}
-use Rattle.std.specs.Prelude.{◌+◌, ◌-◌, ◌%◌, ◌≤◌, ◌<◌}
-use Rattle.laws.specs.Kit.{arith, eqb, ltb, length, drop, drop-drop, eqb-true, eqb-false, eq-eqb, ne_eqb, mod-lt}
+use Rattle.std.specs.Prelude.{◌≡◌, ◌++◌}
+use Rattle.laws.specs.Kit.{refl, sym, ap, ◌∙◌, Bool, true, List, [], append-nil, append_assoc, ℕ, zero, suc}
+use Rattle.std.specs.Prelude.{◌+◌, ◌-◌, ◌<◌}
+use Rattle.laws.specs.Kit.{arith, eqb, ltb, length, drop, drop-drop, eqb-true, eqb-false, eq-eqb, ne_eqb}
 use Rattle.laws.specs.Choose.{pick}
 use Rattle.laws.proofs.Choose.{pick_either}
 use Rattle.packet.specs.declared.Packet as packets
 use Rattle.packet.specs.Step.{number_of}
 use Rattle.text.specs.Lines.{line_room, refusal_line}
-use Rattle.capture.specs.declared.Cursor.{Cursor}
 use Rattle.capture.specs.declared.Ahead.{Ahead}
 use Rattle.capture.specs.declared.Ahead.TheVariants.{Packet, Wait, End, Refused}
-use Rattle.capture.specs.Paper.{packet, skipped, done, stopped, Records, none, more, records_in}
-use Rattle.capture.specs.Step.{between, ahead_of, rest_from, skipping}
+use Rattle.capture.specs.Paper.{packet, done, stopped, Records, none, more, records_in}
+use Rattle.capture.specs.Step.{ahead_of, rest_from, skipping}
 use Rattle.capture.proofs.Looking.{Lies, ahead_keeps}
 use Rattle.timing.specs.declared.Rules.{Rules}
 use Rattle.timing.specs.declared.State.{State}
@@ -23,7 +22,7 @@ use Rattle.timing.proofs.Running.{going_next, step_numbers}
 use Rattle.printer.specs.Paper.{row_lines}
 use Rattle.reel.specs.declared.Reel.{Reel}
 use Rattle.reel.specs.Paper.{counted, captured_line, lines_from, lines_of}
-use Rattle.reel.specs.Step.{TakeOutcome, passed_by, line_ahead, stays, ends, stops_at, and_then, at_packet, lines_at, refused_line, ahead_by}
+use Rattle.reel.specs.Step.{TakeOutcome, line_ahead, stays, ends, and_then, at_packet, lines_at, refused_line, ahead_by}
 use Rattle.reel.specs.Step.{roll_by, take_of, rest_of, Stands}
 
 small : (n : ℕ) → counted n < 18446744073709551616

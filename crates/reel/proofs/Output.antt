@@ -1,7 +1,7 @@
 -- The program's output, call by call: from a reel that a capture leads to, a call writes the front of what is still to be printed, and all
 -- of it where it ends; it uses bytes of its window only, and some where it has room for a line and a window that is the last or shows 178.
 use Rattle.std.specs.Prelude.{◌≡◌, ◌++◌, ◌+◌, ◌-◌, ◌≤◌, ◌<◌}
-use Rattle.laws.specs.Kit.{refl, sym, ap, subst, ◌∙◌, Bool, true, false, List, [], append-nil, ℕ, zero, suc, arith}
+use Rattle.laws.specs.Kit.{sym, ap, ◌∙◌, Bool, true, false, List, [], append-nil, ℕ, zero, suc, arith}
 use Rattle.laws.specs.Kit.{eqb, ltb, length, drop, length-drop, ltb-true, ℕ_discrete}
 use Rattle.laws.specs.Choose.{pick}
 use Rattle.laws.proofs.Choose.{pick_either, false_true}
@@ -16,7 +16,7 @@ use Rattle.timing.specs.declared.Rules.{Rules}
 use Rattle.timing.specs.Step.{rules_of}
 use Rattle.timing.specs.Range.{in_range}
 use Rattle.reel.specs.declared.Reel.{Reel}
-use Rattle.reel.specs.Step.{TakeOutcome, stays, ends, ahead_by, roll_by, take_of, at_packet, lines_at, rest_of, rest_by, Stands}
+use Rattle.reel.specs.Step.{TakeOutcome, ahead_by, roll_by, take_of, at_packet, lines_at, rest_of, rest_by, Stands}
 use Rattle.reel.proofs.Shown.{Inside, ahead_inside, Wanting, ahead_wants}
 use Rattle.reel.proofs.Carrying.{take_carries}
 

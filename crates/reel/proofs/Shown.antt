@@ -1,7 +1,7 @@
 -- What lies ahead lies within the window; more is wanted only of a window that is not the last, and that is used up or shows fewer than 178
 -- bytes. By what capture's Looking and InPieces say of one record, record by record.
 use Rattle.std.specs.Prelude.{◌≡◌, ◌+◌, ◌≤◌, ◌<◌}
-use Rattle.laws.specs.Kit.{refl, sym, ap, subst, ◌∙◌, Bool, true, false, List, [], ℕ, zero, suc, arith, length, drop, length-drop}
+use Rattle.laws.specs.Kit.{refl, Bool, false, List, [], ℕ, zero, suc, arith, length, drop}
 use Rattle.headers.specs.Step.{matter}
 use Rattle.capture.specs.declared.Setting.{Setting}
 use Rattle.capture.specs.declared.Cursor.{Cursor}

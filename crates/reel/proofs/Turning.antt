@@ -1,14 +1,13 @@
 -- One turn of a call: whatever ends what is left of the window, from the reel and the lines so far, ends the whole call (Loop). A packet
 -- that is taken (Here) is a turn of the measurement's one loop (timing's Running) with rows as lines; at all else the call stops.
-use Rattle.std.specs.Prelude.{◌≡◌, ◌∷◌, ◌++◌, ◌+◌, ◌-◌, ◌≤◌, ◌<◌}
+use Rattle.std.specs.Prelude.{◌≡◌, ◌∷◌, ◌+◌, ◌-◌, ◌≤◌, ◌<◌}
 use Rattle.laws.specs.Kit.{refl, sym, ap, subst, ◌∙◌, Bool, true, false, List, [], ℕ, zero, suc, arith}
 use Rattle.laws.specs.Kit.{length, take, drop, length-drop, length-append, length-sets, drop-drop, eqb, ltb, eq-eqb, ne_eqb, lt-ltb, le-ltb}
 use types.Run.{OneOf, miss}
 use denote.Enum.Declared.{tag_of}
 use Rattle.laws.specs.Choose.{pick}
-use Rattle.laws.proofs.Choose.{pick_either}
 use Rattle.laws.specs.Lay.{Put}
-use Rattle.laws.proofs.Lay.{put_length, sets_join, put_none}
+use Rattle.laws.proofs.Lay.{put_length, sets_join}
 use Rattle.packet.specs.declared.Packet as packet
 use Rattle.packet.specs.Step.{number_of}
 use Rattle.text.specs.Lines.{line_room, Line, refusal_line}
@@ -20,7 +19,7 @@ use Rattle.capture.specs.Step.{between, ahead_of}
 use Rattle.capture.proofs.Ways.{rest_all}
 use Rattle.timing.specs.declared.Rules.{Rules}
 use Rattle.timing.specs.declared.State.{State}
-use Rattle.timing.specs.Step.{rules_of, arrive_of, step_of}
+use Rattle.timing.specs.Step.{rules_of, arrive_of}
 use Rattle.timing.specs.Range.{in_range}
 use Rattle.timing.specs.Feed.{ArriveAsks, Going}
 use Rattle.timing.proofs.Running.{going_arrives, going_makes, going_closed, going_next, Turn}
@@ -29,7 +28,7 @@ use Rattle.printer.proofs.Turning.{as_lines}
 use Rattle.reel.specs.declared.Reel.{Reel}
 use Rattle.reel.specs.declared.TakeAnswer.{TakeAnswer}
 use Rattle.reel.specs.Paper.{counted}
-use Rattle.reel.specs.Step.{TakeOutcome, line_ahead, stays, ends, stops_at, and_then, at_packet, lines_at, packet_by, ahead_by, roll_by, roll_of, take_of}
+use Rattle.reel.specs.Step.{TakeOutcome, line_ahead, stays, ends, stops_at, and_then, at_packet, lines_at, ahead_by, roll_by, roll_of, take_of}
 use Rattle.reel.specs.Step.{AheadFits, TakeGives}
 use Rattle.reel.proofs.Shown.{Inside, ahead_inside}
 

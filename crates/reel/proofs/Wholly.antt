@@ -1,8 +1,8 @@
 -- What is printed of a capture, record by record, is what is printed of all its packets at once: the rows of those before the first refused, and
 -- the last line. By the records, one by one, beside the scan of the packets.
-use Rattle.std.specs.Prelude.{◌≡◌, ◌||◌, ◌∷◌, ◌++◌, ◌+◌, ◌-◌, ◌≤◌, ◌<◌}
-use Rattle.laws.specs.Kit.{refl, sym, ap, subst, ◌∙◌, Bool, true, false, List, [], append_assoc, ℕ, suc}
-use Rattle.laws.specs.Kit.{arith, eqb, leb, length, take, drop, le-leb, eq-eqb}
+use Rattle.std.specs.Prelude.{◌≡◌, ◌||◌, ◌∷◌, ◌++◌, ◌+◌, ◌-◌, ◌≤◌}
+use Rattle.laws.specs.Kit.{refl, sym, ap, ◌∙◌, Bool, true, false, List, [], append_assoc, ℕ, suc}
+use Rattle.laws.specs.Kit.{arith, eqb, length, take, drop, le-leb, eq-eqb}
 use Rattle.laws.specs.Choose.{pick}
 use Rattle.laws.specs.Fold.{fold}
 use Rattle.packet.specs.declared.Packet as packets

@@ -10,7 +10,6 @@ use Rattle.capture.specs.declared.Opened.{Opened}
 use Rattle.capture.specs.declared.Opened.TheVariants as opened
 use Rattle.capture.specs.declared.Ahead.{Ahead}
 use Rattle.capture.specs.declared.Ahead.TheVariants.{Packet, Wait, End, Refused}
-use Rattle.capture.specs.Paper.{header_bytes}
 use Rattle.capture.specs.Step.{opened_of, between, ahead_of, rest_from}
 use Rattle.timing.specs.declared.Rules.{Rules}
 use Rattle.timing.specs.declared.State.{State}

@@ -1,5 +1,5 @@
 -- What the C calls do with a file and lent bytes: by cases on what the file reads as.
-use Rattle.std.specs.Prelude.{◌≡◌, ◌++◌, ◌+◌, ◌*◌, ◌≤◌}
+use Rattle.std.specs.Prelude.{◌≡◌, ◌++◌, ◌*◌, ◌≤◌}
 use Rattle.laws.specs.Kit.{refl, sym, ap, ◌∙◌, Bool, true, false, List, map, append-nil, ℕ, arith, leb}
 use Rattle.laws.specs.Kit.{ℤ, pos, length, take, drop, sets, drop-length, length-append, le-leb, eqb}
 use Rattle.laws.specs.Choose.{pick}

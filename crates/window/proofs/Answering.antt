@@ -1,12 +1,11 @@
 -- A step's answer, over plain values: more is wanted, the last line is put, a stage begins, or a text was laid. By the front of what is laid.
 use Rattle.std.specs.Prelude.{◌≡◌, ◌+◌, ◌≤◌}
-use Rattle.laws.specs.Kit.{refl, sym, ap, subst, ◌∙◌, Bool, true, false, List, ℕ, arith, eqb, length, take, drop}
+use Rattle.laws.specs.Kit.{refl, ap, subst, ◌∙◌, Bool, true, false, List, ℕ, arith, eqb, length, take, drop}
 use Rattle.laws.specs.Kit.{sets, length-sets, take-append_seam}
 use Rattle.laws.proofs.Lay.{sets_front}
 use Rattle.laws.specs.Lay.{Put}
 use Rattle.laws.proofs.Lay.{put_length}
 use Rattle.window.specs.declared.Span.{Span}
-use Rattle.window.specs.declared.Told.{Told}
 use Rattle.window.specs.Step.{Did, StepGives, onward, waiting, refusing, going}
 
 -- the front of what a text was laid into is the text

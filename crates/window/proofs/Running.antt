@@ -1,6 +1,6 @@
 -- A run, by reads of any size: what was handed over is a front of the file's output, and all of it where the last line is out.
-use Rattle.std.specs.Prelude.{◌≡◌, ◌++◌, ◌+◌, ◌-◌, ◌≤◌}
-use Rattle.laws.specs.Kit.{refl, sym, ap, subst, ◌∙◌, Bool, true, false, List, [], append-nil, append_assoc, ℕ}
+use Rattle.std.specs.Prelude.{◌≡◌, ◌++◌, ◌+◌, ◌-◌}
+use Rattle.laws.specs.Kit.{sym, ap, ◌∙◌, Bool, true, false, List, [], append-nil, append_assoc, ℕ}
 use Rattle.laws.specs.Kit.{arith, length, take, drop, take-add}
 use Rattle.laws.proofs.Choose.{false_true}
 use Rattle.window.specs.declared.Span.{Span}
@@ -8,7 +8,7 @@ use Rattle.window.specs.declared.End.{End}
 use Rattle.window.specs.declared.End.TheVariants.{Whole, Unwritten, Unread, TurnsOver}
 use Rattle.window.specs.Step.{Fits, shown, onward, settled_of, grown, Machine, step_at}
 use Rattle.window.specs.Run.{ReadIn, came_in, Reaches, begins, steps, reads, Front, WholeOutput, RunEnds, whole, unwritten, unread, turns_over}
-use Rattle.window.proofs.Showing.{shown_size, onward_shown, used_fits}
+use Rattle.window.proofs.Showing.{onward_shown, used_fits}
 use Rattle.window.proofs.Keeping.{Keeps}
 
 module _ {S : Type 0} (m : Machine S) (line size : ℕ) (keeps : Keeps m line size) where

@@ -1,7 +1,6 @@
 -- A level above the peak is the new peak, and the answer is `judge`'s; any other leaves both as they were.
 use Rattle.std.specs.Prelude.{◌≡◌}
 use Rattle.laws.specs.Kit.{max, arith, lt-ltb, le-ltb}
-use borrow.Author.Rules.{rules}
 use Rattle.bucket.proofs.arrived.Goals as goal
 
 pub returns-then-peak-level : goal.returns-then-peak-level

@@ -1,5 +1,4 @@
 -- The answer by cases: a pass with a run above the limit is that burst, a burst stands.
-use borrow.Author.Rules.{rules}
 use Rattle.bucket.proofs.judge.Goals as goal
 
 pub returns-then-above : goal.returns-then-above

@@ -2,7 +2,6 @@
 use Rattle.laws.specs.Kit.{subst, arith}
 use Rattle.capture.specs.declared.Next.{Next}
 use Rattle.capture.specs.Step.{UsedFits, behind_by}
-use borrow.Author.Rules.{rules}
 use Rattle.capture.proofs.behind.Goals as goal
 
 pub overflow_add-result : goal.overflow_add-result

@@ -1,7 +1,6 @@
 -- The offset, the header, then the records.
-use Rattle.laws.specs.Kit.{refl, sym, ◌∙◌, arith}
+use Rattle.laws.specs.Kit.{refl, ◌∙◌, arith}
 use Rattle.capture.proofs.Checking.{header_known, header_unknown, check_offset, check_unknown, check_capture, capture_long}
-use borrow.Author.Rules.{rules}
 use borrow.Enum.Refused.{opened}
 use Rattle.capture.proofs.check.Goals as goal
 

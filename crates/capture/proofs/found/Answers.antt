@@ -1,7 +1,6 @@
 -- A packet, or none.
 use Rattle.capture.specs.Step.{found_of}
 use Rattle.capture.proofs.Seeking.{found_none}
-use borrow.Author.Rules.{rules}
 use borrow.Enum.Refused.{opened}
 use Rattle.capture.proofs.found.Goals as goal
 

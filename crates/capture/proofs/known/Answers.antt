@@ -5,7 +5,6 @@ use Rattle.endian.specs.declared.Order.TheVariants.{Little}
 use Rattle.capture.specs.Paper.{unknown, magic_by, header_of}
 use Rattle.capture.specs.Step.{opened_by}
 use Rattle.capture.proofs.Ways.{big_micro, big_nano, not_big, little_micro, little_nano, no_magic}
-use borrow.Author.Rules.{rules}
 use Rattle.capture.proofs.known.Goals as goal
 use Rattle.capture.proofs.known.Goals.{Else-big-2}
 

@@ -1,6 +1,5 @@
 -- The link type.
 use Rattle.capture.proofs.Ways.{link_other, link_ethernet}
-use borrow.Author.Rules.{rules}
 use Rattle.capture.proofs.linked.Goals as goal
 
 pub returns-then-read32_by-ne-ETHERNET : goal.returns-then-read32_by-ne-ETHERNET

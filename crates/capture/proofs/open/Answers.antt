@@ -1,7 +1,6 @@
 -- By the length, then by the header.
 use Rattle.laws.specs.Kit.{◌∙◌}
 use Rattle.capture.proofs.Ways.{open_short, open_yet, open_long}
-use borrow.Author.Rules.{rules}
 use Rattle.capture.proofs.open.Goals as goal
 
 pub returns-then-last : goal.returns-then-last

@@ -1,7 +1,6 @@
 -- Byte by byte, by the law of four bytes.
 use Rattle.endian.proofs.Width.{four_read}
 use Rattle.laws.specs.Kit.{arith}
-use borrow.Author.Rules.{rules}
 use Rattle.endian.proofs.four.Goals as goal
 
 pub returns : goal.returns

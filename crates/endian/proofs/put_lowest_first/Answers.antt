@@ -1,6 +1,5 @@
 -- Four bytes, the lowest first, are the number's bytes the other way round.
 use Rattle.laws.specs.Kit.{arith, length-set}
-use borrow.Author.Rules.{rules}
 use Rattle.endian.proofs.Turning.{lowest_first}
 use Rattle.endian.proofs.put_lowest_first.Goals as goal
 

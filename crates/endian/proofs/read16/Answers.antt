@@ -1,5 +1,4 @@
 -- Two bytes are one number: each byte is a number of width 1.
-use borrow.Author.Rules.{rules}
 use Rattle.endian.proofs.Width.{halves_read, number_byte}
 use Rattle.endian.proofs.read16.Goals as goal
 

@@ -1,5 +1,4 @@
 -- Two bytes in the order that is named, by the law of halves for both orders: each byte is a number of width 1.
-use borrow.Author.Rules.{rules}
 use Rattle.endian.specs.declared.Order.TheVariants.{Big, Little}
 use Rattle.endian.proofs.EitherOrder.{byte_by, halves_by}
 use Rattle.endian.proofs.read16_by.Goals as goal

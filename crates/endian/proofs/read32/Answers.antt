@@ -1,5 +1,4 @@
 -- Two numbers of two bytes are one of four, by the law of halves.
-use borrow.Author.Rules.{rules}
 use Rattle.endian.proofs.Width.{halves_read}
 use Rattle.endian.proofs.read32.Goals as goal
 

@@ -1,5 +1,4 @@
 -- What was read the highest byte first is turned for the little order.
-use borrow.Author.Rules.{rules}
 use Rattle.endian.proofs.EitherOrder.{little_by, big_by}
 use Rattle.endian.proofs.read32_by.Goals as goal
 

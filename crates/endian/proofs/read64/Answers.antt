@@ -1,6 +1,5 @@
 -- Two numbers of four bytes are one of eight, by the law of halves.
 use Rattle.endian.proofs.Width.{halves_read}
-use borrow.Author.Rules.{rules}
 use Rattle.endian.proofs.read64.Goals as goal
 
 pub returns : goal.returns

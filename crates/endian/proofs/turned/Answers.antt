@@ -1,6 +1,5 @@
 -- Four bytes in a new order are a number of four bytes.
 use Rattle.laws.specs.Kit.{arith}
-use borrow.Author.Rules.{rules}
 use Rattle.endian.proofs.Turning.{four_small, turned_is}
 use Rattle.endian.proofs.turned.Goals as goal
 

@@ -1,6 +1,5 @@
 -- Eight bytes turned are two fours turned.
 use Rattle.laws.specs.Kit.{arith}
-use borrow.Author.Rules.{rules}
 use Rattle.endian.proofs.Turning.{halves_turned}
 use Rattle.endian.proofs.turned64.Goals as goal
 

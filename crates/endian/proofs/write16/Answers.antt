@@ -1,6 +1,5 @@
 -- One number is two bytes, stored one after the other.
 use Rattle.laws.specs.Kit.{arith, length-set}
-use borrow.Author.Rules.{rules}
 use Rattle.endian.proofs.Width.{two_stored}
 use Rattle.endian.proofs.write16.Goals as goal
 

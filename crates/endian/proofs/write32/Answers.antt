@@ -1,6 +1,5 @@
 -- Turned, and stored with the lowest byte first: the highest stands first.
 use Rattle.laws.specs.Kit.{arith}
-use borrow.Author.Rules.{rules}
 use Rattle.endian.proofs.Turning.{four_stored}
 use Rattle.endian.proofs.write32.Goals as goal
 

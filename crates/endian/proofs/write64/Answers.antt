@@ -1,6 +1,5 @@
 -- Turned, and stored by halves with the lowest byte first: the highest stands first.
 use Rattle.laws.specs.Kit.{arith}
-use borrow.Author.Rules.{rules}
 use Rattle.endian.proofs.Turning.{eight_stored}
 use Rattle.endian.proofs.write64.Goals as goal
 

@@ -1,7 +1,6 @@
 -- Set-up first, then the capture.
 use Rattle.laws.specs.Kit.{sym, ◌∙◌}
 use Rattle.film.proofs.Filming.{check_set_up, check_then}
-use borrow.Author.Rules.{rules}
 use Rattle.film.proofs.check_capture.Goals as goal
 
 pub returns-then-number-ne0 : goal.returns-then-number-ne0

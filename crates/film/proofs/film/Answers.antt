@@ -2,7 +2,6 @@
 use Rattle.capture.proofs.Checking.{header_known, header_unknown}
 use Rattle.intake.proofs.Reading.{packets_known, packets_unknown, asks_same, gives_same}
 use Rattle.film.proofs.Filming.{film_none}
-use borrow.Author.Rules.{rules}
 use borrow.Enum.Refused.{opened}
 use Rattle.film.proofs.film.Goals as goal
 

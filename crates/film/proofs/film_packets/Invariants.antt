@@ -1,15 +1,12 @@
 -- What is left of the packets, from the state and the bytes so far, gives what the whole gives (Loop of timing's Running): each need is one
 -- law of it, and the packet that was sought is the first of what is left (capture's Seeking).
-use Rattle.std.specs.Prelude.{◌≡◌, ◌-◌}
-use Rattle.laws.specs.Kit.{sym, ◌∙◌, arith, length, drop}
-use borrow.Author.Rules.{rules}
+use Rattle.std.specs.Prelude.{◌-◌}
+use Rattle.laws.specs.Kit.{length, drop}
 use Rattle.capture.specs.Paper.{header_bytes}
 use Rattle.capture.specs.Step.{handed_in}
-use Rattle.capture.proofs.Seeking.{sought_cons, sought_none}
-use Rattle.timing.proofs.Running.{Loop, loop_begins, loop_next, loop_ends, loop_arrives, loop_lays, loop_closed, turn_marked, turn_plain}
+use Rattle.timing.proofs.Running.{Loop}
 use Rattle.film.specs.Step.{eleven_bytes}
 use Rattle.report.proofs.Bytes.{as_bytes}
-use Rattle.film.proofs.Filming.{film_begins, film_ends}
 use Rattle.film.proofs.film_packets.Given as goal
 
 abbrev pub invariant-loop-packet : goal.invariant-loop-packet

@@ -3,7 +3,6 @@ use Rattle.laws.specs.Kit.{sym, ap, arith, length, length-sets}
 use Rattle.report.specs.Paper.{Answer}
 use Rattle.film.proofs.Filming.{weighed_answer_lem, weighed_enough, enough_asks, enough_long, filmed_in_range, refused_leaves, film_filled}
 use Rattle.film.proofs.Filming.{stated_asks, stated_gives}
-use borrow.Author.Rules.{rules}
 use Rattle.film.proofs.vtiming_capture.Goals as goal
 
 pub film-s-requires : goal.film-s-requires

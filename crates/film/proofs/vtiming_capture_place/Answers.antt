@@ -2,7 +2,6 @@
 use Rattle.laws.specs.Kit.{sym, ap}
 use Rattle.report.specs.Paper.{Answer}
 use Rattle.film.proofs.Filming.{weighed_answer_lem}
-use borrow.Author.Rules.{rules}
 use Rattle.film.proofs.vtiming_capture_place.Goals as goal
 
 pub returns-in-Fine : goal.returns-in-Fine

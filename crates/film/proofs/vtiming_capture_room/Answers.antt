@@ -1,7 +1,6 @@
 -- The check's count of frames is how long the report is; at most 1,000,000,000 of them, so that nothing overflows (Filming).
 use Rattle.laws.specs.Kit.{arith}
 use Rattle.film.proofs.Filming.{room_refused, room_fine, few_closed}
-use borrow.Author.Rules.{rules}
 use Rattle.film.proofs.vtiming_capture_room.Goals as goal
 
 pub overflow_mul-result : goal.overflow_mul-result

@@ -1,7 +1,6 @@
 -- The check's answer, and then the room: each return is one law (Filming).
 use Rattle.laws.specs.Kit.{sym, ◌∙◌}
 use Rattle.film.proofs.Filming.{weighed_refused, weighed_fine, weighed_15}
-use borrow.Author.Rules.{rules}
 use Rattle.film.proofs.weigh.Goals as goal
 
 pub returns-then-fits : goal.returns-then-fits

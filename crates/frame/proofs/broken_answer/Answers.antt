@@ -1,6 +1,5 @@
 -- By what the edition says.
 use Rattle.laws.specs.Kit.{sym, ◌∙◌}
-use borrow.Author.Rules.{rules}
 use Rattle.frame.proofs.broken_answer.Goals as goal
 
 pub returns-then-broken_fails : goal.returns-then-broken_fails

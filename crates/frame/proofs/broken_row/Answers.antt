@@ -2,7 +2,6 @@
 use Rattle.laws.specs.Kit.{arith}
 use mir.Syntax.{w64}
 use mir.Facts.{to_z_pos}
-use borrow.Author.Rules.{rules}
 use Rattle.frame.proofs.broken_row.Goals as goal
 
 pub returns : goal.returns

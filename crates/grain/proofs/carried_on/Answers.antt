@@ -1,7 +1,6 @@
 -- No read comes by before read 0; else so many as are not left of two, or as are divided out.
 use Rattle.std.specs.Prelude.{◌-◌}
 use Rattle.laws.specs.Kit.{arith, leb-true}
-use borrow.Author.Rules.{rules}
 use Rattle.grain.proofs.Carried.{taken_off, twice_off, reads_are, reads_near, up_low, up_high, up_small}
 use Rattle.grain.proofs.carried_on.Goals as goal
 

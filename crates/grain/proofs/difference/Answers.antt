@@ -4,7 +4,6 @@ use Rattle.laws.specs.Kit.{sym, ap, ◌∙◌, arith, negsuc}
 use mir.Syntax.{w64}
 use mir.Facts.{to_z_pos}
 use Rattle.grain.proofs.SignedRange.{below_zero, not_below, negative_fits, negative_is}
-use borrow.Author.Rules.{rules}
 use Rattle.grain.proofs.difference.Goals as goal
 
 pub overflow_sub-result-else-b-a : goal.overflow_sub-result-else-b-a

@@ -1,6 +1,5 @@
 -- Two num's taken off leave less than num, or x is divided out.
 use Rattle.laws.specs.Kit.{arith}
-use borrow.Author.Rules.{rules}
 use Rattle.grain.proofs.Carried.{divided_is, twice_off}
 use Rattle.grain.proofs.divided.Goals as goal
 

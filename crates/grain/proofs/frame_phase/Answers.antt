@@ -2,7 +2,6 @@
 use Rattle.laws.specs.Kit.{arith, mod-lt, ℕ, ap, ◌∙◌}
 use Rattle.grain.specs.Paper.{grains, phase}
 use Rattle.grain.proofs.Rounding.{phase_rest}
-use borrow.Author.Rules.{rules}
 use Rattle.grain.proofs.frame_phase.Goals as goal
 
 pub phase_of_rest-requires : goal.phase_of_rest-requires

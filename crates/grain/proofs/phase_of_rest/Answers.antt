@@ -1,7 +1,6 @@
 -- A period more where what is past is below half of one: then the nearest start is the one before. What is past is its own rest.
 use Rattle.laws.specs.Kit.{arith, mod-eq_of_lt}
 use Rattle.grain.proofs.Rounding.{phase_down, phase_up}
-use borrow.Author.Rules.{rules}
 use Rattle.grain.proofs.phase_of_rest.Goals as goal
 
 pub returns-then-past-left : goal.returns-then-past-left

@@ -1,6 +1,5 @@
 -- What is carried on, and the next of n reads by the count: one is left, or none is.
 use Rattle.grain.proofs.Carried.{reads_left, reads_over}
-use borrow.Author.Rules.{rules}
 use Rattle.grain.proofs.reads_on.Goals as goal
 
 pub returns-then-on-n : goal.returns-then-on-n

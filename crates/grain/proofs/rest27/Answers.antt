@@ -2,7 +2,6 @@
 use Rattle.laws.specs.Kit.{arith, mod-lt}
 use Rattle.grain.specs.Paper.{nanosecond}
 use Rattle.grain.proofs.WideDivision.{remainder}
-use borrow.Author.Rules.{rules}
 use Rattle.grain.proofs.rest27.Goals as goal
 
 pub overflow_mul-part : goal.overflow_mul-part

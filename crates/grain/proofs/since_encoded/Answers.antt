@@ -2,7 +2,6 @@
 use Rattle.laws.specs.Kit.{arith}
 use Rattle.grain.specs.Paper.{grains}
 use Rattle.grain.proofs.EncodedTime.{rest_after}
-use borrow.Author.Rules.{rules}
 use Rattle.grain.proofs.since_encoded.Goals as goal
 
 pub returns-then-ticks-past : goal.returns-then-ticks-past

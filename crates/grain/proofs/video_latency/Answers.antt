@@ -4,7 +4,6 @@ use mir.Syntax.{w64}
 use mir.Facts.{to_z-of_z}
 use Rattle.grain.specs.Paper.{grains, wrap, phase}
 use Rattle.grain.proofs.EncodedTime.{turn_small, turn_is}
-use borrow.Author.Rules.{rules}
 use Rattle.grain.proofs.video_latency.Goals as goal
 
 pub difference-requires : goal.difference-requires

@@ -1,5 +1,4 @@
 -- The room, then the type.
-use borrow.Author.Rules.{rules}
 use Rattle.headers.proofs.Fitting.{ether_short, ether_there}
 use Rattle.headers.proofs.ether_fits.Goals as goal
 

@@ -1,7 +1,5 @@
 -- The room, then the extension's own length.
-use borrow.Author.Rules.{rules}
-use Rattle.std.specs.Prelude.{◌≡◌}
-use Rattle.laws.specs.Kit.{sym, ap, ◌∙◌}
+use Rattle.laws.specs.Kit.{◌∙◌}
 use Rattle.headers.proofs.Fitting.{extension_short, extension_there}
 use Rattle.headers.proofs.extension_fits.Goals as goal
 

@@ -1,5 +1,4 @@
 -- The plain frame at once (AtOnce), and any other header by header.
-use borrow.Author.Rules.{rules}
 use Rattle.laws.specs.Kit.{sym, ◌∙◌, arith}
 use Rattle.headers.proofs.AtOnce.{plain_room, plain_handed}
 use Rattle.headers.proofs.hand_on_front.Goals as goal

@@ -1,8 +1,6 @@
 -- By the type.
-use borrow.Author.Rules.{rules}
 use Rattle.laws.specs.Kit.{arith}
-use Rattle.std.specs.Prelude.{◌≡◌}
-use Rattle.laws.specs.Kit.{sym, ap, ◌∙◌}
+use Rattle.laws.specs.Kit.{sym, ◌∙◌}
 use Rattle.headers.proofs.Fitting.{behind_tag, no_tag}
 use Rattle.headers.proofs.ip_at.Goals as goal
 

@@ -1,5 +1,4 @@
 -- The room, the version, the words, the fragment, the protocol: one law each (Fitting).
-use borrow.Author.Rules.{rules}
 use Rattle.headers.proofs.Fitting.{ip_short, ip_version, ip_words, ip_fragment, ip_protocol}
 use Rattle.headers.proofs.ip_fits.Goals as goal
 

@@ -1,5 +1,4 @@
 -- The room, then all tests in one.
-use borrow.Author.Rules.{rules}
 use Rattle.headers.proofs.AtOnce.{plain_short, plain_there}
 use Rattle.headers.proofs.plain.Goals as goal
 

@@ -1,8 +1,6 @@
 -- The room, the version, the contributors, the extension: one law each (Fitting).
-use borrow.Author.Rules.{rules}
 use Rattle.laws.specs.Kit.{arith}
-use Rattle.std.specs.Prelude.{◌≡◌}
-use Rattle.laws.specs.Kit.{sym, ap, ◌∙◌}
+use Rattle.laws.specs.Kit.{◌∙◌}
 use Rattle.headers.proofs.Fitting.{rtp_short, rtp_version, rtp_contributors, rtp_plain, rtp_extended}
 use Rattle.headers.proofs.rtp_fits.Goals as goal
 

@@ -1,5 +1,4 @@
 -- The room, then the port.
-use borrow.Author.Rules.{rules}
 use Rattle.headers.proofs.Fitting.{udp_short, udp_there}
 use Rattle.headers.proofs.udp_fits.Goals as goal
 

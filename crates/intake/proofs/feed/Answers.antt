@@ -1,7 +1,6 @@
 -- The call by its branches: 9, the check's refusal, 15, or the run (Taking).
 use Rattle.laws.specs.Kit.{sym, ◌∙◌, arith, not-true, not-false}
 use Rattle.intake.proofs.Taking.{taken_9, taken_refused, taken_15, counted, runs, taken}
-use borrow.Author.Rules.{rules}
 use Rattle.intake.proofs.feed.Goals as goal
 
 pub returns-then-not-in_range : goal.returns-then-not-in_range

@@ -1,7 +1,6 @@
 -- The header, then the packets behind it; where it is unknown there are none.
 use Rattle.capture.proofs.Checking.{header_known, header_unknown}
 use Rattle.intake.proofs.Reading.{packets_known, packets_unknown, runs_none, asks_same, gives_same}
-use borrow.Author.Rules.{rules}
 use borrow.Enum.Refused.{opened}
 use Rattle.intake.proofs.run.Goals as goal
 

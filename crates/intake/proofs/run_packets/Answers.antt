@@ -1,12 +1,10 @@
 -- What is left of the packets, run from the state and the rows so far, gives what the whole gives (Loop of timing's Running): each need is
 -- one law of it, and the packet that was sought is the first of what is left (Seeking).
-use Rattle.std.specs.Prelude.{◌≡◌, ◌∷◌, ◌-◌, ◌≤◌, ◌<◌}
+use Rattle.std.specs.Prelude.{◌≡◌, ◌∷◌, ◌≤◌, ◌<◌}
 use Rattle.laws.specs.Kit.{sym, ◌∙◌, arith, length, drop}
-use borrow.Author.Rules.{rules}
-use Rattle.capture.specs.Paper.{header_bytes}
 use Rattle.capture.specs.Step.{handed_in}
 use Rattle.capture.proofs.Seeking.{sought_cons, sought_none}
-use Rattle.timing.proofs.Running.{Loop, loop_begins, loop_next, loop_ends, loop_arrives, loop_lays, loop_closed, turn_marked, turn_plain}
+use Rattle.timing.proofs.Running.{loop_begins, loop_next, loop_ends, loop_arrives, loop_lays, loop_closed, turn_marked, turn_plain}
 use Rattle.timing.proofs.Sink.{as_numbers}
 use Rattle.intake.proofs.run_packets.Goals as goal
 use Rattle.intake.proofs.run_packets.Goals.{In-Packet}

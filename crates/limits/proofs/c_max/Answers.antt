@@ -2,7 +2,6 @@
 use Rattle.laws.specs.Kit.{refl, ap, ◌∙◌, max}
 use Rattle.limits.specs.Paper.{c_max, active_ratio}
 use Rattle.limits.proofs.Laws.{c_max_told}
-use borrow.Author.Rules.{rules}
 use Rattle.limits.proofs.c_max.Goals as goal
 
 pub returns-in-Narrow : goal.returns-in-Narrow

@@ -1,7 +1,6 @@
 -- The class is known in each arm.
 use Rattle.laws.specs.Kit.{refl}
 use Rattle.limits.proofs.Laws.{class_fits_told}
-use borrow.Author.Rules.{rules}
 use Rattle.limits.proofs.class_fits.Goals as goal
 
 pub returns-in-Narrow : goal.returns-in-Narrow

@@ -1,7 +1,6 @@
 -- Each code looked up in the table of its schedule; a code past its end is unknown.
 use Rattle.std.specs.Prelude.{◌≡◌}
 use Rattle.laws.specs.Kit.{sym, ap, ◌∙◌, ℕ, zero-le}
-use borrow.Author.Rules.{rules}
 use Rattle.limits.specs.Paper.{class_of}
 use Rattle.limits.proofs.Laws.{above, past_classes}
 use Rattle.limits.proofs.class_of.Goals as goal

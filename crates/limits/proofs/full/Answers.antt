@@ -1,6 +1,5 @@
 -- Both INTs are those of document 01; R = 1 drops out of the second.
 use Rattle.limits.proofs.Laws.{ratio, linear_limit}
-use borrow.Author.Rules.{rules}
 use Rattle.limits.proofs.full.Goals as goal
 
 pub returns : goal.returns

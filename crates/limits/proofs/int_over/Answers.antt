@@ -1,7 +1,6 @@
 -- One division after another is the division by the whole product; the bounds keep each product within 64 bits.
 use Rattle.laws.specs.Kit.{arith}
 use Rattle.limits.proofs.Laws.{product_small, all_small, limit}
-use borrow.Author.Rules.{rules}
 use Rattle.limits.proofs.int_over.Goals as goal
 
 pub overflow_mul-all : goal.overflow_mul-all

@@ -2,7 +2,6 @@
 use Rattle.laws.specs.Kit.{sym, ◌∙◌, arith}
 use Rattle.limits.specs.Paper.{packets_fit}
 use Rattle.limits.proofs.Periods.{periods_some}
-use borrow.Author.Rules.{rules}
 use Rattle.limits.proofs.packets_fit.Goals as goal
 
 pub nonzero_rem-result : goal.nonzero_rem-result

@@ -1,7 +1,6 @@
 -- By the one question.
 use Rattle.laws.specs.Kit.{sym, ◌∙◌}
 use Rattle.limits.specs.Paper.{profile_refusal}
-use borrow.Author.Rules.{rules}
 use Rattle.limits.proofs.profile_refusal.Goals as goal
 
 pub returns-then-is_profile : goal.returns-then-is_profile

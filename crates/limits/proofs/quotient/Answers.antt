@@ -1,7 +1,6 @@
 -- A division by nothing is 0 on both sides.
 use Rattle.std.specs.Prelude.{◌/◌}
 use Rattle.laws.specs.Kit.{sym, ap, ◌∙◌, div-zero, ℕ}
-use borrow.Author.Rules.{rules}
 use Rattle.limits.proofs.quotient.Goals as goal
 
 pub returns-then-b-eq0 : goal.returns-then-b-eq0

@@ -1,7 +1,6 @@
 -- R has a denominator of at most 25.
 use Rattle.laws.specs.Kit.{arith, mul-le-mul_right}
 use Rattle.limits.proofs.Laws.{den_small}
-use borrow.Author.Rules.{rules}
 use Rattle.limits.proofs.read_den.Goals as goal
 
 pub overflow_mul-result : goal.overflow_mul-result

@@ -1,7 +1,6 @@
 -- R has a numerator of at most 24.
 use Rattle.laws.specs.Kit.{arith, mul-le-mul_right}
 use Rattle.limits.proofs.Laws.{num_small}
-use borrow.Author.Rules.{rules}
 use Rattle.limits.proofs.read_num.Goals as goal
 
 pub overflow_mul-result : goal.overflow_mul-result

@@ -3,7 +3,6 @@ use Rattle.std.specs.Prelude.{◌*◌, ◌≤◌}
 use Rattle.laws.specs.Kit.{arith, mul-le-mul}
 use Rattle.limits.specs.Paper.{tro_fits, microsecond}
 use Rattle.limits.proofs.Periods.{periods_few}
-use borrow.Author.Rules.{rules}
 use Rattle.limits.proofs.tro_fits.Goals as goal
 
 pub overflow_mul-result-2 : goal.overflow_mul-result-2

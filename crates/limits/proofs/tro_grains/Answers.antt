@@ -2,7 +2,6 @@
 use Rattle.laws.specs.Kit.{eq-eqb, ne_eqb, le-leb, lt-leb}
 use Rattle.limits.specs.Paper.{tro_grains, default_tro}
 use Rattle.limits.proofs.Laws.{share}
-use borrow.Author.Rules.{rules}
 use Rattle.limits.proofs.tro_grains.Goals as goal
 
 pub returns-then-tro-ne-DEFAULT_TRO : goal.returns-then-tro-ne-DEFAULT_TRO

@@ -2,7 +2,6 @@
 use Rattle.laws.specs.Kit.{refl}
 use Rattle.limits.specs.Paper.{vrx_full}
 use Rattle.limits.proofs.Laws.{vrx_full_told}
-use borrow.Author.Rules.{rules}
 use Rattle.limits.proofs.vrx_full.Goals as goal
 
 pub returns-in-Narrow : goal.returns-in-Narrow

@@ -5,7 +5,6 @@ use Rattle.record.specs.declared.FileNumbers.{FileNumbers}
 use Rattle.record.specs.declared.Cursor.{Cursor}
 use Rattle.printer.specs.Step.{ready_of}
 use Rattle.printer.proofs.Answers.{begins}
-use borrow.Author.Rules.{rules}
 use Rattle.printer.proofs.begin.Goals as goal
 
 ready_alike : {x y : FileNumbers} (c : Cursor) → x ≡ y → ready_of x c ≡ ready_of y c

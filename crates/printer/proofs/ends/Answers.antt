@@ -1,6 +1,5 @@
 -- Anything but More ends the reading.
 use Rattle.printer.proofs.Answers.{ends_not_more}
-use borrow.Author.Rules.{rules}
 use borrow.Enum.Refused.{opened}
 use Rattle.printer.proofs.ends.Goals as goal
 

@@ -1,6 +1,5 @@
 -- Where the lead-in is over the row is made and its line put; else nothing is.
 use Rattle.printer.proofs.Answers.{line_is, line_none, row_line_lem, no_row}
-use borrow.Author.Rules.{rules}
 use Rattle.printer.proofs.put_closed.Goals as goal
 
 pub row-requires : goal.row-requires

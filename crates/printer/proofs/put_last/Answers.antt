@@ -3,7 +3,6 @@ use Rattle.laws.specs.Kit.{sym, ap, ◌∙◌}
 use Rattle.record.specs.declared.Next.{Next}
 use Rattle.printer.specs.Step.{line_of}
 use Rattle.printer.proofs.Answers.{last_sum, last_none, line_is, line_none}
-use borrow.Author.Rules.{rules}
 use borrow.Enum.Refused.{opened}
 use Rattle.printer.proofs.put_last.Goals as goal
 

@@ -1,6 +1,5 @@
 -- The line is that of the verdict which the state was asked for, whichever case it is.
 use Rattle.laws.specs.Kit.{sym, ap, subst, ◌∙◌, List, ℕ}
-use borrow.Author.Rules.{rules}
 use Rattle.text.specs.Lines.{Line}
 use Rattle.printer.specs.Paper.{judged_line}
 use Rattle.printer.proofs.put_sum.Goals as goal

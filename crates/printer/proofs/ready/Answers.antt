@@ -1,6 +1,5 @@
 -- Set-up answers a fresh state or a refusal, and each is handed on.
 use Rattle.printer.specs.Step.{ready_of}
-use borrow.Author.Rules.{rules}
 use Rattle.printer.proofs.ready.Goals as goal
 
 pub returns-in-Fresh : goal.returns-in-Fresh

@@ -1,5 +1,4 @@
 -- The answer by its contract, every other number by its word.
-use borrow.Author.Rules.{rules}
 use Rattle.probe.proofs.bucket_in.Goals as goal
 
 pub returns : goal.returns

@@ -1,5 +1,4 @@
 -- The open frame and the answer by their contracts, every other number by its word.
-use borrow.Author.Rules.{rules}
 use Rattle.probe.proofs.frames_in.Goals as goal
 
 pub returns : goal.returns

@@ -1,7 +1,6 @@
 -- What is left of the numbers, laid from the next place on, gives the end; each turn lays one.
-use Rattle.std.specs.Prelude.{◌≡◌, ◌+◌, ◌-◌, ◌≤◌}
-use Rattle.laws.specs.Kit.{refl, ◌∙◌, arith, zero-add, length, drop, length-set, sets}
-use borrow.Author.Rules.{rules}
+use Rattle.std.specs.Prelude.{◌+◌}
+use Rattle.laws.specs.Kit.{refl, ◌∙◌, arith, zero-add, length-set}
 use Rattle.laws.proofs.Lay.{sets_turn, sets_done}
 use Rattle.probe.proofs.lay.Goals as goal
 

@@ -1,8 +1,6 @@
 -- What is left of the numbers, laid from the next place on, gives the end; each turn lays one.
-use Rattle.std.specs.Prelude.{◌≡◌, ◌+◌, ◌-◌, ◌≤◌}
-use Rattle.laws.specs.Kit.{refl, ◌∙◌, arith, zero-add, length, drop, length-set, sets}
-use borrow.Author.Rules.{rules}
-use Rattle.laws.proofs.Lay.{sets_turn, sets_done}
+use Rattle.std.specs.Prelude.{◌≡◌, ◌-◌, ◌≤◌}
+use Rattle.laws.specs.Kit.{length, drop, sets}
 use Rattle.probe.proofs.lay.Given as goal
 
 abbrev pub invariant-loop-k : goal.invariant-loop-k

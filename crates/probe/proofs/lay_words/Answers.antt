@@ -1,5 +1,4 @@
 -- The words that `words_of` gives, laid.
-use borrow.Author.Rules.{rules}
 use Rattle.probe.proofs.lay_words.Goals as goal
 
 pub returns : goal.returns

@@ -1,5 +1,4 @@
 -- The profile by its contract, every other number by its word.
-use borrow.Author.Rules.{rules}
 use Rattle.probe.proofs.numbers_in.Goals as goal
 
 pub returns : goal.returns

@@ -1,7 +1,6 @@
 -- Too few words; then by the comparison of the words with those of what they are read as.
 use Rattle.laws.specs.Kit.{sym}
 use Rattle.probe.proofs.RoundTrip.{too_few, held_known, held_nothing}
-use borrow.Author.Rules.{rules}
 use Rattle.probe.proofs.read.Goals as goal
 
 pub returns-then-words-lt-WORDS : goal.returns-then-words-lt-WORDS

@@ -1,9 +1,7 @@
 -- The rest of the two, from where the loop is, is alike exactly where the whole is.
-use Rattle.std.specs.Prelude.{◌≡◌, ◌-◌, ◌≤◌}
-use Rattle.laws.specs.Kit.{refl, sym, ◌∙◌, arith, length, drop}
-use Rattle.probe.specs.Words as words
+use Rattle.std.specs.Prelude.{◌≡◌}
+use Rattle.laws.specs.Kit.{refl, sym, ◌∙◌, arith, length}
 use Rattle.probe.proofs.Alike.{unequal, alike_here, differ_here, alike_ends}
-use borrow.Author.Rules.{rules}
 use Rattle.probe.proofs.same.Goals as goal
 
 pub returns-then-a-b : goal.returns-then-a-b

@@ -1,5 +1,4 @@
 -- The parts by their contracts, every other number by its word.
-use borrow.Author.Rules.{rules}
 use Rattle.probe.specs.Words.{state_in}
 use Rattle.probe.proofs.state_in.Goals as goal
 

@@ -1,6 +1,5 @@
 -- The verdict of a state in range is the state's two answers, and the nine numbers are laid; there is no other case (timing's Answering).
 use Rattle.laws.specs.Kit.{sym, ap, ◌∙◌, List, ℕ, sets}
-use borrow.Author.Rules.{rules}
 use Rattle.timing.specs.declared.Verdict.{Verdict}
 use Rattle.timing.specs.Answers.{summary_with}
 use Rattle.timing.proofs.Answering.{verdict_is, verdict_there}

@@ -1,5 +1,4 @@
 -- Each number by its contract.
-use borrow.Author.Rules.{rules}
 use Rattle.probe.proofs.verdict_words.Goals as goal
 
 pub returns : goal.returns

@@ -1,7 +1,6 @@
 -- The place of what is asked.
 use Rattle.laws.specs.Kit.{ap}
 use Rattle.probe.specs.declared.Answer.{Answer}
-use borrow.Author.Rules.{rules}
 use Rattle.probe.proofs.vtiming_feed_place.Goals as goal
 
 pub returns : goal.returns

@@ -2,7 +2,6 @@
 use Rattle.laws.specs.Kit.{sym, ap, ◌∙◌, arith}
 use Rattle.timing.specs.Step.{fresh_of}
 use Rattle.probe.proofs.Calls.{not_set_up, no_room, set_up}
-use borrow.Author.Rules.{rules}
 use Rattle.probe.proofs.vtiming_set_up.Goals as goal
 
 pub returns-then-number-ne0 : goal.returns-then-number-ne0

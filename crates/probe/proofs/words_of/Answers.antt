@@ -1,7 +1,6 @@
 -- The answers, the flag and the profile's kind by their contracts, every other number as itself.
 use Rattle.laws.specs.Kit.{arith}
 use Rattle.probe.specs.Words.{words_of}
-use borrow.Author.Rules.{rules}
 use Rattle.probe.proofs.words_of.Goals as goal
 
 pub overflow_cast-result-10 : goal.overflow_cast-result-10

@@ -1,5 +1,5 @@
 -- The start of the file by its answer.
-use Rattle.laws.specs.Kit.{ℕ, sym, ap, subst, ◌∙◌, arith, length}
+use Rattle.laws.specs.Kit.{sym, ap, subst, ◌∙◌, arith, length}
 use Rattle.record.specs.Paper.{head_bytes}
 use Rattle.printer.specs.declared.Opened.{Opened}
 use Rattle.printer.specs.Step.{Headed}
@@ -9,7 +9,6 @@ use Rattle.window.proofs.Showing.{used_fits}
 use Rattle.window.proofs.Answering.{answers_waiting, answers_refusing, answers_going}
 use Rattle.pump.specs.declared.Stage.TheVariants.{Head, Walking}
 use Rattle.pump.specs.Step.{open_move}
-use borrow.Author.Rules.{rules}
 use Rattle.pump.proofs.open.Goals as goal
 
 pub past-requires : goal.past-requires

@@ -4,7 +4,6 @@ use Rattle.printer.proofs.Inside.{take_inside}
 use Rattle.window.specs.Step.{shown}
 use Rattle.window.proofs.Showing.{used_fits}
 use Rattle.pump.proofs.Stepping.{walked_on}
-use borrow.Author.Rules.{rules}
 use Rattle.pump.proofs.walk_on.Goals as goal
 
 pub past-requires : goal.past-requires

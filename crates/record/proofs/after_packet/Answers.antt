@@ -1,5 +1,4 @@
 -- A sum that may wrap, as the definition says.
-use Rattle.std.proofs.Common.{rules}
 use Rattle.record.proofs.after_packet.Goals as goal
 
 pub returns : goal.returns

@@ -1,7 +1,6 @@
 -- A whole file: its head, and its packets, each by the law of its answer.
 use Rattle.laws.specs.Kit.{sym, ◌∙◌, arith}
 use Rattle.record.proofs.Opening.{opens_not, opens_refused, opens_fine}
-use Rattle.std.proofs.Common.{rules}
 use borrow.Enum.Refused.{opened}
 use Rattle.record.proofs.check.Goals as goal
 

@@ -1,7 +1,6 @@
 -- The packets of a file: what a run that is admitted says, and else the walk over the records.
 use Rattle.std.specs.Prelude.{◌≡◌, ◌+◌, ◌*◌, ◌≤◌, ◌<◌}
 use Rattle.laws.specs.Kit.{sym, ap, subst, ◌∙◌, List, ℕ, arith, length, drop, length-drop}
-use Rattle.std.proofs.Common.{rules}
 use Rattle.record.specs.Paper.{packet_bytes}
 use Rattle.record.specs.Walk.{records_left}
 use Rattle.record.specs.declared.Checked.TheVariants.{Fine}

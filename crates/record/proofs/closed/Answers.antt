@@ -1,7 +1,6 @@
 -- Where reading stops: by which answer it was.
 use Rattle.record.specs.Walk.{closing}
 use Rattle.record.proofs.Walking.{closing_fine}
-use Rattle.std.proofs.Common.{rules}
 use borrow.Enum.Refused.{opened}
 use Rattle.record.proofs.closed.Goals as goal
 

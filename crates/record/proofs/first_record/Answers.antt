@@ -2,7 +2,6 @@
 use Rattle.laws.specs.Kit.{sym, ◌∙◌, not-true, not-false}
 use Rattle.record.proofs.Format.{parameter_room}
 use Rattle.record.proofs.Ways.{first_22, first_23, first_ready}
-use Rattle.std.proofs.Common.{rules}
 use Rattle.record.proofs.first_record.Goals as goal
 
 pub returns-then-body-kind_length : goal.returns-then-body-kind_length

@@ -2,7 +2,6 @@
 use Rattle.laws.specs.Kit.{refl, sym, ◌∙◌, arith}
 use Rattle.record.proofs.Format.{framed_scrap, framed_zero, framed_whole}
 use Rattle.record.proofs.Ways.{short_cut, short_waits}
-use Rattle.std.proofs.Common.{rules}
 use Rattle.record.proofs.frame.Goals as goal
 
 pub returns-then-window-lt2 : goal.returns-then-window-lt2

@@ -1,7 +1,6 @@
 -- The version's refusal, then the kind's, and then what set-up refuses.
 use Rattle.laws.specs.Kit.{ap, ◌∙◌}
 use Rattle.laws.specs.Choose.{or_else}
-use Rattle.std.proofs.Common.{rules}
 use Rattle.record.proofs.Writing.{heading_all}
 use Rattle.record.proofs.heading_refusal.Goals as goal
 

@@ -1,5 +1,4 @@
 -- The kinds that stand for a profile.
-use Rattle.std.proofs.Common.{rules}
 use Rattle.record.specs.Paper.{is_parameters}
 use Rattle.record.proofs.is_parameters.Goals as goal
 

@@ -2,7 +2,6 @@
 use Rattle.laws.specs.Kit.{sym, ◌∙◌}
 use Rattle.record.proofs.Format.{length_14, length_16}
 use Rattle.record.proofs.Ways.{length_none}
-use Rattle.std.proofs.Common.{rules}
 use Rattle.record.proofs.kind_length.Goals as goal
 
 pub returns-then-is_parameters : goal.returns-then-is_parameters

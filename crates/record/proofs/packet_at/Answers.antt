@@ -1,5 +1,4 @@
 -- The packet, field by field, each by what its reader ensures.
-use Rattle.std.proofs.Common.{rules}
 use Rattle.record.proofs.packet_at.Goals as goal
 
 pub returns : goal.returns

@@ -2,7 +2,6 @@
 use Rattle.laws.specs.Kit.{sym, ◌∙◌, arith}
 use Rattle.record.proofs.Format.{length_14}
 use Rattle.record.proofs.Standing.{other_length, by_kind}
-use Rattle.std.proofs.Common.{rules}
 use Rattle.record.proofs.packet_fits.Goals as goal
 
 pub returns-then-read16-kind_length : goal.returns-then-read16-kind_length

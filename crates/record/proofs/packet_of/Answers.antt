@@ -1,5 +1,4 @@
 -- The packet that stands there, taken apart.
-use Rattle.std.proofs.Common.{rules}
 use Rattle.record.proofs.packet_of.Goals as goal
 
 pub returns : goal.returns

@@ -1,6 +1,5 @@
 -- The room first: without it none stands there.
 use Rattle.record.proofs.Standing.{no_room}
-use Rattle.std.proofs.Common.{rules}
 use Rattle.record.proofs.packet_stands.Goals as goal
 
 pub returns-then-window-lt-PACKET_BYTES : goal.returns-then-window-lt-PACKET_BYTES

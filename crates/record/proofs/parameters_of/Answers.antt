@@ -1,5 +1,4 @@
 -- The parameters, field by field, each by what its reader ensures.
-use Rattle.std.proofs.Common.{rules}
 use Rattle.record.proofs.parameters_of.Goals as goal
 
 pub returns : goal.returns

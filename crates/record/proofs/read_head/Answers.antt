@@ -1,7 +1,6 @@
 -- The version byte, and then the first record: each return is one law, from the tests before it.
 use Rattle.laws.specs.Kit.{sym, ◌∙◌, arith, not-true, not-false}
 use Rattle.record.proofs.Ways.{head_none, head_waits_for_more, head_unknown, head_first, rest_all}
-use Rattle.std.proofs.Common.{rules}
 use Rattle.record.proofs.read_head.Goals as goal
 
 pub returns-then-last : goal.returns-then-last

@@ -1,6 +1,5 @@
 -- How many records are left: by the rest of the division.
 use Rattle.laws.specs.Kit.{sym, ◌∙◌, drop, length-drop}
-use Rattle.std.proofs.Common.{rules}
 use Rattle.record.proofs.Quickly.{left_none, left_all}
 use Rattle.record.proofs.records_left.Goals as goal
 

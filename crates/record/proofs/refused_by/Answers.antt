@@ -1,7 +1,6 @@
 -- Where reading stops with no stream numbers: by which answer it was.
 use Rattle.record.specs.Walk.{refused_by}
 use Rattle.record.proofs.Opening.{refused_none}
-use Rattle.std.proofs.Common.{rules}
 use borrow.Enum.Refused.{opened}
 use Rattle.record.proofs.refused_by.Goals as goal
 

@@ -1,5 +1,4 @@
 -- Number by number; the class alone is told.
-use Rattle.std.proofs.Common.{rules}
 use Rattle.record.proofs.resolved.Goals as goal
 
 pub returns : goal.returns

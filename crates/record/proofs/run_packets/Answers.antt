@@ -1,11 +1,8 @@
 -- A run over packets' records. The invariant: the run over those that are left, from where it is, is the run over all. Each turn is a law
 -- of one record, for which there is room; no more markers came than records, so their number fits.
-use Rattle.std.specs.Prelude.{◌+◌, ◌*◌, ◌-◌, ◌≤◌, ◌≡◌}
-use Rattle.laws.specs.Kit.{List, ℕ, suc, false, sym, ◌∙◌, arith, length, drop, length-drop, drop-drop}
+use Rattle.std.specs.Prelude.{◌-◌, ◌≤◌, ◌≡◌}
+use Rattle.laws.specs.Kit.{List, ℕ, suc, sym, ◌∙◌, arith, drop, length-drop, drop-drop}
 use Rattle.laws.specs.Kit.{not-true, not-false}
-use Rattle.std.proofs.Common.{rules}
-use Rattle.packet.specs.Step.{nothing}
-use Rattle.packet.specs.Quick.{start_of}
 use Rattle.packet.proofs.Latest.{taken}
 use Rattle.record.specs.Paper.{packet_bytes, packet_at}
 use Rattle.record.specs.Step.{stands_in}

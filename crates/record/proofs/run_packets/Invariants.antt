@@ -1,17 +1,11 @@
 -- A run over packets' records. The invariant: the run over those that are left, from where it is, is the run over all. Each turn is a law
 -- of one record, for which there is room; no more markers came than records, so their number fits.
-use Rattle.std.specs.Prelude.{◌+◌, ◌*◌, ◌-◌, ◌≤◌, ◌≡◌}
-use Rattle.laws.specs.Kit.{List, ℕ, suc, false, sym, ◌∙◌, arith, length, drop, length-drop, drop-drop}
-use Rattle.laws.specs.Kit.{not-true, not-false}
-use Rattle.std.proofs.Common.{rules}
+use Rattle.std.specs.Prelude.{◌+◌, ◌*◌, ◌≤◌, ◌≡◌}
+use Rattle.laws.specs.Kit.{false, length, drop}
 use Rattle.packet.specs.Step.{nothing}
 use Rattle.packet.specs.Quick.{start_of}
-use Rattle.packet.proofs.Latest.{taken}
-use Rattle.record.specs.Paper.{packet_bytes, packet_at}
-use Rattle.record.specs.Step.{stands_in}
+use Rattle.record.specs.Paper.{packet_bytes}
 use Rattle.record.specs.Walk.{ran_in}
-use Rattle.record.proofs.Ways.{rest_all}
-use Rattle.record.proofs.Quickly.{ran_goes, ran_other, ran_breaks}
 use Rattle.record.proofs.run_packets.Given as goal
 
 abbrev pub invariant-loop-left : goal.invariant-loop-left

@@ -1,5 +1,4 @@
 -- The profile by its kind, and the parameters by the version.
-use Rattle.std.proofs.Common.{rules}
 use Rattle.record.proofs.set_with.Goals as goal
 
 pub returns : goal.returns

@@ -1,6 +1,5 @@
 -- By whether the version is known.
 use Rattle.laws.specs.Kit.{sym, ◌∙◌}
-use Rattle.std.proofs.Common.{rules}
 use Rattle.record.specs.Write.{version_refusal}
 use Rattle.record.proofs.version_refusal.Goals as goal
 

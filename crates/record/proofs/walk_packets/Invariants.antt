@@ -1,15 +1,10 @@
 -- The packets of a file. The invariant: what is left, read from where the cursor is into the tally so far, finishes as the whole does.
 -- Each turn is a law of one answer; a record takes 16 bytes, so the walk ends.
 use Rattle.std.specs.Prelude.{◌-◌, ◌≤◌, ◌≡◌}
-use Rattle.laws.specs.Kit.{sym, ◌∙◌, arith, length, drop}
-use Rattle.std.proofs.Common.{rules}
+use Rattle.laws.specs.Kit.{length, drop}
 use Rattle.packet.specs.Step.{nothing, no_packets}
-use Rattle.packet.proofs.Refusals.{accepted}
-use Rattle.packet.proofs.Turn.{tally_keeps}
 use Rattle.record.specs.Paper.{packets_in}
 use Rattle.record.specs.Walk.{finish}
-use Rattle.record.proofs.Walking.{stops, goes, refuses, next_at, next_within}
-use borrow.Enum.Refused.{opened}
 use Rattle.record.proofs.walk_packets.Given as goal
 
 abbrev pub invariant-loop-packet : goal.invariant-loop-packet

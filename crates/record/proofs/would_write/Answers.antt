@@ -1,6 +1,5 @@
 -- What the writer answers: each return is one law, from what was refused before it.
 use Rattle.laws.specs.Kit.{refl, sym, ◌∙◌, arith}
-use Rattle.std.proofs.Common.{rules}
 use Rattle.record.proofs.Writing.{scan_of, answers_set_up, answers_scan, answers_24, answers_done, few_packets}
 use Rattle.record.proofs.would_write.Goals as goal
 

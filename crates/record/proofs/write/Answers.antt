@@ -1,6 +1,5 @@
 -- The writer: refused, nothing is stored; else the stores are the whole file's, one after the other.
 use Rattle.laws.specs.Kit.{sym, ◌∙◌, arith}
-use Rattle.std.proofs.Common.{rules}
 use Rattle.record.proofs.Writing.{same_slices, was_written, leaves_all, writes_file}
 use Rattle.record.proofs.write.Goals as goal
 

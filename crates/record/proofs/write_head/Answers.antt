@@ -2,7 +2,6 @@
 -- is said once for each call.
 use Rattle.std.specs.Prelude.{◌≡◌}
 use Rattle.laws.specs.Kit.{ap, ◌∙◌, List, ℕ, arith, length, length-set, length-sets}
-use Rattle.std.proofs.Common.{rules}
 use Rattle.record.proofs.Stores.{head_stored}
 use Rattle.record.proofs.write_head.Goals as goal
 use Rattle.record.proofs.write_head.Goals.{After-write16-arg-2-1, After-write32-arg-1, After-write32-arg-2-1}

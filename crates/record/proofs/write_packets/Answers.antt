@@ -1,11 +1,7 @@
 -- The packets' records. The invariant: storing what is left, from where the loop is, is storing them all; each record takes 16 bytes.
-use Rattle.std.specs.Prelude.{◌+◌, ◌*◌, ◌-◌, ◌≤◌, ◌≡◌}
-use Rattle.laws.specs.Kit.{refl, ◌∙◌, arith, length, sets}
+use Rattle.laws.specs.Kit.{refl, ◌∙◌, arith}
 use Rattle.std.proofs.Common.{rules}
-use Rattle.packet.specs.Paper.{packets, packets_from}
-use Rattle.record.specs.Layout.{records_of}
 use Rattle.record.proofs.Stores.{records_go, records_end}
-use Rattle.record.specs.Paper.{packet_bytes, head_bytes}
 use Rattle.record.proofs.write_packets.Goals as goal
 
 pub loop-i-init : goal.loop-i-init

@@ -1,7 +1,6 @@
 -- Set-up, the offset, then the header.
 use Rattle.laws.specs.Kit.{◌∙◌}
 use Rattle.reel.proofs.Beginning.{begins_refused, begins_33, begins_ready}
-use Rattle.std.proofs.Common.{rules}
 use Rattle.reel.proofs.begin.Goals as goal
 
 pub returns-then-asked-gt99 : goal.returns-then-asked-gt99

@@ -1,6 +1,5 @@
 -- By the header.
 use Rattle.reel.specs.Step.{ready_of}
-use Rattle.std.proofs.Common.{rules}
 use Rattle.reel.proofs.ready.Goals as goal
 
 pub returns-in-More : goal.returns-in-More

@@ -2,7 +2,6 @@
 use Rattle.laws.specs.Kit.{sym, ap, ◌∙◌}
 use Rattle.report.specs.declared.Asked.TheVariants.{Fine}
 use Rattle.report.proofs.Asking.{asked_refused, asked_room, asked_15}
-use borrow.Author.Rules.{rules}
 use Rattle.report.proofs.ask.Goals as goal
 
 pub returns-then-fits : goal.returns-then-fits

@@ -4,7 +4,6 @@ use Rattle.laws.specs.Kit.{sym, ap, ℕ, arith}
 use Rattle.timing.specs.Feed.{closed_row}
 use Rattle.timing.proofs.Laying.{row_fits, puts_one, puts_none}
 use Rattle.report.proofs.Bytes.{as_bytes, row_length}
-use borrow.Author.Rules.{rules}
 use Rattle.report.proofs.put_closed.Goals as goal
 
 pub row-requires : goal.row-requires

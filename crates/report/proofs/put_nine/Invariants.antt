@@ -1,8 +1,6 @@
 -- What is left of the nine numbers, stored from the next place on, gives the end; each turn stores one.
 use Rattle.std.specs.Prelude.{◌≡◌, ◌-◌, ◌*◌, ◌≤◌}
-use Rattle.laws.specs.Kit.{refl, ◌∙◌, arith, length, drop, sets}
-use Rattle.report.proofs.Bytes.{store_turn, store_done}
-use borrow.Author.Rules.{rules}
+use Rattle.laws.specs.Kit.{length, drop, sets}
 use Rattle.timing.specs.Answers.{summary_width}
 use Rattle.report.specs.Paper.{number_bytes, in_bytes}
 use Rattle.report.proofs.put_nine.Given as goal

@@ -1,9 +1,7 @@
 -- What is left of the ten numbers, stored from the next place on, gives the end; each turn stores one.
 use Rattle.std.specs.Prelude.{◌≡◌, ◌+◌, ◌-◌, ◌*◌, ◌≤◌}
-use Rattle.laws.specs.Kit.{refl, ap, ◌∙◌, map, arith, add-zero, length, drop, sets}
+use Rattle.laws.specs.Kit.{map, length, drop, sets}
 use Rattle.frame.specs.Step.{row_width}
-use Rattle.report.proofs.Bytes.{length_signs, row_length, sign_passed, store_turn, store_done}
-use borrow.Author.Rules.{rules}
 use Rattle.report.specs.Paper.{number_bytes, signed, in_bytes, encoded}
 use Rattle.report.proofs.put_row.Given as goal
 

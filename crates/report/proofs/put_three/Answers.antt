@@ -1,7 +1,6 @@
 -- The room, then the three stores.
 use Rattle.laws.specs.Kit.{refl, arith, length-set}
 use Rattle.report.proofs.Calls.{three_short, three_done}
-use borrow.Author.Rules.{rules}
 use Rattle.report.proofs.put_three.Goals as goal
 
 pub returns-then-out-lt3 : goal.returns-then-out-lt3

@@ -1,7 +1,6 @@
 -- Set-up's refusal, then the room, then the four stores: one law each (Calls).
 use Rattle.laws.specs.Kit.{sym, ◌∙◌, arith, length-set}
 use Rattle.report.proofs.Calls.{limits_refused, limits_short, limits_done}
-use borrow.Author.Rules.{rules}
 use Rattle.report.proofs.vtiming_limits.Goals as goal
 
 pub returns-then-number-ne0 : goal.returns-then-number-ne0

@@ -3,7 +3,6 @@ use Rattle.laws.specs.Kit.{sym, ap, ◌∙◌, arith}
 use Rattle.report.specs.Paper.{Answer}
 use Rattle.report.proofs.Asking.{asked_fine, asked_answer, fits_measurable, refused_leaves, report_filled}
 use Rattle.report.proofs.Measuring.{measured_in_range}
-use borrow.Author.Rules.{rules}
 use Rattle.report.proofs.vtiming_measure.Goals as goal
 
 pub measure-s-requires : goal.measure-s-requires

@@ -2,7 +2,6 @@
 use Rattle.laws.specs.Kit.{sym, ap, ◌∙◌}
 use Rattle.report.specs.Paper.{Answer}
 use Rattle.report.proofs.Asking.{asked_answer}
-use borrow.Author.Rules.{rules}
 use Rattle.report.proofs.vtiming_measure_offset.Goals as goal
 
 pub returns-in-Fine : goal.returns-in-Fine

@@ -3,7 +3,6 @@ use Rattle.laws.specs.Kit.{sym, ap}
 use Rattle.timing.specs.Answers.{awaited_number}
 use Rattle.report.specs.Paper.{awaited_numbers}
 use Rattle.report.proofs.Calls.{next_refused, next_told}
-use borrow.Author.Rules.{rules}
 use Rattle.report.proofs.vtiming_next_read.Goals as goal
 
 pub returns-in-In : goal.returns-in-In

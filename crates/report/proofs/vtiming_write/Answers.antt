@@ -1,6 +1,5 @@
 -- The writer's own answer, as a number.
 use Rattle.report.proofs.Calls.{writes_as}
-use borrow.Author.Rules.{rules}
 use Rattle.report.proofs.vtiming_write.Goals as goal
 
 pub returns-in-Done : goal.returns-in-Done

@@ -1,7 +1,6 @@
 -- The place in the answer that the writer would give.
 use Rattle.laws.specs.Kit.{sym, ap, ◌∙◌}
 use Rattle.record.specs.Write.{written_place}
-use borrow.Author.Rules.{rules}
 use Rattle.report.proofs.vtiming_write_place.Goals as goal
 
 pub returns-in-Done : goal.returns-in-Done

@@ -1,5 +1,5 @@
 -- The start of the capture by its answer.
-use Rattle.laws.specs.Kit.{[], refl, sym, ap, subst, ◌∙◌, arith, length}
+use Rattle.laws.specs.Kit.{[], refl, sym, ap, subst, ◌∙◌, arith}
 use Rattle.capture.specs.Paper.{header_bytes}
 use Rattle.reel.proofs.Beginning.{Tells, begin_tells}
 use Rattle.window.specs.Step.{shown}
@@ -7,7 +7,6 @@ use Rattle.window.proofs.Showing.{used_fits}
 use Rattle.window.proofs.Answering.{answers_waiting, answers_refusing, answers_going}
 use Rattle.spool.specs.declared.Stage.TheVariants.{Leader, Rolling}
 use Rattle.spool.specs.Step.{lead_move}
-use borrow.Author.Rules.{rules}
 use Rattle.spool.proofs.lead.Goals as goal
 
 pub past-requires : goal.past-requires

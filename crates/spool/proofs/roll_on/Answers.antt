@@ -4,7 +4,6 @@ use Rattle.reel.proofs.Output.{take_inside}
 use Rattle.window.specs.Step.{shown}
 use Rattle.window.proofs.Showing.{used_fits}
 use Rattle.spool.proofs.Stepping.{rolled_on}
-use borrow.Author.Rules.{rules}
 use Rattle.spool.proofs.roll_on.Goals as goal
 
 pub past-requires : goal.past-requires

@@ -1,7 +1,6 @@
 -- The words of each answer, with its numbers behind them where it has some.
 use Rattle.std.specs.Prelude.{◌≡◌, ◌++◌}
 use Rattle.laws.specs.Kit.{sym, ap, arith}
-use borrow.Author.Rules.{rules}
 use Rattle.frame.specs.declared.Buffer.{Buffer}
 use Rattle.text.specs.Decimal.{codes}
 use Rattle.text.specs.Lines.{buffer_words}

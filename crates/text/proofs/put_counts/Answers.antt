@@ -1,6 +1,5 @@
 -- Three words, each with its number behind it.
 use Rattle.laws.specs.Kit.{append_assoc, arith}
-use borrow.Author.Rules.{rules}
 use Rattle.text.proofs.Parts.{part_then, part_is}
 use Rattle.text.proofs.put_counts.Goals as goal
 

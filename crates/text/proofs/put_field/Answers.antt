@@ -3,7 +3,6 @@ use Rattle.std.specs.Prelude.{◌++◌}
 use Rattle.laws.specs.Kit.{ap, arith, ℤ}
 use mir.Facts.{to_z-of_z}
 use Rattle.text.specs.Decimal.{codes, signed}
-use borrow.Author.Rules.{rules}
 use Rattle.text.proofs.Parts.{part_then, part_is}
 use Rattle.text.proofs.put_field.Goals as goal
 

@@ -1,10 +1,7 @@
 -- After k turns the first k numbers are put, each with a space before it.
-use Rattle.std.specs.Prelude.{◌*◌, ◌-◌, ◌≤◌, ◌≡◌}
-use Rattle.laws.specs.Kit.{◌∙◌, arith, length, take, pos}
-use Rattle.text.specs.Lines.{field_room, Part, fields}
+use Rattle.laws.specs.Kit.{◌∙◌, arith, pos}
 use mir.Syntax.{w64}
 use mir.Facts.{to_z-of_z}
-use Rattle.frame.specs.Step.{row_width}
 use borrow.Author.Rules.{rules}
 use Rattle.text.proofs.Parts.{part_kept}
 use Rattle.text.proofs.Fields.{no_fields, more_fields, all_fields}

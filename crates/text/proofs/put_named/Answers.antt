@@ -1,5 +1,4 @@
 -- The word, and behind it the number.
-use borrow.Author.Rules.{rules}
 use Rattle.text.proofs.Parts.{part_then}
 use Rattle.text.proofs.put_named.Goals as goal
 

@@ -1,6 +1,5 @@
 -- The word and the first number, and behind them a space and the second.
 use Rattle.laws.specs.Kit.{append_assoc, arith}
-use borrow.Author.Rules.{rules}
 use Rattle.text.proofs.Parts.{part_then, part_is}
 use Rattle.text.proofs.put_pair.Goals as goal
 

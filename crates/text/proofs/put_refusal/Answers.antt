@@ -1,6 +1,5 @@
 -- The word and the two numbers, and behind them the line's end.
 use Rattle.laws.specs.Kit.{arith}
-use borrow.Author.Rules.{rules}
 use Rattle.text.specs.Lines.{refusal_line}
 use Rattle.text.proofs.Parts.{part_then, part_put}
 use Rattle.text.proofs.put_refusal.Goals as goal

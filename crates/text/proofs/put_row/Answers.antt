@@ -1,7 +1,6 @@
 -- The word, the row's numbers and the line's end, one behind the other.
 use Rattle.std.specs.Prelude.{◌++◌}
 use Rattle.laws.specs.Kit.{ap, List, arith, ℤ}
-use borrow.Author.Rules.{rules}
 use Rattle.text.specs.Decimal.{codes}
 use Rattle.text.specs.Lines.{fields, row_line}
 use Rattle.text.proofs.Parts.{part_then, part_is, part_put}

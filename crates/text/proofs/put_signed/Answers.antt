@@ -4,7 +4,6 @@ use Rattle.laws.specs.Kit.{ap, ◌∙◌, ℕ, arith}
 use mir.Syntax.{w64}
 use mir.Val.{to_z, of_z}
 use mir.Facts.{to_z-of_z}
-use borrow.Author.Rules.{rules}
 use Rattle.grain.proofs.SignedRange.{back_fits, plain_cast, flip_fits, flip_cast, flip_size}
 use Rattle.text.specs.Decimal.{codes, digits, signed}
 use Rattle.text.proofs.Parts.{part_is}

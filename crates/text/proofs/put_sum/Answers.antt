@@ -2,7 +2,6 @@
 use Rattle.laws.specs.Kit.{arith}
 use Rattle.text.proofs.Parts.{part_then, part_is}
 use Rattle.text.proofs.Grouping.{summary_grouped}
-use borrow.Author.Rules.{rules}
 use Rattle.text.proofs.put_sum.Goals as goal
 
 pub returns : goal.returns

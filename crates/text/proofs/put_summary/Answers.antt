@@ -2,7 +2,6 @@
 use Rattle.laws.specs.Kit.{arith}
 use Rattle.text.specs.Lines.{summary_line}
 use Rattle.text.proofs.Parts.{part_then, part_put}
-use borrow.Author.Rules.{rules}
 use Rattle.text.proofs.put_summary.Goals as goal
 
 pub returns : goal.returns

@@ -1,8 +1,6 @@
 -- What is left of the word, laid from the next place on, gives the end; each turn lays one byte.
-use Rattle.std.specs.Prelude.{◌+◌, ◌-◌, ◌≤◌, ◌≡◌}
-use Rattle.laws.specs.Kit.{refl, ◌∙◌, add-zero, arith, length, drop, length-set, sets}
+use Rattle.laws.specs.Kit.{refl, ◌∙◌, add-zero, arith, length-set}
 use Rattle.laws.proofs.Lay.{sets_turn, sets_done}
-use borrow.Author.Rules.{rules}
 use Rattle.text.proofs.put_word.Goals as goal
 
 pub loop-k-init : goal.loop-k-init

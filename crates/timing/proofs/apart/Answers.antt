@@ -3,7 +3,6 @@ use Rattle.laws.specs.Kit.{arith, ap, ◌∙◌}
 use Rattle.packet.specs.declared.Past.{Past}
 use Rattle.packet.specs.Step.{next_of, refusal_of}
 use Rattle.timing.proofs.Awaiting.{apart_is}
-use borrow.Author.Rules.{rules}
 use Rattle.timing.proofs.apart.Goals as goal
 
 pub next-past-requires : goal.next-past-requires

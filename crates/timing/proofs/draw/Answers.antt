@@ -2,7 +2,6 @@
 use Rattle.laws.specs.Kit.{sym, ◌∙◌, not-true, not-false}
 use Rattle.timing.specs.Answers.{graph_of, microseconds_of}
 use Rattle.timing.proofs.Doubles.{back, holds, told}
-use borrow.Author.Rules.{rules}
 use Rattle.timing.proofs.draw.Goals as goal
 
 pub returns-then-not-is_exact : goal.returns-then-not-is_exact

@@ -3,7 +3,6 @@ use Rattle.laws.specs.Kit.{ap, ◌∙◌, ℤ}
 use lib.Ieee.{Float, binary64, of_int, of_bits, div}
 use Rattle.timing.specs.Answers.{microseconds_of}
 use Rattle.timing.proofs.Doubles.{back, divisor}
-use borrow.Author.Rules.{rules}
 use Rattle.timing.proofs.microseconds.Goals as goal
 
 pub returns : goal.returns

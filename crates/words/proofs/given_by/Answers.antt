@@ -1,5 +1,4 @@
 -- The port, then the eight others.
-use borrow.Author.Rules.{rules}
 use Rattle.words.proofs.Placing.{no_call, a_call}
 use Rattle.words.proofs.given_by.Goals as goal
 

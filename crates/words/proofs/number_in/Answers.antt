@@ -1,10 +1,9 @@
 -- The bytes of a word. The invariant: reading what is left, after the digits so far, gives what reading the whole gives; and k digits spell
 -- less than 10^k, so that no sum leaves 64 bits.
-use Rattle.std.specs.Prelude.{◌≡◌, ◌+◌, ◌-◌, ◌*◌, ◌^◌, ◌≤◌, ◌<◌}
-use Rattle.laws.specs.Kit.{refl, sym, ◌∙◌, true, arith, length, drop, get_or, not-true, not-false}
-use borrow.Author.Rules.{rules}
+use Rattle.std.specs.Prelude.{◌≡◌, ◌+◌, ◌-◌, ◌*◌, ◌<◌}
+use Rattle.laws.specs.Kit.{refl, sym, ◌∙◌, true, arith, get_or, not-true, not-false}
 use Rattle.words.specs.Paper.{is_digit}
-use Rattle.words.proofs.Reading.{read_on, from_nothing, goes_on, stops, ends, digit_is, below_next, below_all}
+use Rattle.words.proofs.Reading.{from_nothing, goes_on, stops, ends, digit_is, below_next, below_all}
 use Rattle.words.proofs.number_in.Goals as goal
 use Rattle.words.proofs.number_in.Goals.{Else-not-is_digit}
 

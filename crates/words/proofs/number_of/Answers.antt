@@ -1,6 +1,5 @@
 -- The length, then the bytes.
 use Rattle.laws.specs.Kit.{◌∙◌}
-use borrow.Author.Rules.{rules}
 use Rattle.words.proofs.Reading.{no_byte, too_long, not_too_long}
 use Rattle.words.proofs.number_of.Goals as goal
 

@@ -1,6 +1,5 @@
 -- Each range by its test.
 use Rattle.laws.specs.Every.{after}
-use borrow.Author.Rules.{rules}
 use Rattle.bucket.proofs.Bucket.in_range.Goals as goal
 
 pub returns : goal.returns

@@ -1,7 +1,6 @@
 -- The step is its three parts: what is left, where the run began, and the bucket at the new level.
 use Rattle.laws.specs.Kit.{◌∙◌}
 use Rattle.bucket.specs.Step.{step_of}
-use borrow.Author.Rules.{rules}
 use Rattle.bucket.proofs.Bucket.step.Goals as goal
 
 pub returns : goal.returns

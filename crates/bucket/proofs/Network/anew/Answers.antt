@@ -1,5 +1,4 @@
 -- Each case is its own again.
-use borrow.Author.Rules.{rules}
 use Rattle.bucket.proofs.Network.anew.Goals as goal
 
 pub returns-in-Burst : goal.returns-in-Burst

@@ -1,10 +1,9 @@
 -- The invariant: what lies ahead from here, with what was used and skipped so far, is what lies ahead of the whole window (Looking).
-use Rattle.std.specs.Prelude.{◌≡◌, ◌+◌, ◌-◌, ◌≤◌, ◌<◌}
-use Rattle.laws.specs.Kit.{refl, sym, subst, ◌∙◌, List, ℕ, suc, arith, length, drop, length-drop}
-use borrow.Author.Rules.{rules}
+use Rattle.std.specs.Prelude.{◌≡◌, ◌+◌, ◌≤◌, ◌<◌}
+use Rattle.laws.specs.Kit.{refl, sym, subst, ◌∙◌, List, ℕ, arith, length, drop, length-drop}
 use Rattle.capture.specs.Step.{next_of, ahead_of}
 use Rattle.capture.proofs.Ways.{rest_all}
-use Rattle.capture.proofs.Looking.{Within, ahead_from, turn_within, ahead_stops, ahead_goes, used_fits}
+use Rattle.capture.proofs.Looking.{Within, turn_within, ahead_stops, ahead_goes, used_fits}
 use borrow.Enum.Refused.{opened}
 use Rattle.capture.proofs.Cursor.ahead.Goals as goal
 use Rattle.capture.proofs.Cursor.ahead.Goals.{After-read-next, In-Skipped}

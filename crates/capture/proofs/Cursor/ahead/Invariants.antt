@@ -1,11 +1,8 @@
 -- The invariant: what lies ahead from here, with what was used and skipped so far, is what lies ahead of the whole window (Looking).
-use Rattle.std.specs.Prelude.{◌≡◌, ◌+◌, ◌-◌, ◌≤◌, ◌<◌}
-use Rattle.laws.specs.Kit.{refl, sym, subst, ◌∙◌, List, ℕ, suc, arith, length, drop, length-drop}
-use borrow.Author.Rules.{rules}
-use Rattle.capture.specs.Step.{next_of, ahead_of}
-use Rattle.capture.proofs.Ways.{rest_all}
-use Rattle.capture.proofs.Looking.{Within, ahead_from, turn_within, ahead_stops, ahead_goes, used_fits}
-use borrow.Enum.Refused.{opened}
+use Rattle.std.specs.Prelude.{◌≡◌, ◌-◌, ◌≤◌}
+use Rattle.laws.specs.Kit.{length}
+use Rattle.capture.specs.Step.{ahead_of}
+use Rattle.capture.proofs.Looking.{ahead_from}
 use Rattle.capture.proofs.Cursor.ahead.Given as goal
 
 abbrev pub invariant-loop-more : goal.invariant-loop-more

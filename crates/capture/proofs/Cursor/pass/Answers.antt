@@ -1,7 +1,6 @@
 -- All that is left, or some of it.
 use Rattle.laws.specs.Kit.{◌∙◌}
 use Rattle.capture.proofs.Ways.{passed_all, passed_cut, passed_part}
-use borrow.Author.Rules.{rules}
 use Rattle.capture.proofs.Cursor.pass.Goals as goal
 
 pub returns-then-self-window : goal.returns-then-self-window

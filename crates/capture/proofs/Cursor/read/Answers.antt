@@ -4,7 +4,6 @@ use Rattle.laws.specs.Kit.{◌∙◌}
 use Rattle.capture.specs.declared.Front.{Front}
 use Rattle.capture.specs.Step.{begun_by, next_of}
 use Rattle.capture.proofs.Ways.{next_within, next_begun}
-use borrow.Author.Rules.{rules}
 use Rattle.capture.proofs.Cursor.read.Goals as goal
 use Rattle.capture.proofs.Cursor.read.Goals.{After-front-front}
 

@@ -1,5 +1,4 @@
 -- By what was told.
-use borrow.Author.Rules.{rules}
 use Rattle.capture.proofs.Cursor.settle.Goals as goal
 
 pub returns-in-Packet : goal.returns-in-Packet

@@ -1,10 +1,9 @@
 -- The records of a capture: what stands in front is a record, which is counted or refused, or it ends the check (Checking).
-use Rattle.std.specs.Prelude.{◌≡◌, ◌-◌}
-use Rattle.laws.specs.Kit.{true, sym, refl, ◌∙◌, arith, length, drop}
-use borrow.Author.Rules.{rules}
+use Rattle.std.specs.Prelude.{◌≡◌}
+use Rattle.laws.specs.Kit.{true, sym, refl, ◌∙◌, arith, drop}
 use Rattle.capture.specs.Step.{front_of}
 use Rattle.capture.proofs.Ways.{rest_all}
-use Rattle.capture.proofs.Checking.{check_stops, Loop, loop_room, size_within, loop_refused, loop_next}
+use Rattle.capture.proofs.Checking.{check_stops, loop_room, size_within, loop_refused, loop_next}
 use borrow.Enum.Refused.{opened}
 use Rattle.capture.proofs.Seen.check_records.Goals as goal
 use Rattle.capture.proofs.Seen.check_records.Goals.{After-front-front}

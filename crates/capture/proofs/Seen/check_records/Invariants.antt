@@ -1,11 +1,7 @@
 -- The records of a capture: what stands in front is a record, which is counted or refused, or it ends the check (Checking).
-use Rattle.std.specs.Prelude.{◌≡◌, ◌-◌}
-use Rattle.laws.specs.Kit.{true, sym, refl, ◌∙◌, arith, length, drop}
-use borrow.Author.Rules.{rules}
-use Rattle.capture.specs.Step.{front_of}
-use Rattle.capture.proofs.Ways.{rest_all}
-use Rattle.capture.proofs.Checking.{check_stops, Loop, loop_room, size_within, loop_refused, loop_next}
-use borrow.Enum.Refused.{opened}
+use Rattle.std.specs.Prelude.{◌-◌}
+use Rattle.laws.specs.Kit.{length}
+use Rattle.capture.proofs.Checking.{Loop}
 use Rattle.capture.proofs.Seen.check_records.Given as goal
 
 abbrev pub invariant-loop-told : goal.invariant-loop-told

@@ -1,7 +1,6 @@
 -- By what stands in front.
 use Rattle.capture.proofs.Checking.{closing_fine}
 use Rattle.capture.specs.Step.{closing}
-use borrow.Author.Rules.{rules}
 use borrow.Enum.Refused.{opened}
 use Rattle.capture.proofs.Seen.close.Goals as goal
 

@@ -1,6 +1,5 @@
 -- By what was told.
 use Rattle.capture.specs.Step.{refusal_of}
-use borrow.Author.Rules.{rules}
 use Rattle.capture.proofs.Seen.refusal.Goals as goal
 
 pub returns-in-Packet : goal.returns-in-Packet

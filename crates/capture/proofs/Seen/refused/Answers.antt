@@ -1,6 +1,5 @@
 -- By what was told.
 use Rattle.capture.specs.Step.{refused_at}
-use borrow.Author.Rules.{rules}
 use Rattle.capture.proofs.Seen.refused.Goals as goal
 
 pub returns-in-Packet : goal.returns-in-Packet

@@ -1,7 +1,6 @@
 -- By what was told.
 use Rattle.capture.proofs.Checking.{told_countable}
 use Rattle.capture.specs.Step.{seen_of}
-use borrow.Author.Rules.{rules}
 use Rattle.capture.proofs.Seen.with.Goals as goal
 
 pub with-requires : goal.with-requires

@@ -1,6 +1,5 @@
 -- The seconds with the offset, and the sub-seconds by their unit.
 use Rattle.capture.proofs.Ways.{arrival_nano, arrival_micro}
-use borrow.Author.Rules.{rules}
 use Rattle.capture.proofs.Setting.arrival.Goals as goal
 
 pub returns-then-format : goal.returns-then-format

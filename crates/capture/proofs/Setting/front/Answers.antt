@@ -1,9 +1,8 @@
 -- By the length of the window, one law for each way out (Ways).
 use Rattle.std.specs.Prelude.{◌≡◌, ◌≤◌}
-use Rattle.laws.specs.Kit.{◌∙◌, arith, length}
+use Rattle.laws.specs.Kit.{◌∙◌, length}
 use Rattle.capture.specs.Paper.{record_bytes, captured_at}
 use Rattle.capture.proofs.Ways.{none_last, none_yet, scrap_last, scrap_yet, whole_there, cut_last, front_there, front_yet}
-use borrow.Author.Rules.{rules}
 use Rattle.capture.proofs.Setting.front.Goals as goal
 use Rattle.capture.proofs.Setting.front.Goals.{After-size-captured}
 

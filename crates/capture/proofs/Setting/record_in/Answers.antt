@@ -1,6 +1,5 @@
 -- What it says, and its size.
 use Rattle.laws.specs.Kit.{arith}
-use borrow.Author.Rules.{rules}
 use Rattle.capture.proofs.Setting.record_in.Goals as goal
 
 pub overflow_add-result : goal.overflow_add-result

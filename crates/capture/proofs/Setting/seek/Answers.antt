@@ -1,8 +1,7 @@
 -- The invariant: the search from where it is finds what the search from the start finds. Each turn is a law of what stands in front (Seeking).
-use Rattle.std.specs.Prelude.{◌≡◌, ◌-◌}
-use Rattle.laws.specs.Kit.{true, refl, sym, ◌∙◌, arith, length, drop}
-use borrow.Author.Rules.{rules}
-use Rattle.capture.specs.Step.{front_of, sought_of}
+use Rattle.std.specs.Prelude.{◌≡◌}
+use Rattle.laws.specs.Kit.{true, refl, sym, ◌∙◌, arith, drop}
+use Rattle.capture.specs.Step.{front_of}
 use Rattle.capture.proofs.Ways.{rest_all}
 use Rattle.capture.proofs.Seeking.{seek_end, seek_stops, found_within, seek_found, seek_goes}
 use borrow.Enum.Refused.{opened}

@@ -1,11 +1,7 @@
 -- The invariant: the search from where it is finds what the search from the start finds. Each turn is a law of what stands in front (Seeking).
 use Rattle.std.specs.Prelude.{◌≡◌, ◌-◌}
-use Rattle.laws.specs.Kit.{true, refl, sym, ◌∙◌, arith, length, drop}
-use borrow.Author.Rules.{rules}
-use Rattle.capture.specs.Step.{front_of, sought_of}
-use Rattle.capture.proofs.Ways.{rest_all}
-use Rattle.capture.proofs.Seeking.{seek_end, seek_stops, found_within, seek_found, seek_goes}
-use borrow.Enum.Refused.{opened}
+use Rattle.laws.specs.Kit.{length}
+use Rattle.capture.specs.Step.{sought_of}
 use Rattle.capture.proofs.Setting.seek.Given as goal
 
 abbrev pub invariant-loop-at : goal.invariant-loop-at

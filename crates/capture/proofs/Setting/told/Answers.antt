@@ -2,7 +2,6 @@
 use Rattle.laws.specs.Kit.{◌∙◌, refl, sym, ap}
 use Rattle.capture.specs.Step.{found_told}
 use Rattle.capture.proofs.Ways.{told_late, told_else}
-use borrow.Author.Rules.{rules}
 use Rattle.capture.proofs.Setting.told.Goals as goal
 
 pub returns-then-second-sub : goal.returns-then-second-sub

@@ -1,5 +1,4 @@
 -- Each case is its own again.
-use borrow.Author.Rules.{rules}
 use Rattle.frame.proofs.Buffer.anew.Goals as goal
 
 pub returns-in-Under : goal.returns-in-Under

@@ -1,7 +1,6 @@
 -- By the two questions, in the code's order.
 use Rattle.laws.specs.Kit.{sym, ◌∙◌}
 use Rattle.frame.specs.Step.{joined}
-use borrow.Author.Rules.{rules}
 use Rattle.frame.proofs.Buffer.then.Goals as goal
 
 pub returns-then-has_failed : goal.returns-then-has_failed

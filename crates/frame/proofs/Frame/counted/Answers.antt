@@ -2,7 +2,6 @@
 use Rattle.std.specs.Prelude.{◌≡◌, ◌+◌, ◌-◌}
 use Rattle.laws.specs.Kit.{max, arith, lt-ltb, le-ltb}
 use Rattle.frame.specs.Step.{counted_of}
-use borrow.Author.Rules.{rules}
 use Rattle.frame.proofs.Frame.counted.Goals as goal
 
 pub returns-then-count-place : goal.returns-then-count-place

@@ -1,6 +1,5 @@
 -- Where the timestamp differs, the place of the first hit; else what is kept.
 use Rattle.laws.specs.Kit.{eq-eqb, ne_eqb}
-use borrow.Author.Rules.{rules}
 use Rattle.frame.proofs.Frame.differing.Goals as goal
 
 pub returns-then-stamp-self : goal.returns-then-stamp-self

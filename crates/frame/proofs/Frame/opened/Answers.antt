@@ -2,7 +2,6 @@
 use Rattle.laws.specs.Kit.{arith, eq-eqb, ne_eqb}
 use Rattle.frame.specs.Step.{opened_of}
 use Rattle.frame.proofs.Opening.{first_read_fits, bound_fits}
-use borrow.Author.Rules.{rules}
 use Rattle.frame.proofs.Frame.opened.Goals as goal
 
 pub overflow_mul-self : goal.overflow_mul-self

@@ -6,7 +6,6 @@ use Rattle.grain.specs.Carry.{reads_onward}
 use Rattle.frame.specs.declared.Frame.{Frame}
 use Rattle.frame.specs.Step.{counted_of, ticked_of, reads_of}
 use Rattle.frame.proofs.Opening.{opened_timed, reach_fits, push_judged, push_unjudged}
-use borrow.Author.Rules.{rules}
 use Rattle.frame.proofs.Frame.push.Goals as goal
 
 pub overflow_mul-by : goal.overflow_mul-by

@@ -1,7 +1,6 @@
 -- The row of a whole frame, or of a broken one, by its kind.
 use Rattle.laws.specs.Kit.{◌∙◌, arith}
 use Rattle.frame.proofs.FrameKinds.{row_whole, row_broken, kind_small, detail_small}
-use borrow.Author.Rules.{rules}
 use Rattle.frame.proofs.Frame.row.Goals as goal
 
 pub returns-then-kind-eq0 : goal.returns-then-kind-eq0

@@ -1,6 +1,5 @@
 -- The count and the place that differs; all else stays or is 0.
 use Rattle.frame.specs.Step.{ticked_of}
-use borrow.Author.Rules.{rules}
 use Rattle.frame.proofs.Frame.ticked.Goals as goal
 
 pub returns : goal.returns

@@ -6,7 +6,6 @@ use mir.Facts.{to_z_pos, to_z-of_z}
 use Rattle.grain.specs.Paper.{grains}
 use Rattle.grain.proofs.EncodedTime.{offset_made, offset_read}
 use Rattle.frame.specs.Step.{whole_row}
-use borrow.Author.Rules.{rules}
 use Rattle.frame.proofs.Frame.whole_row.Goals as goal
 
 pub overflow_sub-offset : goal.overflow_sub-offset

@@ -1,7 +1,6 @@
 -- A marker closes the open frame, with its answer after the answers so far, or ends the lead-in.
 use Rattle.laws.specs.Kit.{add-zero}
 use Rattle.frame.specs.Step.{close_of}
-use borrow.Author.Rules.{rules}
 use Rattle.frame.proofs.Frames.close.Goals as goal
 
 pub returns-then-self : goal.returns-then-self

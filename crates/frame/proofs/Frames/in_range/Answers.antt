@@ -1,6 +1,5 @@
 -- Each range by its test; twice the period fits.
 use Rattle.laws.specs.Every.{after}
-use borrow.Author.Rules.{rules}
 use Rattle.frame.proofs.Frames.in_range.Goals as goal
 
 pub returns : goal.returns

@@ -1,7 +1,6 @@
 -- The bounds where the buffer is judged, whose product fits by Opening, and 0 where it is not.
 use Rattle.laws.specs.Kit.{arith}
 use Rattle.frame.proofs.Opening.{bound_fits, most_judged, most_unjudged}
-use borrow.Author.Rules.{rules}
 use Rattle.frame.proofs.Plan.most.Goals as goal
 
 pub overflow_mul-result-then-self : goal.overflow_mul-result-then-self

@@ -2,7 +2,6 @@
 use Rattle.laws.specs.Kit.{arith, ap, ◌∙◌}
 use Rattle.grain.specs.declared.Reads.{Reads}
 use Rattle.frame.proofs.NextReads.{opened_gone, opened_fits, opened_next}
-use borrow.Author.Rules.{rules}
 use Rattle.frame.proofs.Plan.next_read.Goals as goal
 
 pub overflow_sub-gone : goal.overflow_sub-gone

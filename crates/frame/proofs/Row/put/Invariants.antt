@@ -1,11 +1,7 @@
 -- What is left of the row's numbers, laid from the next place on, gives the end; each turn lays one.
-use Rattle.laws.proofs.Lay.{sets_turn, sets_done}
 use Rattle.std.specs.Prelude.{◌≡◌, ◌+◌, ◌-◌, ◌≤◌}
-use Rattle.laws.specs.Kit.{pos, add-zero, refl, ap, ◌∙◌, drop, arith, length, length-set, sets}
-use mir.Syntax.{w64}
-use mir.Facts.{to_z-of_z}
+use Rattle.laws.specs.Kit.{drop, length, sets}
 use Rattle.frame.specs.Step.{row_width}
-use borrow.Author.Rules.{rules}
 use Rattle.frame.proofs.Row.put.Given as goal
 
 abbrev pub invariant-loop-k : goal.invariant-loop-k

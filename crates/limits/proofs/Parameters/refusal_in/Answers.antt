@@ -1,7 +1,6 @@
 -- What the parameters are refused by, and then the edition.
 use Rattle.laws.specs.Kit.{◌∙◌}
 use Rattle.limits.proofs.Editions.{in_both}
-use borrow.Author.Rules.{rules}
 use Rattle.limits.proofs.Parameters.refusal_in.Goals as goal
 
 pub returns : goal.returns

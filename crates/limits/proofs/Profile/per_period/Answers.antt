@@ -2,7 +2,6 @@
 use Rattle.std.specs.Prelude.{◌/◌}
 use Rattle.laws.specs.Kit.{ap, ℕ, arith}
 use Rattle.limits.proofs.Periods.{periods_some}
-use borrow.Author.Rules.{rules}
 use Rattle.limits.proofs.Profile.per_period.Goals as goal
 
 pub nonzero_div-result : goal.nonzero_div-result

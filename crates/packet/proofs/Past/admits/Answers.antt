@@ -1,5 +1,4 @@
 -- 13 and 14 once for a run: each test by what it takes away.
-use borrow.Author.Rules.{rules}
 use Rattle.packet.proofs.Past.admits.Goals as goal
 
 pub returns : goal.returns

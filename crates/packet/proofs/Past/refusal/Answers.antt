@@ -1,6 +1,5 @@
 -- The refusal of a packet: each return is one of the refusals in their order, from the tests before it.
 use Rattle.laws.specs.Kit.{sym, arith}
-use borrow.Author.Rules.{rules}
 use Rattle.packet.proofs.Refusals.{refused_11, refused_12, refused_13, refused_14, accepted_0}
 use Rattle.packet.proofs.Past.refusal.Goals as goal
 

@@ -1,6 +1,5 @@
 -- Nothing for the first; else the difference, which is not below 0.
 use Rattle.laws.specs.Kit.{eq-eqb, ne_eqb}
-use borrow.Author.Rules.{rules}
 use Rattle.packet.proofs.Past.since.Goals as goal
 
 pub returns-then-self-eq0 : goal.returns-then-self-eq0

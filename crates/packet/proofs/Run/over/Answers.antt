@@ -1,10 +1,10 @@
 -- A run over three slices of one length. The invariant: the run over what is left, from where it is, is the run over the whole.
 -- Each turn is a law of one packet; no more markers came than packets and one before them, so their number fits.
-use Rattle.std.specs.Prelude.{◌+◌, ◌-◌, ◌≤◌, ◌≡◌, ◌∷◌}
-use Rattle.laws.specs.Kit.{true, refl, sym, ◌∙◌, arith, length, not-true, not-false}
+use Rattle.std.specs.Prelude.{◌+◌, ◌≤◌, ◌≡◌, ◌∷◌}
+use Rattle.laws.specs.Kit.{true, refl, sym, ◌∙◌, arith, not-true, not-false}
 use borrow.Author.Rules.{rules}
-use Rattle.packet.specs.Paper.{packets, packets_from}
-use Rattle.packet.specs.Quick.{takes_of, ran_of}
+use Rattle.packet.specs.Paper.{packets_from}
+use Rattle.packet.specs.Quick.{takes_of}
 use Rattle.packet.proofs.Latest.{taken, run_ends, run_goes, run_breaks}
 use Rattle.packet.proofs.Lent.{packets_lent, packets_none}
 use Rattle.packet.proofs.Run.over.Goals as goal

@@ -1,5 +1,4 @@
 -- The fresh tally, field by field.
-use borrow.Author.Rules.{rules}
 use Rattle.packet.proofs.Tally.none.Goals as goal
 
 pub returns : goal.returns

@@ -1,10 +1,7 @@
 -- The scan of three slices of one length. The invariant: scanning what is left, from the tally so far, is scanning the whole.
 -- Each turn is a law of one packet; no more frames closed than packets came, so their number fits.
-use Rattle.std.specs.Prelude.{◌-◌, ◌≤◌, ◌≡◌}
-use Rattle.laws.specs.Kit.{refl, sym, ◌∙◌, arith, length}
+use Rattle.laws.specs.Kit.{refl, sym, ◌∙◌, arith}
 use borrow.Author.Rules.{rules}
-use Rattle.packet.specs.Paper.{packets, packets_from}
-use Rattle.packet.specs.Step.{scan_of}
 use Rattle.packet.proofs.Refusals.{accepted}
 use Rattle.packet.proofs.Lent.{packets_lent, packets_none}
 use Rattle.packet.proofs.Turn.{scan_ends, scan_stops, scan_tallied, tally_keeps}

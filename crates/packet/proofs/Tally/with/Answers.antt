@@ -1,6 +1,5 @@
 -- One packet more: each return is one law, from the tests before it.
 use Rattle.packet.proofs.Turn.{tally_passes, tally_closes, tally_begins}
-use borrow.Author.Rules.{rules}
 use Rattle.packet.proofs.Tally.with.Goals as goal
 
 pub returns-then-p-ne1 : goal.returns-then-p-ne1

@@ -2,7 +2,6 @@
 use Rattle.laws.specs.Kit.{sym, ◌∙◌, arith, not-true, not-false}
 use Rattle.timing.proofs.InRange.{sound_of}
 use Rattle.printer.proofs.Turning.{stays_takes, take_full, take_9, take_runs}
-use borrow.Author.Rules.{rules}
 use Rattle.printer.proofs.Walk.take.Goals as goal
 
 pub returns-then-out-lt-LINE : goal.returns-then-out-lt-LINE

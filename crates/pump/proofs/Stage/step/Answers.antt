@@ -2,7 +2,6 @@
 use Rattle.laws.specs.Kit.{length}
 use Rattle.window.specs.Step.{shown}
 use Rattle.pump.proofs.Stepping.{head_step, walk_step}
-use borrow.Author.Rules.{rules}
 use Rattle.pump.proofs.Stage.step.Goals as goal
 
 pub returns-in-Head : goal.returns-in-Head

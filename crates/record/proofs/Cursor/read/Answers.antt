@@ -3,7 +3,6 @@ use Rattle.laws.specs.Kit.{sym, ap, ◌∙◌, arith, true, ℕ, List}
 use Rattle.record.specs.Step.{next_piece}
 use Rattle.record.proofs.Ways.{rest_all, rest_none}
 use Rattle.record.proofs.Standing.{stands, stands_packet}
-use Rattle.std.proofs.Common.{rules}
 use Rattle.record.proofs.Cursor.read.Goals as goal
 
 pub returns-then-s-at : goal.returns-then-s-at

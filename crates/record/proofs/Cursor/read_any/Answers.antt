@@ -1,7 +1,6 @@
 -- What stands at the cursor, by the framing that was seen.
 use Rattle.laws.specs.Kit.{◌∙◌}
 use Rattle.record.proofs.Ways.{is_whole, next_framed}
-use Rattle.std.proofs.Common.{rules}
 use Rattle.record.proofs.Cursor.read_any.Goals as goal
 
 pub whole_record-requires : goal.whole_record-requires

@@ -1,7 +1,6 @@
 -- A packet's record that stands in front is the answer (Standing); else any record is read.
 use Rattle.laws.specs.Kit.{sym, ◌∙◌, arith}
 use Rattle.record.proofs.Standing.{stands, stands_packet}
-use Rattle.std.proofs.Common.{rules}
 use Rattle.record.proofs.Cursor.read_piece.Goals as goal
 
 pub packet_of-requires : goal.packet_of-requires

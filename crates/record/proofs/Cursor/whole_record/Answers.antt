@@ -2,7 +2,6 @@
 use Rattle.laws.specs.Kit.{sym, ◌∙◌}
 use Rattle.record.proofs.Format.{packet_room}
 use Rattle.record.proofs.Ways.{whole_22, whole_23, whole_packet}
-use Rattle.std.proofs.Common.{rules}
 use Rattle.record.proofs.Cursor.whole_record.Goals as goal
 
 pub returns-then-body-kind_length : goal.returns-then-body-kind_length

@@ -1,5 +1,4 @@
 -- The counts go on.
-use Rattle.std.proofs.Common.{rules}
 use Rattle.reel.proofs.Reel.passed.Goals as goal
 
 pub returns : goal.returns

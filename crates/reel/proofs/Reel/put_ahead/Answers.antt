@@ -1,10 +1,6 @@
 -- By what lies ahead.
-use Rattle.std.specs.Prelude.{◌≡◌}
-use Rattle.laws.specs.Kit.{sym, ap, List, ℕ}
-use Rattle.capture.specs.declared.Ahead.{Ahead}
 use Rattle.printer.proofs.Answers.{line_is, line_none}
 use Rattle.reel.specs.Step.{line_ahead}
-use Rattle.std.proofs.Common.{rules}
 use Rattle.reel.proofs.Reel.put_ahead.Goals as goal
 
 pub returns-in-Packet : goal.returns-in-Packet

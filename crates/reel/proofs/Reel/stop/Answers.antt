@@ -3,7 +3,6 @@ use Rattle.laws.specs.Kit.{subst, refl, arith}
 use Rattle.capture.specs.declared.Ahead.{Ahead}
 use Rattle.reel.specs.Step.{AheadFits}
 use Rattle.reel.proofs.Turning.{stop_packet, stop_wait, stop_end, stop_refused}
-use Rattle.std.proofs.Common.{rules}
 use Rattle.reel.proofs.Reel.stop.Goals as goal
 
 pub overflow_add-result : goal.overflow_add-result

@@ -2,7 +2,6 @@
 use Rattle.laws.specs.Kit.{length}
 use Rattle.window.specs.Step.{shown}
 use Rattle.spool.proofs.Stepping.{lead_step, roll_step}
-use borrow.Author.Rules.{rules}
 use Rattle.spool.proofs.Stage.step.Goals as goal
 
 pub returns-in-Leader : goal.returns-in-Leader

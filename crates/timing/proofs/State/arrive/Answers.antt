@@ -7,7 +7,6 @@ use Rattle.grain.specs.declared.Division.{Division}
 use Rattle.bucket.specs.Step as B
 use Rattle.frame.specs.Step as F
 use Rattle.timing.specs.Step.{arrive_of, gone_of, left_of}
-use borrow.Author.Rules.{rules}
 use Rattle.timing.proofs.State.arrive.Goals as goal
 use Rattle.timing.proofs.State.arrive.Goals.{After-struct_known-1}
 

@@ -1,7 +1,6 @@
 -- The call by its branches: 9, the scan's refusal, 15, or the run (Feeding).
 use Rattle.laws.specs.Kit.{sym, ◌∙◌, not-true, not-false}
 use Rattle.timing.proofs.Feeding.{fed_9, fed_refused, fed_15, one_length, runs, fed}
-use borrow.Author.Rules.{rules}
 use Rattle.timing.proofs.State.feed.Goals as goal
 
 pub returns-then-not-in_range : goal.returns-then-not-in_range

@@ -5,7 +5,6 @@ use Rattle.frame.specs.Range.{Planned}
 use Rattle.timing.specs.declared.Rules.{Rules}
 use Rattle.timing.proofs.InRange.{by_parts}
 use Rattle.timing.proofs.Planning.{planned}
-use borrow.Author.Rules.{rules}
 use Rattle.timing.proofs.State.in_range.Goals as goal
 
 pub returns-then-refusal-ne0 : goal.returns-then-refusal-ne0

@@ -2,7 +2,6 @@
 use Rattle.laws.specs.Kit.{refl, arith}
 use Rattle.timing.proofs.Laying.{row_fits, puts_one, puts_none}
 use Rattle.timing.proofs.Sink.{as_numbers}
-use borrow.Author.Rules.{rules}
 use Rattle.timing.proofs.State.lay_row.Goals as goal
 
 pub row-row-requires : goal.row-row-requires

@@ -1,6 +1,5 @@
 -- The frames closed, and all else as it was.
 use Rattle.timing.specs.Step.{mark_of}
-use borrow.Author.Rules.{rules}
 use Rattle.timing.proofs.State.mark.Goals as goal
 
 pub returns : goal.returns

@@ -1,7 +1,6 @@
 -- By whether the state is in range.
 use Rattle.laws.specs.Kit.{sym, ◌∙◌, not-true, not-false}
 use Rattle.timing.specs.Answers.{verdict_of}
-use borrow.Author.Rules.{rules}
 use Rattle.timing.proofs.State.verdict.Goals as goal
 
 pub returns-then-not-in_range : goal.returns-then-not-in_range

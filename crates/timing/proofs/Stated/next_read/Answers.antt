@@ -2,7 +2,6 @@
 use Rattle.laws.specs.Kit.{sym, ap, ◌∙◌, eq-eqb, ne_eqb}
 use Rattle.timing.specs.declared.StreamNumbers.{StreamNumbers}
 use Rattle.timing.specs.Answers.{next_of, stated_next}
-use borrow.Author.Rules.{rules}
 use Rattle.timing.proofs.Stated.next_read.Goals as goal
 
 pub returns-then-number-ne0 : goal.returns-then-number-ne0

@@ -1,5 +1,4 @@
 -- The profile by its kind, and the rest as it was stated.
-use borrow.Author.Rules.{rules}
 use Rattle.timing.proofs.Stated.numbers.Goals as goal
 
 pub returns : goal.returns

@@ -1,7 +1,6 @@
 -- What the kind is refused by, and then the rest.
 use Rattle.laws.specs.Kit.{◌∙◌}
 use Rattle.timing.specs.Step.{stated_refusal}
-use borrow.Author.Rules.{rules}
 use Rattle.timing.proofs.Stated.refusal.Goals as goal
 
 pub returns : goal.returns

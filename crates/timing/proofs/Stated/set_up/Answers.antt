@@ -3,7 +3,6 @@ use Rattle.laws.specs.Kit.{sym, ap, ◌∙◌, eq-eqb, ne_eqb}
 use Rattle.timing.specs.declared.SetUp.TheVariants.{Fresh}
 use Rattle.timing.specs.Answers.{stated_up}
 use Rattle.timing.specs.Step.{fresh_of}
-use borrow.Author.Rules.{rules}
 use Rattle.timing.proofs.Stated.set_up.Goals as goal
 
 pub returns-then-number-ne0 : goal.returns-then-number-ne0

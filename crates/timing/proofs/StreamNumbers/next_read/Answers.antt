@@ -4,7 +4,6 @@ use Rattle.frame.specs.Range.{Planned}
 use Rattle.timing.specs.declared.Rules.{Rules}
 use Rattle.timing.proofs.Planning.{planned}
 use Rattle.timing.proofs.Awaiting.{apart_none, refused_first, refused_apart, as_told}
-use borrow.Author.Rules.{rules}
 use Rattle.timing.proofs.StreamNumbers.next_read.Goals as goal
 
 pub returns-then-number-ne0 : goal.returns-then-number-ne0

@@ -2,7 +2,6 @@
 use Rattle.laws.specs.Kit.{arith}
 use Rattle.limits.proofs.Rates.{frame_most}
 use Rattle.timing.specs.Step.{rules_of}
-use borrow.Author.Rules.{rules}
 use Rattle.timing.proofs.StreamNumbers.rules.Goals as goal
 
 pub tro_grains-requires : goal.tro_grains-requires

@@ -1,7 +1,6 @@
 -- By the refusal's number.
 use Rattle.laws.specs.Kit.{sym, ◌∙◌, eq-eqb, ne_eqb}
 use Rattle.timing.specs.Answers.{set_up_as}
-use borrow.Author.Rules.{rules}
 use Rattle.timing.proofs.StreamNumbers.set_up.Goals as goal
 
 pub returns-in-0 : goal.returns-in-0

@@ -1,5 +1,4 @@
 -- The nine numbers, the answers' by their contracts.
-use borrow.Author.Rules.{rules}
 use Rattle.timing.specs.Answers.{summary_with}
 use Rattle.timing.proofs.Verdict.summary.Goals as goal
 

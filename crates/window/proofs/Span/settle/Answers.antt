@@ -1,7 +1,6 @@
 -- What is held stands at the front.
 use Rattle.laws.specs.Kit.{refl}
 use Rattle.window.proofs.Showing.{settled_shown}
-use borrow.Author.Rules.{rules}
 use Rattle.window.proofs.Span.settle.Goals as goal
 
 pub returns : goal.returns

@@ -1,5 +1,4 @@
 -- Each number is put in its place, which holds it.
-use borrow.Author.Rules.{rules}
 use Rattle.words.specs.Paper.{asked_of}
 use Rattle.words.proofs.Numbers.asked.Goals as goal
 
