@@ -296,7 +296,8 @@ pub fn tro_grains(frame: u64, height: u16, tro: u32) -> u64
     if tro != DEFAULT_TRO {
         return MICROSECOND * (tro as u64);
     }
-    if 1080 <= height {
+    let tall = 1080 <= height;
+    if tall {
         43 * frame / 1125
     } else {
         28 * frame / 750

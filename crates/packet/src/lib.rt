@@ -137,7 +137,8 @@ impl Past {
         if p.time < self.last {
             return 12;
         }
-        if 600000000000 < self.elapsed(p.time) {
+        let over = 600000000000 < self.elapsed(p.time);
+        if over {
             return 13;
         }
         if 1000000000 <= self.packets {
@@ -281,7 +282,8 @@ impl Tally {
                 closed: self.closed,
             };
         }
-        if self.begun {
+        let closes = self.begun;
+        if closes {
             return Tally {
                 past: next,
                 begun: true,

@@ -235,7 +235,8 @@ fn same(a: &[u64], b: &[u64]) -> bool
     }
     let mut k = 0;
     while k < a.len() {
-        if a[k] != b[k] {
+        let differ = a[k] != b[k];
+        if differ {
             return false;
         }
         k += 1;
@@ -320,7 +321,8 @@ fn ask(
     let scanned = past.scan(s.frames.begun, arrivals, stamps, markers);
     match scanned {
         Scanned::Fine(closed) => {
-            if room / frame::ROW < closed || space < SUMMARY {
+            let few = space < SUMMARY;
+            if room / frame::ROW < closed || few {
                 return told(15, past.packets);
             }
             told(0, 0)

@@ -123,7 +123,8 @@ fn version_known(version: u8) -> bool
 fn class_in(version: u8, class: u8) -> u8
     ensures { result ≡ class_in version class }
 {
-    if version != 1 {
+    let later = version != 1;
+    if later {
         return class;
     }
     match class {
@@ -401,7 +402,8 @@ impl Cursor {
                 size: size,
             };
         }
-        if is_parameters(kind) {
+        let again = is_parameters(kind);
+        if again {
             return Next::Refused {
                 number: 23,
                 offset: self.at,

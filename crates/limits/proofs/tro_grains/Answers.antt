@@ -8,10 +8,10 @@ pub returns-then-tro-ne-DEFAULT_TRO : goal.returns-then-tro-ne-DEFAULT_TRO
 unfolding tro_grains
 returns-then-tro-ne-DEFAULT_TRO c = simp (ne_eqb _ _ c.if-tro-ne-DEFAULT_TRO.true)
 
-pub returns-then-height-ge1080 : goal.returns-then-height-ge1080
+pub returns-then-tall : goal.returns-then-tall
 unfolding tro_grains default_tro
-returns-then-height-ge1080 c = simp (eq-eqb _ _ c.if-tro-ne-DEFAULT_TRO.false, le-leb _ _ c.if-height-ge1080.true) (share 43 c.args.frame 1125)
+returns-then-tall c = simp (eq-eqb _ _ c.if-tro-ne-DEFAULT_TRO.false, le-leb _ _ c.if-tall.true) (share 43 c.args.frame 1125)
 
-pub returns-else-height-ge1080 : goal.returns-else-height-ge1080
+pub returns-else-tall : goal.returns-else-tall
 unfolding tro_grains default_tro
-returns-else-height-ge1080 c = simp (eq-eqb _ _ c.if-tro-ne-DEFAULT_TRO.false, lt-leb _ _ c.if-height-ge1080.false) (share 28 c.args.frame 750)
+returns-else-tall c = simp (eq-eqb _ _ c.if-tro-ne-DEFAULT_TRO.false, lt-leb _ _ c.if-tall.false) (share 28 c.args.frame 750)

@@ -10,15 +10,15 @@ returns-then-a-b c = sym (unequal _ _ (λ e. omega (arith, c.if-a-b.true)))
 pub loop-k-init : goal.loop-k-init
 loop-k-init c = (refl, omega arith, c.if-a-b.false)
 
-pub returns-then-a-k : goal.returns-then-a-k
-returns-then-a-k c =
+pub returns-then-differ : goal.returns-then-differ
+returns-then-differ c =
     let l = c.loop-k in
-    sym (differ_here _ _ l.k (omega arith) (omega arith) (λ e. omega (arith, c.if-a-k.true))) ∙ l.invariant.0
+    sym (differ_here _ _ l.k (omega arith) (omega arith) (λ e. omega (arith, c.if-differ.true))) ∙ l.invariant.0
 
 pub loop-k-preserved : goal.loop-k-preserved
 loop-k-preserved c =
     let l = c.loop-k in
-    (alike_here _ _ l.k (omega arith) (omega arith) (omega (arith, c.if-a-k.false)) ∙ l.invariant.0, omega arith, l.invariant.2)
+    (alike_here _ _ l.k (omega arith) (omega arith) (omega (arith, c.if-differ.false)) ∙ l.invariant.0, omega arith, l.invariant.2)
 
 pub returns : goal.returns
 returns c =

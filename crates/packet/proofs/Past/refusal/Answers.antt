@@ -9,8 +9,8 @@ returns-then-p-gt1 c = sym (refused_11 _ _ _ (omega arith))
 pub returns-then-p-self : goal.returns-then-p-self
 returns-then-p-self c = sym (refused_12 _ _ _ (omega arith) (omega arith))
 
-pub returns-then-elapsed-gt600000000000 : goal.returns-then-elapsed-gt600000000000
-returns-then-elapsed-gt600000000000 c = sym (refused_13 _ _ _ (omega arith) (omega arith) (omega arith))
+pub returns-then-over : goal.returns-then-over
+returns-then-over c = sym (refused_13 _ _ _ (omega arith) (omega arith) (omega arith))
 
 pub returns-then-self-ge1000000000 : goal.returns-then-self-ge1000000000
 returns-then-self-ge1000000000 c = sym (refused_14 _ _ _ (omega arith) (omega arith) (omega arith) (omega arith))
