@@ -30,7 +30,7 @@ unfoldable pub rate_of : ℕ → Fraction
 rate_of code = get_or (no_rate ∷ rates) code no_rate
 
 -- G3: "27,000,000,000 times the rate's denominator over its numerator" (document 02, iv), in grains. That nothing is left over, and that the
--- eight lengths are those of document 01: proofs/Rates.antt.
+-- eight lengths are those of document 01: proofs/Rates.antt, proofs/EightLengths.antt.
 abbrev pub length_at : Fraction → ℕ
 length_at rate = second * rate.den / rate.num
 

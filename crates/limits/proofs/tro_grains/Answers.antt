@@ -1,5 +1,5 @@
 -- Given, default for a tall picture, default for a low one: each is a share of the frame as a fraction.
-use Rattle.laws.specs.Kit.{eq-eqb, ne_eqb, le-leb, lt-leb}
+use Rattle.laws.specs.Kit.{eq-eqb, ne_eqb, le-leb, lt-leb, arith}
 use Rattle.limits.specs.Paper.{tro_grains, default_tro}
 use Rattle.limits.proofs.Laws.{share}
 use Rattle.limits.proofs.tro_grains.Goals as goal
@@ -10,8 +10,8 @@ returns-then-tro-ne-DEFAULT_TRO c = simp (ne_eqb _ _ c.if-tro-ne-DEFAULT_TRO.tru
 
 pub returns-then-tall : goal.returns-then-tall
 unfolding tro_grains default_tro
-returns-then-tall c = simp (eq-eqb _ _ c.if-tro-ne-DEFAULT_TRO.false, le-leb _ _ c.if-tall.true) (share 43 c.args.frame 1125)
+returns-then-tall c = simp (eq-eqb _ _ c.if-tro-ne-DEFAULT_TRO.false, le-leb 1080 c.args.height (omega (arith, c.if-tall.true))) (share 43 c.args.frame 1125)
 
 pub returns-else-tall : goal.returns-else-tall
 unfolding tro_grains default_tro
-returns-else-tall c = simp (eq-eqb _ _ c.if-tro-ne-DEFAULT_TRO.false, lt-leb _ _ c.if-tall.false) (share 28 c.args.frame 750)
+returns-else-tall c = simp (eq-eqb _ _ c.if-tro-ne-DEFAULT_TRO.false, lt-leb 1080 c.args.height (omega (arith, c.if-tall.false))) (share 28 c.args.frame 750)

@@ -7,11 +7,6 @@ use Rattle.record.proofs.Cursor.whole_record.Goals as goal
 pub returns-then-body-kind_length : goal.returns-then-body-kind_length
 returns-then-body-kind_length c = sym (whole_22 _ _ _ _ (λ e. c.if-body-kind_length.true (e ∙ sym c.kind_length.ensures)))
 
-pub returns-then-again : goal.returns-then-again
-returns-then-again c =
-    let fits = c.if-body-kind_length.false ∙ c.kind_length.ensures in
-    sym (whole_23 _ _ _ _ fits (sym c.is_parameters-again.ensures ∙ c.if-again.true))
-
 pub packet_of-requires : goal.packet_of-requires
 packet_of-requires c =
     let fits = c.if-body-kind_length.false ∙ c.kind_length.ensures in
@@ -22,3 +17,8 @@ returns c =
     let fits = c.if-body-kind_length.false ∙ c.kind_length.ensures in
     c.packet_of.ensures
     ∙ rw c.after_packet.ensures (sym (whole_packet _ _ _ _ fits (sym c.is_parameters-again.ensures ∙ c.if-again.false)))
+
+pub returns-then-again : goal.returns-then-again
+returns-then-again c =
+    let fits = c.if-body-kind_length.false ∙ c.kind_length.ensures in
+    sym (whole_23 _ _ _ _ fits (sym c.is_parameters-again.ensures ∙ c.if-again.true))

@@ -6,12 +6,6 @@ use Rattle.timing.proofs.State.feed.Goals as goal
 pub returns-then-not-in_range : goal.returns-then-not-in_range
 returns-then-not-in_range c = let r = c.in_range in fed_9 _ _ _ _ _ (sym r.ensures ∙ not-true r.result c.if-not-in_range.true-raw)
 
-pub returns-then-rows-closed : goal.returns-then-rows-closed
-returns-then-rows-closed c =
-    let i = c.in_range in
-    fed_15 _ _ _ _ _ (sym i.ensures ∙ not-false i.result c.if-not-in_range.false-raw) c.scan-scanned.ensures c.in-Fine.is
-    c.if-rows-closed.true
-
 pub run-self-requires : goal.run-self-requires
 run-self-requires c =
     let i = c.in_range in
@@ -29,6 +23,12 @@ returns-else-rows-closed c =
     let e = sym i.ensures ∙ not-false i.result c.if-not-in_range.false-raw in
     fed _ _ _ _ _ e c.scan-scanned.ensures c.in-Fine.is c.rules-rules.ensures c.if-rows-closed.false
     c.run-self.ensures
+
+pub returns-then-rows-closed : goal.returns-then-rows-closed
+returns-then-rows-closed c =
+    let i = c.in_range in
+    fed_15 _ _ _ _ _ (sym i.ensures ∙ not-false i.result c.if-not-in_range.false-raw) c.scan-scanned.ensures c.in-Fine.is
+    c.if-rows-closed.true
 
 pub returns-in-Refused : goal.returns-in-Refused
 returns-in-Refused c =
