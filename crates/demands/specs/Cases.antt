@@ -137,7 +137,8 @@ cases =
 
 -- K1, K2, K3, K4, K5, K6, K7, K8, K9, K10, K11, K12: what the definitions give is what document 01 gives
 pub cases_hold : map (λ c. c.got) cases ≡ map (λ c. c.want) cases
-unfolding cases set_up_refusal first_no packets_fit tro_fits rate_of frame_length active_ratio class_of c_max vrx_full int tro_grains default_tro nearest phase latency
+unfolding cases set_up_refusal first_no packets_fit tro_fits rate_of frame_length active_ratio class_of c_max vrx_full int tro_grains default_tro
+    nearest phase latency
     count fold rules_of arrive_of mark_of step_of rows_after numbers summary_with B.step_of F.opened_of F.counted_of F.kind_of F.whole_row
     F.row_of F.judged_of F.answer_of F.joined F.arrive_of F.close_of F.rows_of since reading_of packets_by format_refusal version_known class_in
     is_profile profile_of is_parameters kind_length number_of refusal_of

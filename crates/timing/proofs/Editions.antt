@@ -42,7 +42,8 @@ module _ (profile : Profile) (p : Parameters) where
         go true = refl
         go false = refl
 
-    rows_beside_lem : (s : State) (q : Packet) → rows_of (rules_of (stream_with profile edition p)) s q ≡ rows_of (rules_of (of_profile profile p)) (beside_buffer s) q
+    rows_beside_lem : (s : State) (q : Packet)
+        → rows_of (rules_of (stream_with profile edition p)) s q ≡ rows_of (rules_of (of_profile profile p)) (beside_buffer s) q
     unfolding rules_of F.rows_of F.arrive_of F.row_of F.whole_row F.kind_of F.opened_of F.counted_of F.ticked_of
     rows_beside_lem s q = refl
 

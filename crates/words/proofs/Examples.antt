@@ -48,28 +48,28 @@ of_height height tro profile edition = record {
 
 -- R18: "as a height of 65,536, is refused as set-up refuses such a number"
 pub too_high : stated_refusal (asked_of (of_height 65536 4294967295 1 1)).stated ≡ 4
-unfolding asked_of stated_refusal profile_refusal is_profile profile_of set_up_in edition_refusal set_up_refusal first_no class_of packets_fit tro_fits frame_length
-    rate_of
+unfolding asked_of stated_refusal profile_refusal is_profile profile_of set_up_in edition_refusal set_up_refusal first_no class_of packets_fit tro_fits
+    frame_length rate_of
 too_high = refl
 
 pub too_late : stated_refusal (asked_of (of_height 1080 4294967296 1 1)).stated ≡ 7
-unfolding asked_of stated_refusal profile_refusal is_profile profile_of set_up_in edition_refusal set_up_refusal first_no class_of packets_fit tro_fits frame_length
-    rate_of
+unfolding asked_of stated_refusal profile_refusal is_profile profile_of set_up_in edition_refusal set_up_refusal first_no class_of packets_fit tro_fits
+    frame_length rate_of
 too_late = refl
 
 -- R18: an edition of 2^32 + 2 is not taken for 2
 pub no_edition : stated_refusal (asked_of (of_height 1080 4294967295 3 4294967298)).stated ≡ 8
-unfolding asked_of stated_refusal profile_refusal is_profile profile_of set_up_in edition_refusal set_up_refusal first_no class_of packets_fit tro_fits frame_length
-    rate_of
+unfolding asked_of stated_refusal profile_refusal is_profile profile_of set_up_in edition_refusal set_up_refusal first_no class_of packets_fit tro_fits
+    frame_length rate_of
 no_edition = refl
 
 -- S12: nor is a profile of 256 + 3 taken for 3, and 22 comes first
 pub no_profile : stated_refusal (asked_of (of_height 65536 4294967296 259 3)).stated ≡ 22
-unfolding asked_of stated_refusal profile_refusal is_profile profile_of set_up_in edition_refusal set_up_refusal first_no class_of packets_fit tro_fits frame_length
-    rate_of
+unfolding asked_of stated_refusal profile_refusal is_profile profile_of set_up_in edition_refusal set_up_refusal first_no class_of packets_fit tro_fits
+    frame_length rate_of
 no_profile = refl
 
 pub measured : stated_refusal (asked_of (of_height 1080 4294967295 3 2)).stated ≡ 0
-unfolding asked_of stated_refusal profile_refusal is_profile profile_of set_up_in edition_refusal set_up_refusal first_no class_of packets_fit tro_fits frame_length
-    rate_of
+unfolding asked_of stated_refusal profile_refusal is_profile profile_of set_up_in edition_refusal set_up_refusal first_no class_of packets_fit tro_fits
+    frame_length rate_of
 measured = refl

@@ -55,4 +55,5 @@ loop-packet-smaller c =
 pub loop-packet-preserved : goal.loop-packet-preserved
 loop-packet-preserved c =
     let l = c.loop-packet in
-    loop_next as_numbers (first (goal.at.loop-packet-preserved c).In-Packet).0 l.invariant (turn_plain as_numbers _ l.s _ l.at l.rows c.arrive-s.ensures c.if-packet-eq1.false)
+    loop_next as_numbers (first (goal.at.loop-packet-preserved c).In-Packet).0 l.invariant
+    (turn_plain as_numbers _ l.s _ l.at l.rows c.arrive-s.ensures c.if-packet-eq1.false)

@@ -10,7 +10,8 @@ use Rattle.intake.proofs.run_packets.Given as goal
 
 abbrev pub invariant-loop-packet : goal.invariant-loop-packet
 invariant-loop-packet l =
-    Loop as_numbers l.rules l.initial.s (handed_in l.setting (drop header_bytes l.bytes)) 0 l.initial.rows l.s (handed_in l.setting (drop l.from l.bytes)) l.at l.rows
+    Loop as_numbers l.rules l.initial.s (handed_in l.setting (drop header_bytes l.bytes)) 0 l.initial.rows l.s
+    (handed_in l.setting (drop l.from l.bytes)) l.at l.rows
 
 abbrev pub decreases-loop-packet : goal.decreases-loop-packet
 decreases-loop-packet l = length l.bytes - l.from

@@ -45,6 +45,7 @@ pub returns-then-admits : goal.returns-then-admits
 returns-then-admits c =
     let through = sym c.run_packets-ran.ensures ∙ c.in-Through.is in
     let fine = sym c.admits.ensures ∙ c.if-admits.true in
+    let there = (goal.at.returns-then-admits c).Then-count-ne0 in
     ap (Fine c.args.numbers c.records_left-count.result) c.closed.ensures
-    ∙ quick_finish _ (at (goal.at.returns-then-admits c).Then-count-ne0) (drop (at (goal.at.returns-then-admits c).Then-count-ne0) (file (goal.at.returns-then-admits c).Then-count-ne0)) _ (some (goal.at.returns-then-admits c).Then-count-ne0) (fills (goal.at.returns-then-admits c).Then-count-ne0) through
-    (rw (c.none.ensures, c.packet_at-first.ensures, rest_all (file (goal.at.returns-then-admits c).Then-count-ne0) (at (goal.at.returns-then-admits c).Then-count-ne0)) at fine)
+    ∙ quick_finish _ (at there) (drop (at there) (file there)) _ (some there) (fills there) through
+    (rw (c.none.ensures, c.packet_at-first.ensures, rest_all (file there) (at there)) at fine)

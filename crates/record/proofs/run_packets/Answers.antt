@@ -49,7 +49,8 @@ packet_fits-requires c = record { inside = rw (rest_all _ _, length-drop) (omega
 pub returns-then-not-packet_fits : goal.returns-then-not-packet_fits
 returns-then-not-packet_fits c =
     let at = c.loop-left in
-    sym (ran_other at.run (some (goal.at.returns-then-not-packet_fits c).In-loop-left) _ (sym (stands_here (goal.at.returns-then-not-packet_fits c).After-packet_fits) ∙ not-true _ c.if-not-packet_fits.true-raw)) ∙ at.invariant.0
+    sym (ran_other at.run (some (goal.at.returns-then-not-packet_fits c).In-loop-left) _
+    (sym (stands_here (goal.at.returns-then-not-packet_fits c).After-packet_fits) ∙ not-true _ c.if-not-packet_fits.true-raw)) ∙ at.invariant.0
 
 pub packet_at-p-requires : goal.packet_at-p-requires
 packet_at-p-requires c = record { inside = rw (rest_all _ _, length-drop) (omega arith) }
@@ -58,7 +59,8 @@ pub returns-then-not-takes : goal.returns-then-not-takes
 returns-then-not-takes c =
     let at = c.loop-left in
     let not_taken = sym c.takes.ensures ∙ not-true _ c.if-not-takes.true-raw in
-    sym (ran_breaks at.run (some (goal.at.returns-then-not-takes c).In-loop-left) _ (rw (here (goal.at.returns-then-not-takes c).After-packet_at-p) at not_taken)) ∙ at.invariant.0
+    sym (ran_breaks at.run (some (goal.at.returns-then-not-takes c).In-loop-left) _
+    (rw (here (goal.at.returns-then-not-takes c).After-packet_at-p) at not_taken)) ∙ at.invariant.0
 
 pub with-run-requires : goal.with-run-requires
 with-run-requires c =
@@ -69,7 +71,8 @@ loop-left-preserved c =
     let at = c.loop-left in
     let stood = sym (stands_here (goal.at.loop-left-preserved c).After-packet_fits) ∙ not-false _ c.if-not-packet_fits.false-raw in
     let took = rw (here (goal.at.loop-left-preserved c).After-packet_at-p) at (sym c.takes.ensures ∙ not-false _ c.if-not-takes.false-raw) in
-    let on = sym (ran_goes at.run (some (goal.at.loop-left-preserved c).In-loop-left) (rest (goal.at.loop-left-preserved c).In-loop-left) stood took) ∙ at.invariant.0 in (
+    let left = (goal.at.loop-left-preserved c).In-loop-left in
+    let on = sym (ran_goes at.run (some left) (rest left) stood took) ∙ at.invariant.0 in (
       rw (c.with-run.ensures, here (goal.at.loop-left-preserved c).After-packet_at-p) (rw (drop-drop packet_bytes at.at) at on),
       omega arith,
       rw c.with-run.ensures (omega (arith, small (goal.at.loop-left-preserved c).Else-not-takes)),

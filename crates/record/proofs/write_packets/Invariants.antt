@@ -8,7 +8,8 @@ use Rattle.record.proofs.write_packets.Given as goal
 
 abbrev pub invariant-loop-i : goal.invariant-loop-i
 invariant-loop-i l =
-    (sets l.out l.at (records_of (packets_from l.i l.arrivals l.stamps l.markers)) ≡ sets l.initial.out head_bytes (records_of (packets l.arrivals l.stamps l.markers)))
+    (sets l.out l.at (records_of (packets_from l.i l.arrivals l.stamps l.markers))
+    ≡ sets l.initial.out head_bytes (records_of (packets l.arrivals l.stamps l.markers)))
     × (l.at ≡ head_bytes + packet_bytes * l.i) × (l.i ≤ length l.arrivals) × (length l.out ≡ length l.initial.out)
 
 abbrev pub decreases-loop-i : goal.decreases-loop-i

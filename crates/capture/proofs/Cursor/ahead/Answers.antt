@@ -55,7 +55,8 @@ pub behind-requires : goal.behind-requires
 behind-requires c =
     let l = c.loop-more in
     let left = length-drop l.used c.args.window.now in
-    used_fits (rest (goal.at.behind-requires c).After-read-next) l.used c.read-next.result (omega (arith, left, l.invariant.2, c.well_formed)) (fits (goal.at.behind-requires c).After-read-next)
+    used_fits (rest (goal.at.behind-requires c).After-read-next) l.used c.read-next.result (omega (arith, left, l.invariant.2, c.well_formed))
+    (fits (goal.at.behind-requires c).After-read-next)
 
 pub returns-in_default : goal.returns-in_default
 returns-in_default c =

@@ -7,7 +7,8 @@ use Rattle.capture.proofs.Cursor.ahead.Given as goal
 
 abbrev pub invariant-loop-more : goal.invariant-loop-more
 invariant-loop-more l =
-    (ahead_from l.setting l.last l.cursor l.window l.used l.skipped ≡ ahead_of l.setting l.initial.cursor l.window l.last) × (l.skipped ≤ l.used) × (l.used ≤ length l.window)
+    (ahead_from l.setting l.last l.cursor l.window l.used l.skipped ≡ ahead_of l.setting l.initial.cursor l.window l.last)
+    × (l.skipped ≤ l.used) × (l.used ≤ length l.window)
 
 abbrev pub decreases-loop-more : goal.decreases-loop-more
 decreases-loop-more l = length l.window - l.used

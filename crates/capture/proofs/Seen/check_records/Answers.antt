@@ -30,13 +30,15 @@ loop-told-init c =
 pub returns-in_default : goal.returns-in_default
 returns-in_default c =
     let at = c.loop-told in
-    c.close.ensures ∙ check_stops _ _ _ _ (opened c.in_default.in_default-own.keys2) (sym (here (goal.at.returns-in_default c).After-front-front)) ∙ at.invariant.same
+    c.close.ensures ∙ check_stops _ _ _ _ (opened c.in_default.in_default-own.keys2)
+    (sym (here (goal.at.returns-in_default c).After-front-front)) ∙ at.invariant.same
 
 pub returns-then-refusal-ne0 : goal.returns-then-refusal-ne0
 returns-then-refusal-ne0 c =
     let at = c.loop-told in
     c.refused.ensures
-    ∙ loop_refused at.invariant (sym (here (goal.at.returns-then-refusal-ne0 c).After-front-front) ∙ c.in-Record.is) (λ e. c.if-refusal-ne0.true (c.refusal.ensures ∙ e))
+    ∙ loop_refused at.invariant (sym (here (goal.at.returns-then-refusal-ne0 c).After-front-front) ∙ c.in-Record.is)
+    (λ e. c.if-refusal-ne0.true (c.refusal.ensures ∙ e))
 
 pub with-seen-requires : goal.with-seen-requires
 with-seen-requires c =

@@ -31,17 +31,22 @@ returns-then-window-lt-RECORD c = scrap_yet _ _ _ c.if-window-eq0.false c.if-win
 
 pub returns-then-captured-window : goal.returns-then-captured-window
 returns-then-captured-window c =
-    c.record_in.ensures ∙ whole_there _ _ _ (some (goal.at.returns-then-captured-window c).After-size-captured) (sixteen (goal.at.returns-then-captured-window c).After-size-captured) (captured (goal.at.returns-then-captured-window c).After-size-captured) c.if-captured-window.true
+    let size = (goal.at.returns-then-captured-window c).After-size-captured in
+    c.record_in.ensures ∙ whole_there _ _ _ (some size) (sixteen size) (captured size) c.if-captured-window.true
 
 pub returns-then-last-3 : goal.returns-then-last-3
 returns-then-last-3 c =
-    cut_last _ _ _ (some (goal.at.returns-then-last-3 c).After-size-captured) (sixteen (goal.at.returns-then-last-3 c).After-size-captured) (captured (goal.at.returns-then-last-3 c).After-size-captured) c.if-captured-window.false c.if-last-3.true
+    let size = (goal.at.returns-then-last-3 c).After-size-captured in
+    cut_last _ _ _ (some size) (sixteen size) (captured size) c.if-captured-window.false c.if-last-3.true
 
 pub returns-then-window-ge-MATTER : goal.returns-then-window-ge-MATTER
 returns-then-window-ge-MATTER c =
+    let size = (goal.at.returns-then-window-ge-MATTER c).After-size-captured in
     c.record_in-then-window-ge-MATTER.ensures
-    ∙ front_there _ _ _ (some (goal.at.returns-then-window-ge-MATTER c).After-size-captured) (sixteen (goal.at.returns-then-window-ge-MATTER c).After-size-captured) (captured (goal.at.returns-then-window-ge-MATTER c).After-size-captured) c.if-captured-window.false c.if-last-3.false c.if-window-ge-MATTER.true
+    ∙ front_there _ _ _ (some size) (sixteen size) (captured size) c.if-captured-window.false c.if-last-3.false
+    c.if-window-ge-MATTER.true
 
 pub returns : goal.returns
 returns c =
-    front_yet _ _ _ (some (goal.at.returns c).After-size-captured) (sixteen (goal.at.returns c).After-size-captured) (captured (goal.at.returns c).After-size-captured) c.if-captured-window.false c.if-last-3.false c.if-window-ge-MATTER.false
+    let size = (goal.at.returns c).After-size-captured in
+    front_yet _ _ _ (some size) (sixteen size) (captured size) c.if-captured-window.false c.if-last-3.false c.if-window-ge-MATTER.false

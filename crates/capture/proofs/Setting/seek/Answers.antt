@@ -21,7 +21,8 @@ loop-at-init c = refl
 
 pub returns-in_default : goal.returns-in_default
 returns-in_default c =
-    seek_stops _ _ _ c.loop-at-test.true (sym (here (goal.at.returns-in_default c).After-front-front)) (opened c.in_default.in_default-own.keys2) ∙ c.loop-at.invariant
+    seek_stops _ _ _ c.loop-at-test.true (sym (here (goal.at.returns-in_default c).After-front-front))
+    (opened c.in_default.in_default-own.keys2) ∙ c.loop-at.invariant
 
 pub overflow_add-at : goal.overflow_add-at
 overflow_add-at c =
@@ -31,7 +32,8 @@ overflow_add-at c =
 pub returns-in_default-told : goal.returns-in_default-told
 returns-in_default-told c =
     c.found.ensures
-    ∙ seek_found _ _ _ c.loop-at-test.true (sym (here (goal.at.returns-in_default-told c).After-front-front)) c.in-Record.is (opened c.in_default-told.in_default-told-own.keys2)
+    ∙ seek_found _ _ _ c.loop-at-test.true (sym (here (goal.at.returns-in_default-told c).After-front-front)) c.in-Record.is
+    (opened c.in_default-told.in_default-told-own.keys2)
     ∙ c.loop-at.invariant
 
 pub overflow_add-at-in-loop-at : goal.overflow_add-at-in-loop-at

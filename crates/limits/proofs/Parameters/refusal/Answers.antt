@@ -8,7 +8,8 @@ use Rattle.limits.specs.declared.Profile.{Profile}
 use Rattle.limits.specs.Paper.{class_fits, tro_fits, questions, set_up_refusal}
 use Rattle.limits.proofs.Laws.{First, passes, asked, refused, first}
 use Rattle.limits.proofs.Parameters.refusal.Goals as goal
-use Rattle.limits.proofs.Parameters.refusal.Goals.{After-struct_known-2-1, After-struct_known-3-1, Else-not-is_within-2, Else-not-is_within-3, Else-not-maxudp_known, Else-not-packets_fit}
+use Rattle.limits.proofs.Parameters.refusal.Goals.{After-struct_known-2-1, After-struct_known-3-1, Else-not-is_within-2, Else-not-is_within-3}
+use Rattle.limits.proofs.Parameters.refusal.Goals.{Else-not-maxudp_known, Else-not-packets_fit}
 
 -- after k questions
 record Past (k : ℕ) : Type 0 where
@@ -145,7 +146,9 @@ pub returns-then-not-is_within : goal.returns-then-not-is_within
 returns-then-not-is_within q = all_asked _ _ (refused q.is_within.ensures q.if-not-is_within.true-raw)
 
 pub returns-then-not-is_within-2 : goal.returns-then-not-is_within-2
-returns-then-not-is_within-2 q = (past1 (goal.at.returns-then-not-is_within-2 q).After-struct_known-2-1).so (refused q.is_within-2.ensures q.if-not-is_within-2.true-raw)
+returns-then-not-is_within-2 q =
+    let p = past1 (goal.at.returns-then-not-is_within-2 q).After-struct_known-2-1 in
+    p.so (refused q.is_within-2.ensures q.if-not-is_within-2.true-raw)
 
 pub returns-then-not-class_fits : goal.returns-then-not-class_fits
 returns-then-not-class_fits q =
@@ -154,13 +157,19 @@ returns-then-not-class_fits q =
     q.if-not-class_fits.true-raw)
 
 pub returns-then-not-is_within-3 : goal.returns-then-not-is_within-3
-returns-then-not-is_within-3 q = (past3 (goal.at.returns-then-not-is_within-3 q).After-struct_known-3-1).so (refused q.is_within-3.ensures q.if-not-is_within-3.true-raw)
+returns-then-not-is_within-3 q =
+    let p = past3 (goal.at.returns-then-not-is_within-3 q).After-struct_known-3-1 in
+    p.so (refused q.is_within-3.ensures q.if-not-is_within-3.true-raw)
 
 pub returns-then-not-packets_fit : goal.returns-then-not-packets_fit
-returns-then-not-packets_fit q = (past4 (goal.at.returns-then-not-packets_fit q).Else-not-is_within-3).so (refused q.packets_fit.ensures q.if-not-packets_fit.true-raw)
+returns-then-not-packets_fit q =
+    let p = past4 (goal.at.returns-then-not-packets_fit q).Else-not-is_within-3 in
+    p.so (refused q.packets_fit.ensures q.if-not-packets_fit.true-raw)
 
 pub returns-then-not-maxudp_known : goal.returns-then-not-maxudp_known
-returns-then-not-maxudp_known q = (past5 (goal.at.returns-then-not-maxudp_known q).Else-not-packets_fit).so (refused q.maxudp_known.ensures q.if-not-maxudp_known.true-raw)
+returns-then-not-maxudp_known q =
+    let p = past5 (goal.at.returns-then-not-maxudp_known q).Else-not-packets_fit in
+    p.so (refused q.maxudp_known.ensures q.if-not-maxudp_known.true-raw)
 
 pub returns-then-not-tro_fits : goal.returns-then-not-tro_fits
 returns-then-not-tro_fits q =

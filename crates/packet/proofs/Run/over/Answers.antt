@@ -35,7 +35,8 @@ lent_packet-p-requires c =
 pub returns-then-not-takes : goal.returns-then-not-takes
 returns-then-not-takes c =
     let at = c.loop-i in
-    sym (run_breaks at.run (here (goal.at.returns-then-not-takes c).After-lent_packet-p) (sym c.takes.ensures ∙ not-true _ c.if-not-takes.true-raw)) ∙ at.invariant.0
+    sym (run_breaks at.run (here (goal.at.returns-then-not-takes c).After-lent_packet-p)
+    (sym c.takes.ensures ∙ not-true _ c.if-not-takes.true-raw)) ∙ at.invariant.0
 
 pub with-run-requires : goal.with-run-requires
 with-run-requires c =
@@ -44,7 +45,8 @@ with-run-requires c =
 pub loop-i-preserved : goal.loop-i-preserved
 loop-i-preserved c =
     let at = c.loop-i in (
-      rw c.with-run.ensures (sym (run_goes at.run (here (goal.at.loop-i-preserved c).After-lent_packet-p) (goes (goal.at.loop-i-preserved c).Else-not-takes)) ∙ at.invariant.0),
+      rw c.with-run.ensures (sym (run_goes at.run (here (goal.at.loop-i-preserved c).After-lent_packet-p)
+          (goes (goal.at.loop-i-preserved c).Else-not-takes)) ∙ at.invariant.0),
       omega arith,
       rw c.with-run.ensures (omega (arith, small (goal.at.loop-i-preserved c).Else-not-takes)),
     )
