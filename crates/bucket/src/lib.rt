@@ -13,20 +13,20 @@ ghost use Rattle.bucket.specs.Range.{ranges};
 ghost use Rattle.bucket.specs.Step.{empty_of, step_of, arrived_of, judged};
 
 // The packets first .. last of the history, numbered from 0.
-#[derive(Clone, Copy)]
+#[derive(Clone, Copy, Debug, PartialEq, Eq)]
 pub struct Run {
     pub first: u64,
     pub last: u64,
 }
 
-#[derive(Clone, Copy)]
+#[derive(Clone, Copy, Debug, PartialEq, Eq)]
 pub enum Network {
     Pass,
     Burst(Run),
 }
 
 // After some packets: the level, where the run that the level names began, the greatest level, the answer.
-#[derive(Clone, Copy)]
+#[derive(Clone, Copy, Debug, PartialEq, Eq)]
 pub struct Bucket {
     pub level: u64,
     pub start: u64,

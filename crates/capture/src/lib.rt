@@ -18,14 +18,14 @@ use headers::{Handed, MATTER};
 use packet::{Packet, Past, Tally};
 
 // How a file writes its numbers: which byte stands first, and whether sub-seconds are nanoseconds or microseconds.
-#[derive(Clone, Copy)]
+#[derive(Clone, Copy, Debug, PartialEq, Eq)]
 pub struct Format {
     pub order: Order,
     pub nano: bool,
 }
 
 // What is asked of a capture, once its header is read.
-#[derive(Clone, Copy)]
+#[derive(Clone, Copy, Debug, PartialEq, Eq)]
 pub struct Setting {
     pub format: Format,
     pub port: u16,
@@ -33,7 +33,7 @@ pub struct Setting {
 }
 
 // The header: more bytes are wanted; no header that is known; or the capture's format.
-#[derive(Clone, Copy)]
+#[derive(Clone, Copy, Debug, PartialEq, Eq)]
 pub enum Opened {
     More,
     Unknown,
@@ -41,7 +41,7 @@ pub enum Opened {
 }
 
 // What a record says, once its captured bytes have passed: a packet that is handed on; another frame; or a sub-second of a second or more.
-#[derive(Clone, Copy)]
+#[derive(Clone, Copy, Debug, PartialEq, Eq)]
 pub enum Told {
     Packet(Packet),
     Skipped,
@@ -50,7 +50,7 @@ pub enum Told {
 
 // What stands in front of a window, between two records. A record's size is that of its header and its captured bytes, of which the
 // window may show the first only. More is answered where more may come, and Cut where none will.
-#[derive(Clone, Copy)]
+#[derive(Clone, Copy, Debug, PartialEq, Eq)]
 pub enum Front {
     Record { told: Told, size: usize },
     End,
@@ -59,14 +59,14 @@ pub enum Front {
 }
 
 // Where the reader stands: between two records, or within one, of which so many bytes are still to pass before it counts.
-#[derive(Clone, Copy)]
+#[derive(Clone, Copy, Debug, PartialEq, Eq)]
 pub struct Cursor {
     pub left: usize,
     pub told: Told,
 }
 
 // What the reader says of a window, and how many of its bytes are used. After a packet or a skipped record it stands between two records.
-#[derive(Clone, Copy)]
+#[derive(Clone, Copy, Debug, PartialEq, Eq)]
 pub enum Next {
     Packet { packet: Packet, used: usize },
     Skipped { used: usize },
@@ -77,7 +77,7 @@ pub enum Next {
 
 // What lies ahead of the reader in a window, behind so many records that are skipped: a packet; the end of what is shown; the end of the
 // file; or a refusal.
-#[derive(Clone, Copy)]
+#[derive(Clone, Copy, Debug, PartialEq, Eq)]
 pub enum Ahead {
     Packet {
         packet: Packet,
@@ -99,14 +99,14 @@ pub enum Ahead {
 }
 
 // The next packet that is handed on, and where the record behind it stands; or there is none.
-#[derive(Clone, Copy)]
+#[derive(Clone, Copy, Debug, PartialEq, Eq)]
 pub enum Sought {
     Packet { packet: Packet, next: usize },
     Nothing,
 }
 
 // The records so far: the packets handed on, how many records were read, and how many were skipped.
-#[derive(Clone, Copy)]
+#[derive(Clone, Copy, Debug, PartialEq, Eq)]
 pub struct Seen {
     pub tally: Tally,
     pub records: u64,
@@ -114,7 +114,7 @@ pub struct Seen {
 }
 
 // A whole capture: nothing is refused; or the number and the place of its first refusal.
-#[derive(Clone, Copy)]
+#[derive(Clone, Copy, Debug, PartialEq, Eq)]
 pub enum Checked {
     Fine(Seen),
     Refused { number: u8, place: u64 },

@@ -9,7 +9,7 @@ ghost use Rattle.endian.specs.Number.{number_at, number_of, bytes_of, Room};
 ghost use Rattle.endian.specs.Order.{number_by};
 
 // Which byte of a number stands first: the highest, or the lowest.
-#[derive(Clone, Copy)]
+#[derive(Clone, Copy, Debug, PartialEq, Eq)]
 pub enum Order {
     Big,
     Little,

@@ -27,7 +27,7 @@ const ELEVEN: usize = SUMMARY + 2;
 const ELEVEN_BYTES: usize = NUMBER * ELEVEN;
 
 // What is lent for a capture: fine with its records and those of them that are skipped, or the number and the place of the refusal.
-#[derive(Clone, Copy)]
+#[derive(Clone, Copy, Debug, PartialEq, Eq)]
 enum Weighed {
     Fine { records: u64, skipped: u64 },
     Refused { number: u8, place: u64 },

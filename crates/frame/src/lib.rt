@@ -24,7 +24,7 @@ pub const ROW: usize = 11;
 // the reads lie at tro + j·num/den grains after the start, by their spacing; `full` is the most that the buffer may hold;
 // by the edition a frame that is not whole fails the buffer, or is not judged. `buffered`: the buffer is judged. Where it is
 // not, nothing of reads is kept.
-#[derive(Clone, Copy)]
+#[derive(Clone, Copy, Debug, PartialEq, Eq)]
 pub struct Plan {
     pub period: u64,
     pub packets: u64,
@@ -39,7 +39,7 @@ pub struct Plan {
 // the first timestamp that differs, 0 where none does; the reads before the last packet, and the wait from it
 // to the next, times den; the greatest level; the greatest lack of packets at an arrival; the place of the
 // first late packet, 0 where no packet lacks.
-#[derive(Clone, Copy)]
+#[derive(Clone, Copy, Debug, PartialEq, Eq)]
 pub struct Frame {
     pub held: u64,
     pub first: u64,
@@ -54,7 +54,7 @@ pub struct Frame {
 }
 
 // A closed frame's eleven numbers: document 01's ten, in its order, and then the place in the history of its first packet.
-#[derive(Clone, Copy)]
+#[derive(Clone, Copy, Debug, PartialEq, Eq)]
 pub struct Row {
     pub number: i64,
     pub kind: i64,
@@ -70,20 +70,20 @@ pub struct Row {
 }
 
 // A frame's number, and the packet's place in it or the peak.
-#[derive(Clone, Copy)]
+#[derive(Clone, Copy, Debug, PartialEq, Eq)]
 pub struct Place {
     pub frame: u64,
     pub place: u64,
 }
 
 // The number of a frame that is not whole, and its kind, 1 to 3.
-#[derive(Clone, Copy)]
+#[derive(Clone, Copy, Debug, PartialEq, Eq)]
 pub struct BrokenFrame {
     pub frame: u64,
     pub kind: u64,
 }
 
-#[derive(Clone, Copy)]
+#[derive(Clone, Copy, Debug, PartialEq, Eq)]
 pub enum Buffer {
     None,
     Pass,
@@ -94,7 +94,7 @@ pub enum Buffer {
 
 // All that is kept of the frames: whether the lead-in is over, how many are closed, the arrival of the
 // last marker packet, the open frame, and the answer so far.
-#[derive(Clone, Copy)]
+#[derive(Clone, Copy, Debug, PartialEq, Eq)]
 pub struct Frames {
     pub begun: bool,
     pub closed: u64,
@@ -301,7 +301,7 @@ impl Frame {
 }
 
 // The most that a state may hold of reads, in an open frame of so many packets, and as the number of its answer.
-#[derive(Clone, Copy)]
+#[derive(Clone, Copy, Debug, PartialEq, Eq)]
 struct Most {
     pub reads: u64,
     pub wait: u64,

@@ -21,7 +21,7 @@ pub const GRAINS_PER_TICK: u64 = 300000;
 const WRAP: u64 = 4294967296 * GRAINS_PER_TICK;
 
 // Instants or reads that lie num/den grains apart: a fraction, never divided out.
-#[derive(Clone, Copy)]
+#[derive(Clone, Copy, Debug, PartialEq, Eq)]
 pub struct Spacing {
     pub num: u64,
     pub den: u64,
@@ -102,7 +102,7 @@ pub fn bits(x: i64) -> u64
 }
 
 // x in whole num's, and what is left.
-#[derive(Clone, Copy)]
+#[derive(Clone, Copy, Debug, PartialEq, Eq)]
 pub struct Division {
     pub whole: u64,
     pub rest: u64,
@@ -143,7 +143,7 @@ pub fn divided(x: u64, num: u64) -> Division
 }
 
 // How long it is to the next of a frame's reads, times den; or no read is left.
-#[derive(Clone, Copy)]
+#[derive(Clone, Copy, Debug, PartialEq, Eq)]
 pub enum NextRead {
     In(u64),
     NoneLeft,
@@ -151,7 +151,7 @@ pub enum NextRead {
 
 // What is known of a frame's reads at a time: how many are over, and how long it is until the next. The wait is what a step goes on with:
 // it is that of `next`, had the reads no end. So a step has no test for the last read, and who asks for no `next` pays for none.
-#[derive(Clone, Copy)]
+#[derive(Clone, Copy, Debug, PartialEq, Eq)]
 pub struct Reads {
     pub count: u64,
     pub next: NextRead,
@@ -159,7 +159,7 @@ pub struct Reads {
 }
 
 // What a step keeps of them.
-#[derive(Clone, Copy)]
+#[derive(Clone, Copy, Debug, PartialEq, Eq)]
 struct Kept {
     count: u64,
     wait: u64,

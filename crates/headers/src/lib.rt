@@ -12,7 +12,7 @@ ghost use Rattle.headers.specs.Step.{Shown, Placed, ip_at, ether_fits, ip_fits, 
 use endian::{read16, read32};
 
 // What becomes of a frame: its timestamp and marker are handed on, or it is skipped.
-#[derive(Clone, Copy)]
+#[derive(Clone, Copy, Debug, PartialEq, Eq)]
 pub enum Handed {
     On { stamp: u32, marker: u8 },
     Skipped,

@@ -14,7 +14,7 @@ use timing::{Rules, State};
 
 // The state after the capture's packets, how many packets it handed on and how many records it skipped; or the number and the place, with
 // the state as it was.
-#[derive(Clone, Copy)]
+#[derive(Clone, Copy, Debug, PartialEq, Eq)]
 pub enum Taken {
     Accepted {
         state: State,

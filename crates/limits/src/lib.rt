@@ -28,7 +28,7 @@ const DEFAULT_TRO: u32 = 4294967295;
 pub const FIRST_EDITION: u32 = 1;
 
 // The parameters that a stream is set up with, of the sizes that a record file has: class 0 and a TRO of all ones stay what they are.
-#[derive(Clone, Copy)]
+#[derive(Clone, Copy, Debug, PartialEq, Eq)]
 pub struct Parameters {
     pub rate: u8,
     pub schedule: u8,
@@ -61,7 +61,7 @@ impl Parameters {
 
 // What a stream is: video, as in the base; compressed, to which the receiver buffer model does not apply; or interlaced, whose
 // markers close fields, two a frame.
-#[derive(Clone, Copy)]
+#[derive(Clone, Copy, Debug, PartialEq, Eq)]
 pub enum Profile {
     Video,
     Compressed,
@@ -69,7 +69,7 @@ pub enum Profile {
 }
 
 // An unknown class is refused at set-up; the limits give it 0, so that they answer for any number.
-#[derive(Clone, Copy)]
+#[derive(Clone, Copy, Debug, PartialEq, Eq)]
 pub enum Class {
     Narrow,
     NarrowLinear,

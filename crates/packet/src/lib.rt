@@ -12,7 +12,7 @@ ghost use Rattle.packet.specs.Range.{ranges};
 ghost use Rattle.packet.specs.Step.{nothing, first_of, elapsed_of, since_of, number_of, next_of, no_packets, tallied, Countable, scan_of, scanned_of};
 
 // A packet: its arrival in nanoseconds since the SMPTE epoch, its RTP timestamp, and its marker, which is 0 or 1 where it is accepted.
-#[derive(Clone, Copy)]
+#[derive(Clone, Copy, Debug, PartialEq, Eq)]
 pub struct Packet {
     pub time: u64,
     pub stamp: u32,
@@ -20,7 +20,7 @@ pub struct Packet {
 }
 
 // How many packets came before, and the first and the last arrival of them; all 0 where none did.
-#[derive(Clone, Copy)]
+#[derive(Clone, Copy, Debug, PartialEq, Eq)]
 pub struct Past {
     pub packets: u64,
     pub first: u64,
@@ -28,7 +28,7 @@ pub struct Past {
 }
 
 // The packets so far: what came before the next, whether a marker did, and how many frames closed.
-#[derive(Clone, Copy)]
+#[derive(Clone, Copy, Debug, PartialEq, Eq)]
 pub struct Tally {
     pub past: Past,
     pub begun: bool,
@@ -36,28 +36,28 @@ pub struct Tally {
 }
 
 // Packets that 11 and 12 accept, one after the other: the last arrival, and how many markers came.
-#[derive(Clone, Copy)]
+#[derive(Clone, Copy, Debug, PartialEq, Eq)]
 pub struct Run {
     pub last: u64,
     pub marks: usize,
 }
 
 // Through all packets, or broken off at one that 11 or 12 refuses.
-#[derive(Clone, Copy)]
+#[derive(Clone, Copy, Debug, PartialEq, Eq)]
 pub enum Ran {
     Through(Run),
     Broken,
 }
 
 // Document 01's number, and the refused packet's place in the history, from 0; place 0 for number 10.
-#[derive(Clone, Copy)]
+#[derive(Clone, Copy, Debug, PartialEq, Eq)]
 pub struct Refusal {
     pub number: u8,
     pub place: u64,
 }
 
 // Fine with the number of frames that close, or the first refusal.
-#[derive(Clone, Copy)]
+#[derive(Clone, Copy, Debug, PartialEq, Eq)]
 pub enum Scanned {
     Fine(usize),
     Refused(Refusal),

@@ -19,14 +19,14 @@ use text::LINE;
 use timing::{Judged, Rules, SetUp, State, StreamNumbers};
 
 // Where the reader stands, and what was measured up to there.
-#[derive(Clone, Copy)]
+#[derive(Clone, Copy, Debug, PartialEq, Eq)]
 pub struct Walk {
     pub at: Cursor,
     pub state: State,
 }
 
 // The start of a file: more bytes are wanted; its refusal; or the walk after its head.
-#[derive(Clone, Copy)]
+#[derive(Clone, Copy, Debug, PartialEq, Eq)]
 pub enum Opened {
     More,
     Refused { number: u8, offset: u64 },
@@ -35,7 +35,7 @@ pub enum Opened {
 
 // The walk after a piece: so many of its bytes were used, and so many bytes of whole lines were written. `ended`: the last line
 // is among them.
-#[derive(Clone, Copy)]
+#[derive(Clone, Copy, Debug, PartialEq, Eq)]
 pub struct TakeAnswer {
     pub walk: Walk,
     pub used: usize,

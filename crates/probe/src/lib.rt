@@ -23,14 +23,14 @@ use timing::{Fed, Judged, SUMMARY, State, Stated, StreamNumbers};
 const WORDS: usize = 35;
 
 // What lent words hold: a state, or nothing that is one.
-#[derive(Clone, Copy)]
+#[derive(Clone, Copy, Debug, PartialEq, Eq)]
 enum Held {
     Known(State),
     Nothing,
 }
 
 // Document 01's number, 0 where the call is accepted, and the place.
-#[derive(Clone, Copy)]
+#[derive(Clone, Copy, Debug, PartialEq, Eq)]
 struct Answer {
     number: u8,
     place: u64,

@@ -14,14 +14,14 @@ use record::HEAD_BYTES;
 use window::{Span, Told};
 
 // The version byte and the parameters are still wanted, or the walk behind them.
-#[derive(Clone, Copy)]
+#[derive(Clone, Copy, Debug, PartialEq, Eq)]
 pub enum Stage {
     Head,
     Walking(Walk),
 }
 
 // The stage after a step, and what the program does with it.
-#[derive(Clone, Copy)]
+#[derive(Clone, Copy, Debug, PartialEq, Eq)]
 pub struct Stepped {
     pub stage: Stage,
     pub told: Told,

@@ -23,21 +23,21 @@ use limits::{Parameters, Profile};
 use packet::{Packet, Past, Ran, Scanned, Tally};
 
 // What a file sets up with, beside an edition: the profile that the kind of its parameter record chooses, and the parameters (`resolved`).
-#[derive(Clone, Copy)]
+#[derive(Clone, Copy, Debug, PartialEq, Eq)]
 pub struct FileNumbers {
     pub profile: Profile,
     pub parameters: Parameters,
 }
 
 // Where the reader stands after the head of a file: at a packet, or at the end.
-#[derive(Clone, Copy)]
+#[derive(Clone, Copy, Debug, PartialEq, Eq)]
 pub struct Cursor {
     pub at: u64,
 }
 
 // What stands in front, before what it holds is looked at: nothing; a record that is cut short or whose length is 0; a whole
 // record. More is answered of a piece alone: it ends before the answer is known.
-#[derive(Clone, Copy)]
+#[derive(Clone, Copy, Debug, PartialEq, Eq)]
 pub enum Framed {
     Nothing,
     Cut,
@@ -46,7 +46,7 @@ pub enum Framed {
 }
 
 // The head of a file, its version byte and its parameters; version and kind are kept as written.
-#[derive(Clone, Copy)]
+#[derive(Clone, Copy, Debug, PartialEq, Eq)]
 pub enum Head {
     Ready {
         version: u8,
@@ -63,7 +63,7 @@ pub enum Head {
 
 // What stands at a cursor. A refused record tells its size, its length among it: the next one begins so far behind it, and 0 is
 // told where it has no length.
-#[derive(Clone, Copy)]
+#[derive(Clone, Copy, Debug, PartialEq, Eq)]
 pub enum Next {
     Packet { packet: Packet, next: Cursor },
     End,
@@ -73,7 +73,7 @@ pub enum Next {
 
 // A whole file: fine, with what it sets up with and the numbers of packets and of frames that close; or the number and offset of its
 // first refusal.
-#[derive(Clone, Copy)]
+#[derive(Clone, Copy, Debug, PartialEq, Eq)]
 pub enum Checked {
     Fine {
         numbers: FileNumbers,
@@ -87,7 +87,7 @@ pub enum Checked {
 }
 
 // The bytes that were written, or document 01's number and the refused packet's place; place 0 for 1 to 10, 20 and 24.
-#[derive(Clone, Copy)]
+#[derive(Clone, Copy, Debug, PartialEq, Eq)]
 pub enum Written {
     Done { bytes: usize },
     Refused { number: u8, place: u64 },

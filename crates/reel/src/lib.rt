@@ -15,7 +15,7 @@ use text::LINE;
 use timing::{Judged, Rules, SetUp, State, Stated};
 
 // What the program is asked: the stream as it is stated, its port, and the offset of the capture's clock.
-#[derive(Clone, Copy)]
+#[derive(Clone, Copy, Debug, PartialEq, Eq)]
 pub struct Asked {
     pub stated: Stated,
     pub port: u16,
@@ -23,7 +23,7 @@ pub struct Asked {
 }
 
 // Where the reader stands, what was measured up to there, and how many records were read and skipped.
-#[derive(Clone, Copy)]
+#[derive(Clone, Copy, Debug, PartialEq, Eq)]
 pub struct Reel {
     pub setting: Setting,
     pub cursor: Cursor,
@@ -33,7 +33,7 @@ pub struct Reel {
 }
 
 // The start of a capture: more bytes are wanted; its refusal; or the reel behind its header.
-#[derive(Clone, Copy)]
+#[derive(Clone, Copy, Debug, PartialEq, Eq)]
 pub enum Threaded {
     More,
     Refused { number: u8 },
@@ -42,7 +42,7 @@ pub enum Threaded {
 
 // The reel after a piece: so many of its bytes were used, and so many bytes of whole lines were written. `ended`: the last line is among
 // them.
-#[derive(Clone, Copy)]
+#[derive(Clone, Copy, Debug, PartialEq, Eq)]
 pub struct TakeAnswer {
     pub reel: Reel,
     pub used: usize,

@@ -32,7 +32,7 @@ const ROW_BYTES: usize = NUMBER * frame::ROW;
 pub const SUMMARY_BYTES: usize = NUMBER * SUMMARY;
 
 // What is lent for a file: fine with its stream numbers, or the number and the offset of the refusal.
-#[derive(Clone, Copy)]
+#[derive(Clone, Copy, Debug, PartialEq, Eq)]
 enum Asked {
     Fine(StreamNumbers),
     Refused { number: u8, offset: u64 },

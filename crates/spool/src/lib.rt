@@ -14,14 +14,14 @@ use reel::{Asked, Reel, Threaded};
 use window::{Span, Told};
 
 // The header is still wanted, or the reel behind it.
-#[derive(Clone, Copy)]
+#[derive(Clone, Copy, Debug, PartialEq, Eq)]
 pub enum Stage {
     Leader(Asked),
     Rolling(Reel),
 }
 
 // The stage after a step, and what the program does with it.
-#[derive(Clone, Copy)]
+#[derive(Clone, Copy, Debug, PartialEq, Eq)]
 pub struct Stepped {
     pub stage: Stage,
     pub told: Told,

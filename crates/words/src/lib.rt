@@ -12,14 +12,14 @@ use reel::Asked;
 use timing::Stated;
 
 // The number that a word is; or it is none.
-#[derive(Clone, Copy)]
+#[derive(Clone, Copy, Debug, PartialEq, Eq)]
 pub enum Word {
     NoNumber,
     Number { value: u64 },
 }
 
 // The eleven numbers in the order of the words.
-#[derive(Clone, Copy)]
+#[derive(Clone, Copy, Debug, PartialEq, Eq)]
 pub struct Numbers {
     pub port: u64,
     pub offset: u64,
@@ -35,7 +35,7 @@ pub struct Numbers {
 }
 
 // What they ask; or they are no call.
-#[derive(Clone, Copy)]
+#[derive(Clone, Copy, Debug, PartialEq, Eq)]
 pub enum Given {
     NoCall,
     Asked(Asked),
