@@ -7,7 +7,7 @@ use Rattle.headers.specs.declared.Handed.{Handed}
 use Rattle.headers.specs.declared.Handed.TheVariants as handed
 use Rattle.headers.specs.Step.{matter, handed_of}
 use Rattle.packet.specs.declared.Packet as Packets
-use Rattle.packet.specs.declared.Scanned.{Scanned}
+use Rattle.packet.specs.Paper.{Scanned}
 use Rattle.packet.specs.declared.Scanned.TheVariants as scanned
 use Rattle.packet.specs.Step.{number_of, tally_of}
 use Rattle.capture.specs.declared.Format.{Format}

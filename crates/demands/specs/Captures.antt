@@ -5,7 +5,7 @@ use Rattle.std.specs.Prelude.{◌≡◌, ◌+◌, ◌≤◌, ◌<◌}
 use Rattle.laws.specs.Kit.{refl, ◌∙◌, Bool, true, false, List, [], ℕ, min, ℤ, length, get_or, ne_eqb}
 use Rattle.endian.specs.Number.{Bytes}
 use Rattle.limits.specs.Accepted.{KnownEdition}
-use Rattle.packet.specs.declared.Refusal.{Refusal}
+use Rattle.refusal.specs.Told.{Numbered}
 use Rattle.packet.specs.declared.Scanned.TheVariants as scanned
 use Rattle.packet.specs.Step.{nothing, scan_of}
 use Rattle.headers.specs.declared.Handed.TheVariants.{Skipped}
@@ -99,7 +99,7 @@ module _ (s : State) (rows : List ℤ) (port offset : ℕ) (b : List ℕ) where
     capture_feeds h = call.capture_feeds s rows port offset b h known
 
     -- R8, R9: "12 to 14 of the packet handed on": the first that the scan refuses, at its place, whatever comes behind it
-    pub packet_refused : in_range s ≡ true → offset ≤ 99 → (r : Refusal)
+    pub packet_refused : in_range s ≡ true → offset ≤ 99 → (r : Numbered)
         → scan_of s.past s.frames.begun 0 (packets_of port offset b) ≡ scanned.Refused r
         → capture_of s rows port offset b ≡ refused_by s rows r.number r.place
     packet_refused e h r = call.capture_refused s rows port offset b e h known

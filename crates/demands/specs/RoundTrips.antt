@@ -2,7 +2,7 @@
 -- `bytes_in s ps` are the bytes of a file, `file_of` what bytes read as, `WriteGives` what the writer ensures, `all_calls` what the reader
 -- answers, call after call, and `all_in_pieces` what it answers to a file in pieces: record's Paper, Layout, Write and Pieces. The hypotheses
 -- bound numbers by what their types and slices always hold.
-use Rattle.std.specs.Prelude.{◌≡◌, ◌∷◌, ◌++◌, ◌+◌, ◌^◌, ◌≤◌, ◌<◌}
+use Rattle.std.specs.Prelude.{◌≡◌, ◌∷◌, ◌++◌, ◌+◌, ◌^◌, ◌≤◌, ◌<◌, Ok}
 use Rattle.laws.specs.Kit.{sym, ap, ◌∙◌, Bool, true, false, List, [], flatten, ℕ, arith, length, take}
 use Rattle.laws.specs.Kit.{get_or}
 use Rattle.laws.specs.Choose.{AllBelow}
@@ -10,7 +10,6 @@ use Rattle.limits.specs.declared.Parameters.{Parameters}
 use Rattle.limits.specs.declared.Class.TheVariants.{Narrow, NarrowLinear, Wide, Unknown}
 use Rattle.limits.specs.Paper.{class_of}
 use Rattle.limits.specs.Steps.{ParametersHeld}
-use Rattle.packet.specs.declared.Scanned.TheVariants.{Fine}
 use Rattle.packet.specs.declared.Packet.{Packet}
 use Rattle.packet.specs.Paper.{packets, OneLength, declared}
 use Rattle.packet.proofs.Declared.{scan_declared}
@@ -35,7 +34,7 @@ use Rattle.record.proofs.Waiting as waiting
 -- D2d, F12, F14: "demand 2's round trip holds for each" version (document 02, viii), and for each kind: for every heading that the writer
 -- accepts, and all accepted packets, reading what was written gives the same version and kind, the same stream numbers and the same packets
 pub reading_written : (s : Heading) (ps : List Packet) (closed : ℕ) → ParametersHeld s.parameters → PacketsHeld ps
-    → heading_refusal s ≡ 0 → declared ps ≡ Fine closed → file_of (bytes_in s ps) ≡ file s ps
+    → heading_refusal s ≡ 0 → declared ps ≡ Ok closed → file_of (bytes_in s ps) ≡ file s ps
 reading_written s ps closed hs hp e f = ap as_file (file_written s ps closed hs hp e (scan_declared ps ∙ f))
 
 -- D2d: what the writer writes is accepted, and reads as what it was given

@@ -4,9 +4,9 @@ use Rattle.std.specs.Prelude.{◌≡◌, ◌+◌, ◌*◌, ◌≤◌, ◌<◌}
 use Rattle.laws.specs.Kit.{refl, sym, ap, ◌∙◌, Bool, true, false, List, [], ℕ, arith, leb, ℤ, length}
 use Rattle.laws.specs.Choose.{pick}
 use Rattle.packet.specs.declared.Packet.{Packet}
-use Rattle.packet.specs.declared.Scanned.{Scanned}
+use Rattle.packet.specs.Paper.{Scanned}
 use Rattle.packet.specs.declared.Scanned.TheVariants as scanned
-use Rattle.packet.specs.declared.Refusal.{Refusal}
+use Rattle.refusal.specs.Told.{Numbered}
 use Rattle.packet.specs.Step.{scan_of}
 use Rattle.frame.specs.Step.{row_width}
 use Rattle.capture.specs.declared.Format.{Format}
@@ -56,7 +56,7 @@ module _ (s : State) (rows : List ℤ) (port offset : ℕ) (b : List ℕ) where
             (check_known port offset s.past s.frames.begun b h k ∙ rw (g, q))
 
         -- a packet that the scan refuses
-        pub capture_refused : {r : Refusal} → scan_of s.past s.frames.begun 0 (packets_of port offset b) ≡ scanned.Refused r
+        pub capture_refused : {r : Numbered} → scan_of s.past s.frames.begun 0 (packets_of port offset b) ≡ scanned.Refused r
             → capture_of s rows port offset b ≡ refused_by s rows r.number r.place
         capture_refused {r} g = by_scan_lem g refl ∙ go (records_of port offset b).ending
           where

@@ -6,7 +6,7 @@ use Rattle.laws.specs.Kit.{dec_le, ℤ}
 use Rattle.laws.specs.Fold.{fold}
 use Rattle.packet.specs.declared.Packet.{Packet}
 use Rattle.packet.specs.declared.Past.{Past}
-use Rattle.packet.specs.declared.Scanned.{Scanned}
+use Rattle.packet.specs.Paper.{Scanned}
 use Rattle.packet.specs.declared.Scanned.TheVariants as scanned
 use Rattle.packet.specs.Step.{scan_of}
 use Rattle.capture.specs.declared.Format.{Format}

@@ -1,10 +1,13 @@
 -- The profiles and the numbers that stand for them are the same both ways, and 22 is for every other number: by the numbers, one by one.
-use Rattle.std.specs.Prelude.{◌≡◌, ◌↔◌, ◌⊎◌, ◌≤◌}
+use Rattle.std.specs.Prelude.{◌≡◌, ◌↔◌, ◌⊎◌, ◌||◌, ◌≤◌, Result, Ok, Err}
+use Rattle.std.specs.Result.{result_unwrap_or}
 use Rattle.laws.specs.Kit.{refl, sym, ap, ◌∙◌, inl, inr, Bool, true, false, ℕ, arith, eqb, ne_eqb, eqb-true}
 use Rattle.laws.proofs.Choose.{pick_either, false_true}
 use Rattle.limits.specs.declared.Profile.{Profile}
 use Rattle.limits.specs.declared.Profile.TheVariants.{Video, Compressed, Interlaced}
-use Rattle.limits.specs.Paper.{profile_kind, is_profile, profile_of, profile_refusal}
+use Rattle.limits.specs.Paper.{profile_kind, is_profile, profile_of, profile_in, profile_refusal}
+use Rattle.refusal.specs.declared.Refusal.{Refusal}
+use Rattle.refusal.specs.Told.{by_number}
 
 -- S12: each profile has a kind that chooses it
 pub chosen : (p : Profile) → profile_of (profile_kind p) ≡ p
@@ -62,21 +65,30 @@ is_known kind (inl e) = rw e
 is_known kind (inr (inl e)) = rw e
 is_known kind (inr (inr e)) = rw e
 
+-- a kind that chooses none goes with video
+none_of : (kind : ℕ) → is_profile kind ≡ false → profile_of kind ≡ Video
+unfolding is_profile profile_of
+none_of kind = go (eqb kind 1) (eqb kind 3) refl (eqb kind 4) refl
+  where
+    go : (a b : Bool) → eqb kind 3 ≡ b → (c : Bool) → eqb kind 4 ≡ c → a || (b || c) ≡ false → profile_of kind ≡ Video
+    go true b f c g h = absurd (false_true (sym h))
+    go false true f c g h = absurd (false_true (sym h))
+    go false false f true g h = absurd (false_true (sym h))
+    go false false f false g h = rw (f, g)
+
 pub no_other : (kind : ℕ) → (kind ≡ 1 → ⊥) → (kind ≡ 3 → ⊥) → (kind ≡ 4 → ⊥) → false ≡ is_profile kind
 unfolding is_profile
 no_other kind a b c = rw (ne_eqb kind 1 a, ne_eqb kind 3 b, ne_eqb kind 4 c)
 
-pub third : (kind : ℕ) → kind ≡ 3 → Compressed ≡ profile_of kind
-unfolding profile_of
-third kind e = rw e
-
-pub fourth : (kind : ℕ) → kind ≡ 4 → Interlaced ≡ profile_of kind
-unfolding profile_of
-fourth kind e = rw e
-
-pub neither_of : (kind : ℕ) → (kind ≡ 3 → ⊥) → (kind ≡ 4 → ⊥) → Video ≡ profile_of kind
-unfolding profile_of
-neither_of kind n m = rw (ne_eqb kind 3 n, ne_eqb kind 4 m)
+-- the profile that a kind chooses, told by its number where it chooses none, and video in its place
+pub or_video : (kind : ℕ) (r : Result Profile Refusal) → by_number r ≡ profile_in kind → result_unwrap_or r Video ≡ profile_of kind
+or_video kind = go (is_profile kind) refl
+  where
+    go : (t : Bool) → is_profile kind ≡ t → (r : Result Profile Refusal) → by_number r ≡ profile_in kind → result_unwrap_or r Video ≡ profile_of kind
+    go true e (Ok p) f = let same = rw e at f in cc
+    go true e (Err d) f = let same = rw e at f in absurd (cc)
+    go false e (Ok p) f = let same = rw e at f in absurd (cc)
+    go false e (Err d) f = sym (none_of kind e)
 
 -- N1: 22 refuses exactly the kinds that choose none
 pub profile_fine : (kind : ℕ) → profile_refusal kind ≡ 0 → is_profile kind ≡ true

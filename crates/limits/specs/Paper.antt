@@ -1,5 +1,5 @@
 -- The numbers that a stream is set up with, and the limits that follow from them, each under its sentence of document 01.
-use Rattle.std.specs.Prelude.{◌&&◌, ◌||◌, ◌∷◌, ◌*◌, ◌/◌, ◌%◌}
+use Rattle.std.specs.Prelude.{◌&&◌, ◌||◌, ◌∷◌, ◌*◌, ◌/◌, ◌%◌, Result, Ok, Err}
 use Rattle.laws.specs.Kit.{Bool, true, false, List, [], ℕ, zero, suc, max, ltb, leb, eqb, get_or}
 use Rattle.laws.specs.Choose.{pick, or_else}
 use Rattle.grain.specs.Paper.{grains}
@@ -141,6 +141,10 @@ is_profile kind = eqb kind 1 || (eqb kind 3 || eqb kind 4)
 -- S12, S13: and the one that they choose; a kind that chooses none, which is refused before, goes with video
 unfoldable pub profile_of : ℕ → Profile
 profile_of kind = pick (eqb kind 3) Compressed (pick (eqb kind 4) Interlaced Video)
+
+-- S12, S13, N1: the profile that a kind chooses, or "22 unknown kind"
+abbrev pub profile_in : ℕ → Result Profile ℕ
+profile_in kind = pick (is_profile kind) (Ok (profile_of kind)) (Err 22)
 
 -- N1: "22 unknown kind": a profile has no refusal number of its own
 unfoldable pub profile_refusal : ℕ → ℕ

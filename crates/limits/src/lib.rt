@@ -12,7 +12,10 @@ ghost use Rattle.limits.specs.Fraction.{whole, ◌·◌, ◌÷◌, int};
 ghost use Rattle.limits.specs.Steps.{Divides};
 ghost use Rattle.limits.specs.Paper.{frame_length, active_ratio, seconds, strict_on, class_of, c_max, vrx_full, tro_grains, read_num, read_den};
 ghost use Rattle.limits.specs.Paper.{within, class_fits, maxudp_known, packets_fit, tro_fits, set_up_refusal, edition_refusal, set_up_in};
-ghost use Rattle.limits.specs.Paper.{has_buffer, periods, per_period, has_default, profile_kind, is_profile, profile_of, profile_refusal};
+ghost use Rattle.limits.specs.Paper.{has_buffer, periods, per_period, has_default, profile_kind, is_profile, profile_of, profile_in};
+ghost use Rattle.refusal.specs.Told.{number_in, by_number};
+
+use refusal::Refusal;
 
 const MICROSECOND: u64 = 1000 * grain::GRAINS_PER_NANOSECOND;
 
@@ -130,15 +133,20 @@ impl Profile {
     }
 }
 
-// The one place that tells which kinds stand for a profile.
-pub fn is_profile(kind: u8) -> bool
-    ensures { result ≡ is_profile kind }
-{
-    match kind {
-        1 => true,
-        3 => true,
-        4 => true,
-        _ => false,
+// The one place that tells which kinds stand for a profile. One that stands for none is 22: a profile that is told by its kind has no
+// number of its own.
+impl TryFrom<u8> for Profile {
+    type Error = Refusal;
+
+    ghost try_from_gives = { λ kind r. by_number r ≡ profile_in kind };
+
+    fn try_from(kind: u8) -> Result<Profile, Refusal> {
+        match kind {
+            1 => Ok(Profile::Video),
+            3 => Ok(Profile::Compressed),
+            4 => Ok(Profile::Interlaced),
+            _ => Err(Refusal::Kind),
+        }
     }
 }
 
@@ -146,18 +154,7 @@ pub fn is_profile(kind: u8) -> bool
 pub fn profile_of(kind: u8) -> Profile
     ensures { result ≡ profile_of kind }
 {
-    match kind {
-        3 => Profile::Compressed,
-        4 => Profile::Interlaced,
-        _ => Profile::Video,
-    }
-}
-
-// A profile that is told by its kind has no number of its own: an unknown kind is 22.
-pub fn profile_refusal(kind: u8) -> u8
-    ensures { result ≡ profile_refusal kind }
-{
-    if is_profile(kind) { 0 } else { 22 }
+    Profile::try_from(kind).unwrap_or(Profile::Video)
 }
 
 // The frame length in grains; a code that set-up refuses has none, and gets 0.
@@ -201,50 +198,52 @@ fn strict_on(schedule: u8) -> Class
 }
 
 impl Parameters {
-    // The first of them, in document 01's order, that is refused of a profile; 0 where none is.
-    pub fn refusal(self, profile: Profile) -> u8
-        ensures { result ≡ set_up_refusal profile self }
+    // Whether set-up accepts these of a profile; else the first of 1 to 7, in their order, that is wrong (N2).
+    pub fn check(self, profile: Profile) -> Result<(), Refusal>
+        ensures { number_in result ≡ set_up_refusal profile self }
     {
         if !is_within(1, 8, self.rate as u32) {
-            return 1;
+            return Err(Refusal::Rate);
         }
         if !is_within(0, 1, self.schedule as u32) {
-            return 2;
+            return Err(Refusal::Schedule);
         }
         if !class_fits(class_of(self.class, self.schedule), self.schedule) {
-            return 3;
+            return Err(Refusal::Class);
         }
         if !is_within(1, 65535, self.height as u32) {
-            return 4;
+            return Err(Refusal::Height);
         }
         if !packets_fit(profile, self.n) {
-            return 5;
+            return Err(Refusal::FramePackets);
         }
         if !maxudp_known(self.maxudp) {
-            return 6;
+            return Err(Refusal::MaxUdp);
         }
         if !tro_fits(profile, frame_length(self.rate), self.tro) {
-            return 7;
+            return Err(Refusal::Tro);
         }
-        0
+        Ok(())
     }
-}
 
-impl Parameters {
-    // What set-up refuses: 1 to 7 of these, and then 8 of the edition that it is told beside them; 0 where it refuses nothing.
-    pub fn refusal_in(self, profile: Profile, edition: u32) -> u8
-        ensures { result ≡ set_up_in profile self edition }
+    // The same, and then 8 of the edition that set-up is told beside them.
+    pub fn check_in(self, profile: Profile, edition: u32) -> Result<(), Refusal>
+        ensures { number_in result ≡ set_up_in profile self edition }
     {
-        let of_numbers = self.refusal(profile);
-        let of_edition = edition_refusal(edition);
-        laws::first_of(of_numbers, of_edition)
+        let of_numbers = self.check(profile);
+        let of_edition = check_edition(edition);
+        of_numbers.and(of_edition)
     }
 }
 
-fn edition_refusal(edition: u32) -> u8
-    ensures { result ≡ edition_refusal edition }
+fn check_edition(edition: u32) -> Result<(), Refusal>
+    ensures { number_in result ≡ edition_refusal edition }
 {
-    if is_within(1, 2, edition) { 0 } else { 8 }
+    if is_within(1, 2, edition) {
+        Ok(())
+    } else {
+        Err(Refusal::Edition)
+    }
 }
 
 fn is_within(low: u32, high: u32, x: u32) -> bool

@@ -1,12 +1,11 @@
 -- A scan of l ++ m is a scan of l, then of m from where l ended; and frames that closed before only add. By the list: both facts go from
 -- the scan behind a packet to the scan from it on by one law (`scan_under`).
-use Rattle.std.specs.Prelude.{◌≡◌, ◌||◌, ◌∷◌, ◌++◌, ◌+◌}
+use Rattle.std.specs.Prelude.{◌≡◌, ◌||◌, ◌∷◌, ◌++◌, ◌+◌, Err}
 use Rattle.laws.specs.Kit.{refl, sym, ap, ◌∙◌, Bool, List, [], ℕ, add_assoc, ℕ_discrete}
 use Rattle.laws.specs.Fold.{fold}
 use Rattle.packet.specs.declared.Past.{Past}
-use Rattle.packet.specs.declared.Refusal.{Refusal}
-use Rattle.packet.specs.declared.Scanned.{Scanned}
-use Rattle.packet.specs.declared.Scanned.TheVariants.{Refused}
+use Rattle.refusal.specs.Told.{Numbered}
+use Rattle.packet.specs.Paper.{Scanned}
 use Rattle.packet.specs.declared.Packet.{Packet}
 use Rattle.packet.specs.Paper.{marked}
 use Rattle.packet.specs.Step.{number_of, next_of, closes, scan_of}
@@ -14,7 +13,7 @@ use Rattle.packet.specs.Calls.{past_after_packets, begun_after, and_then, more}
 use Rattle.packet.proofs.Turn.{scan_goes, scan_stops}
 
 -- what takes the answer after a packet to another's takes the answer from the packet on, if it leaves a refusal as it is
-scan_under : (f : Scanned → Scanned) → ((r : Refusal) → Refused r ≡ f (Refused r))
+scan_under : (f : Scanned → Scanned) → ((r : Numbered) → Err r ≡ f (Err r))
     → (past : Past) (begun : Bool) (a b : ℕ) (p : Packet) (l m : List Packet)
     → scan_of (next_of past p.time) (begun || marked p) (a + closes begun p) l
     ≡ f (scan_of (next_of past p.time) (begun || marked p) (b + closes begun p) m)

@@ -1,6 +1,6 @@
 -- The scan from the start is what document 01 declares of the whole history. By place: what the scan carries at place i is a function
 -- of the history, one equation for each part, and it moves on by one packet until the lowest refused place or the end.
-use Rattle.std.specs.Prelude.{◌≡◌, ◌||◌, ◌+◌, ◌≤◌, ◌<◌}
+use Rattle.std.specs.Prelude.{◌≡◌, ◌||◌, ◌+◌, ◌≤◌, ◌<◌, Err, Ok}
 use Rattle.laws.specs.Kit.{refl, sym, ◌∙◌, Bool, true, false, or-false, or-true, List, ℕ, zero, suc, arith}
 use Rattle.laws.specs.Kit.{add-zero, dec_le, ltb, eqb-suc-zero, length, drop, drop-cons, drop-length, ltb-true, ltb-false, lt-ltb, le-ltb}
 use Rattle.laws.specs.Kit.{eqb-true, not-false, not-true, eqb-false}
@@ -12,10 +12,9 @@ use Rattle.laws.specs.Seek.{Lowest}
 use Rattle.laws.proofs.Seek.{seek_is}
 use Rattle.laws.proofs.Fold.{fold_states}
 use Rattle.packet.specs.declared.Tally.{Tally}
-use Rattle.packet.specs.declared.Scanned.TheVariants.{Fine, Refused}
 use Rattle.packet.specs.declared.Packet.{Packet}
 use Rattle.packet.specs.Paper.{no_packet, marked, at, refusal_at, refused_at, marked_at, begun_at, closes_at}
-use Rattle.packet.specs.Paper.{first_refused, declared, past_at}
+use Rattle.packet.specs.Paper.{Scanned, first_refused, declared, past_at}
 use Rattle.packet.specs.Step.{nothing, refusal_of, next_of, no_packets, tallied, tally_of, scan_of}
 use Rattle.packet.specs.Calls.{past_after_packets, begun_after}
 use Rattle.packet.proofs.Refusals.{accepted}
@@ -86,7 +85,7 @@ module _ (l : List Packet) where
 
       go : (t : Bool) → ltb k (length l) ≡ t
           → scan_of nothing false 0 l
-          ≡ pick t (Refused (record { number = refusal_at l k; place = k })) (Fine (count (closes_at l) (length l)))
+          ≡ pick t (Err (record { number = refusal_at l k; place = k })) (Ok (count (closes_at l) (length l)))
       go true e =
           let h = ltb-true k (length l) e in
           let bad = eqb-false (refusal_at l k) 0 (not-true _ (low.here h)) in
@@ -98,16 +97,16 @@ module _ (l : List Packet) where
           comes ∙ rw end (scan_ends _ _ _ (drop-length l))
 
   -- and it is fine only where no packet of the history is refused
-  pub fine_everywhere : (n i : ℕ) → declared l ≡ Fine n → i < length l → refusal_at l i ≡ 0
+  pub fine_everywhere : (n i : ℕ) → declared l ≡ Ok n → i < length l → refusal_at l i ≡ 0
   unfolding declared
   fine_everywhere n i e h =
       let low = seek_is (refused_at l) (length l) in
-      pick_either (λ s. s ≡ Fine n → refusal_at l i ≡ 0) (ltb (first_refused l) (length l))
+      pick_either (λ s. s ≡ Ok n → refusal_at l i ≡ 0) (ltb (first_refused l) (length l))
       (λ t f. absurd (fine_refused n _ (sym f)))
       (λ t f. eqb-true _ 0 (not-false _ (low.before i (omega (arith, ltb-false (first_refused l) (length l) t))))) e
 
   -- so that by 14 it has at most 1,000,000,000 packets
-  pub fine_few : (n : ℕ) → declared l ≡ Fine n → length l ≤ 1000000000
+  pub fine_few : (n : ℕ) → declared l ≡ Ok n → length l ≤ 1000000000
   fine_few n e = go (dec_le (length l) 1000000000)
     where
       go : Dec (length l ≤ 1000000000) → length l ≤ 1000000000
@@ -117,12 +116,12 @@ module _ (l : List Packet) where
           absurd (omega (arith, (accepted _ _ _ (refusal_at_lem 1000000000 ∙ here)).few))
 
   -- and counts the frames that close
-  pub fine_count : (n : ℕ) → declared l ≡ Fine n → n ≡ count (closes_at l) (length l)
+  pub fine_count : (n : ℕ) → declared l ≡ Ok n → n ≡ count (closes_at l) (length l)
   unfolding declared
   fine_count n e = go (ltb (first_refused l) (length l)) e
     where
-      go : (t : Bool) → pick t (Refused (record { number = refusal_at l (first_refused l); place = first_refused l }))
-          (Fine (count (closes_at l) (length l))) ≡ Fine n
+      go : (t : Bool) → pick {A = Scanned} t (Err (record { number = refusal_at l (first_refused l); place = first_refused l }))
+          (Ok (count (closes_at l) (length l))) ≡ Ok n
           → n ≡ count (closes_at l) (length l)
       go true e = let z : ◌≡◌ {A = ℕ} 0 1 = cc in absurd (omega arith)
       go false e = cc

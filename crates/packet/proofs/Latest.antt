@@ -1,6 +1,6 @@
 -- Where a run goes through all packets, and 13 and 14 admit them, the scan refuses none and closes as many frames. By the list: arrivals
 -- that never fall have their greatest at the end, so that each is no further from the first than the last is.
-use Rattle.std.specs.Prelude.{◌≡◌, ◌&&◌, ◌||◌, ◌∷◌, ◌+◌, ◌-◌, ◌≤◌}
+use Rattle.std.specs.Prelude.{◌≡◌, ◌&&◌, ◌||◌, ◌∷◌, ◌+◌, ◌-◌, ◌≤◌, Ok, None, Some}
 use Rattle.laws.specs.Kit.{refl, ap, ◌∙◌, Bool, true, false, List, [], ℕ, zero, suc, arith}
 use Rattle.std.specs.Prelude.{◌<◌}
 use Rattle.laws.specs.Kit.{le_trans, ltb, leb, eqb, length, get_or, leb-true, lt-ltb, ne_eqb}
@@ -10,9 +10,7 @@ use Rattle.laws.proofs.Every.{and_left, and_right}
 use Rattle.packet.specs.declared.Past.{Past}
 use Rattle.packet.specs.declared.Packet.{Packet}
 use Rattle.packet.specs.declared.Run.{Run}
-use Rattle.packet.specs.declared.Ran.{Ran}
-use Rattle.packet.specs.declared.Ran.TheVariants.{Through, Broken}
-use Rattle.packet.specs.declared.Scanned.TheVariants.{Fine}
+use Rattle.packet.specs.Quick.{Ran}
 use Rattle.packet.specs.Paper.{OneLength, packets}
 use Rattle.packet.specs.Step.{first_of, elapsed_of, next_of, scan_of}
 use Rattle.packet.specs.Quick.{start_of, takes_of, runs_of, ran_of, admits_of, closed_by}
@@ -33,7 +31,7 @@ taken r p e = record {
   in_order = leb-true _ _ (and_right (leb p.marker 1) (leb r.last p.time) e);
 }
 
-pub run_ends : (r : Run) {l : List Packet} → l ≡ [] → ran_of r l ≡ Through r
+pub run_ends : (r : Run) {l : List Packet} → l ≡ [] → ran_of r l ≡ Some r
 unfolding ran_of
 run_ends r e = rw e
 
@@ -42,19 +40,19 @@ module _ (r : Run) {p : Packet} {l ps : List Packet} (c : l ≡ p ∷ ps) where
   unfolding ran_of
   run_goes e = rw (c, e)
 
-  pub run_breaks : takes_of r p ≡ false → ran_of r l ≡ Broken
+  pub run_breaks : takes_of r p ≡ false → ran_of r l ≡ None
   unfolding ran_of
   run_breaks e = rw (c, e)
 
 -- a run that went through took its first packet
-pub through : (r z : Run) (p : Packet) (ps : List Packet) → ran_of r (p ∷ ps) ≡ Through z → Taken r p × (ran_of (runs_of r p) ps ≡ Through z)
+pub through : (r z : Run) (p : Packet) (ps : List Packet) → ran_of r (p ∷ ps) ≡ Some z → Taken r p × (ran_of (runs_of r p) ps ≡ Some z)
 unfolding ran_of
 through r z p ps =
-    pick_either (λ (x : Ran). x ≡ Through z → Taken r p × (ran_of (runs_of r p) ps ≡ Through z)) (takes_of r p)
+    pick_either (λ (x : Ran). x ≡ Some z → Taken r p × (ran_of (runs_of r p) ps ≡ Some z)) (takes_of r p)
     (λ t e. (taken r p t, e))
     (λ t e. let z : ◌≡◌ {A = ℕ} 0 1 = cc in absurd (omega arith))
 
-rising : (l : List Packet) (r z : Run) → ran_of r l ≡ Through z → r.last ≤ z.last
+rising : (l : List Packet) (r z : Run) → ran_of r l ≡ Some z → r.last ≤ z.last
 unfolding ran_of
 rising [] r z e = let same : r.last ≡ z.last = cc in omega arith
 rising (p ∷ ps) r z e =
@@ -89,9 +87,9 @@ first_stays past t (p ∷ ps) = rw (ne_eqb (past.packets + 1) 0 (λ z. omega ari
 
 -- ---- all packets
 
-scan_run : (l : List Packet) (past : Past) (m : ℕ) (z : Run) → ran_of (record { last = past.last; marks = m }) l ≡ Through z
+scan_run : (l : List Packet) (past : Past) (m : ℕ) (z : Run) → ran_of (record { last = past.last; marks = m }) l ≡ Some z
     → past.packets + length l ≤ 1000000000 → z.last - first_in past l ≤ 600000000000
-    → scan_of past (ltb 0 m) (m - 1) l ≡ Fine (closed_by z)
+    → scan_of past (ltb 0 m) (m - 1) l ≡ Ok (closed_by z)
 unfolding scan_of ran_of
 scan_run [] past m z e f h = let same : m ≡ z.marks = cc in rw same
 scan_run (p ∷ ps) past m z e f h =
@@ -106,8 +104,8 @@ scan_run (p ∷ ps) past m z e f h =
     (scan_run ps (next_of past p.time) (m + p.marker) z t.1 (omega arith) (rw (first_stays past p.time ps) h))
 
 pub run_scans : (past : Past) (begun : Bool) {z : Run} {p : Packet} {l ps : List Packet} → l ≡ p ∷ ps
-    → ran_of (start_of past begun) l ≡ Through z → admits_of past (length l) p.time z.last ≡ true
-    → scan_of past begun 0 l ≡ Fine (closed_by z)
+    → ran_of (start_of past begun) l ≡ Some z → admits_of past (length l) p.time z.last ≡ true
+    → scan_of past begun 0 l ≡ Ok (closed_by z)
 run_scans past begun {z} {p} {l} {ps} c e a = go begun (rw c at e)
   where
     few : length (p ∷ ps) ≤ 1000000000 - past.packets
@@ -116,7 +114,7 @@ run_scans past begun {z} {p} {l} {ps} c e a = go begun (rw c at e)
     near : z.last - first_of past p.time ≤ 600000000000
     near = le_trans (leb-true _ _ (and_right (leb (length l) (1000000000 - past.packets)) _ a)) (omega arith)
 
-    go : (b : Bool) → ran_of (start_of past b) (p ∷ ps) ≡ Through z → scan_of past b 0 l ≡ Fine (closed_by z)
+    go : (b : Bool) → ran_of (start_of past b) (p ∷ ps) ≡ Some z → scan_of past b 0 l ≡ Ok (closed_by z)
     go true e = rw c (scan_run (p ∷ ps) past 1 z e (omega (arith, few)) near)
     go false e = rw c (scan_run (p ∷ ps) past 0 z e (omega (arith, few)) near)
 
@@ -126,8 +124,8 @@ pub start_marks : (past : Past) (begun : Bool) → (start_of past begun).marks �
 start_marks past begun = pick_either (λ n. n ≤ 1) begun (λ e. omega arith) (λ e. omega arith)
 
 pub lent_scans : {ts ss ms : List ℕ} → OneLength ts ss ms → (past : Past) (begun : Bool) {z : Run} → 0 < length ts
-    → ran_of (start_of past begun) (packets ts ss ms) ≡ Through z → admits_of past (length ts) (get_or ts 0 0) z.last ≡ true
-    → scan_of past begun 0 (packets ts ss ms) ≡ Fine (closed_by z)
+    → ran_of (start_of past begun) (packets ts ss ms) ≡ Some z → admits_of past (length ts) (get_or ts 0 0) z.last ≡ true
+    → scan_of past begun 0 (packets ts ss ms) ≡ Ok (closed_by z)
 lent_scans {ts} {ss} {ms} same past begun {z} some e a =
     run_scans past begun (packets_cons same 0 some) e
     (ap (λ (n : ℕ). admits_of past n (get_or ts 0 0) z.last) (packets_length ts ss ms same) ∙ a)

@@ -1,10 +1,9 @@
 -- Both sides of each limit of a packet, at any arrival, by the laws of the refusals; and three histories, computed.
-use Rattle.std.specs.Prelude.{◌≡◌, ◌∷◌, ◌+◌}
+use Rattle.std.specs.Prelude.{◌≡◌, ◌∷◌, ◌+◌, Err, Ok}
 use Rattle.laws.specs.Kit.{refl, [], ℕ, arith}
 use Rattle.laws.specs.Count.{count}
 use Rattle.laws.specs.Seek.{seek}
 use Rattle.packet.specs.declared.Past.{Past}
-use Rattle.packet.specs.declared.Scanned.TheVariants.{Fine, Refused}
 use Rattle.packet.specs.declared.Packet.{Packet}
 use Rattle.packet.specs.Paper.{refusal_at, declared}
 use Rattle.packet.specs.Step.{nothing, refusal_of}
@@ -47,18 +46,18 @@ abbrev pub packet : ℕ → ℕ → ℕ → Packet
 packet t s m = record { time = t; stamp = s; marker = m }
 
 -- the first marker ends the lead-in and closes no frame
-pub lead_in : declared (packet 7 0 0 ∷ packet 8 0 1 ∷ packet 9 0 0 ∷ []) ≡ Fine 0
+pub lead_in : declared (packet 7 0 0 ∷ packet 8 0 1 ∷ packet 9 0 0 ∷ []) ≡ Ok 0
 unfolding declared refusal_at count seek
 lead_in = refl
 
 -- the five packets of document 01's file close one frame
 pub one_frame : declared
     (packet 19000000 0 1 ∷ packet 20700000 1800 0 ∷ packet 25500000 1800 0 ∷ packet 30300000 1800 0 ∷ packet 35100000 1800 1 ∷ [])
-    ≡ Fine 1
+    ≡ Ok 1
 unfolding declared refusal_at count seek
 one_frame = refl
 
 -- 12 at place 1 decides, though the packet after it has a marker above 1
-pub first_decides : declared (packet 8 0 0 ∷ packet 7 0 1 ∷ packet 9 0 2 ∷ []) ≡ Refused (record { number = 12; place = 1 })
+pub first_decides : declared (packet 8 0 0 ∷ packet 7 0 1 ∷ packet 9 0 2 ∷ []) ≡ Err (record { number = 12; place = 1 })
 unfolding declared refusal_at count seek
 first_decides = refl

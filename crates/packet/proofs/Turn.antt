@@ -1,23 +1,22 @@
 -- One packet of a scan: where the scan goes after it, what an answer of the scan says of it, and what there is room for.
 -- By the test on its refusal.
-use Rattle.std.specs.Prelude.{◌≡◌, ◌&&◌, ◌||◌, ◌∷◌, ◌+◌, ◌≤◌}
+use Rattle.std.specs.Prelude.{◌≡◌, ◌&&◌, ◌||◌, ◌∷◌, ◌+◌, ◌≤◌, Err, Ok}
 use Rattle.laws.specs.Kit.{refl, sym, ap, subst, ◌∙◌, Bool, true, false, or-false, List, [], ℕ, arith}
 use Rattle.laws.specs.Kit.{add-zero, eqb, length, eq-eqb, ne_eqb, eqb-true, eqb-false}
 use Rattle.laws.specs.Choose.{pick}
 use Rattle.laws.proofs.Choose.{pick_either}
 use Rattle.packet.specs.declared.Past.{Past}
-use Rattle.packet.specs.declared.Refusal.{Refusal}
+use Rattle.refusal.specs.Told.{Numbered}
 use Rattle.packet.specs.declared.Tally.{Tally}
-use Rattle.packet.specs.declared.Scanned.{Scanned}
-use Rattle.packet.specs.declared.Scanned.TheVariants.{Fine, Refused}
+use Rattle.packet.specs.Paper.{Scanned}
 use Rattle.packet.specs.declared.Packet.{Packet}
 use Rattle.packet.specs.Paper.{marked, packets, OneLength}
 use Rattle.packet.specs.Step.{number_of, next_of, closes, tallied, scan_of, unequal, scanned_of, Ready, scanned_number}
 
-pub fine_refused : (n : ℕ) (r : Refusal) → Fine n ≡ Refused r → ⊥
+pub fine_refused : (n : ℕ) (r : Numbered) → Ok n ≡ Err r → ⊥
 fine_refused n r e = let z : ◌≡◌ {A = ℕ} 0 1 = cc in omega arith
 
-pub scan_ends : (past : Past) (begun : Bool) (closed : ℕ) {l : List Packet} → l ≡ [] → scan_of past begun closed l ≡ Fine closed
+pub scan_ends : (past : Past) (begun : Bool) (closed : ℕ) {l : List Packet} → l ≡ [] → scan_of past begun closed l ≡ Ok closed
 unfolding scan_of
 scan_ends past begun closed e = rw e
 
@@ -50,7 +49,7 @@ module _ (past : Past) (begun : Bool) (closed : ℕ) {p : Packet} {l ps : List P
 
   -- a refused packet: the scan stops there
   pub scan_stops : (number_of past p ≡ 0 → ⊥)
-      → scan_of past begun closed l ≡ Refused (record { number = number_of past p; place = past.packets })
+      → scan_of past begun closed l ≡ Err (record { number = number_of past p; place = past.packets })
   unfolding scan_of
   scan_stops n = rw (c, ne_eqb (number_of past p) 0 n)
 
@@ -68,7 +67,7 @@ pub scan_tallied : (y : Tally) {p : Packet} {l ps : List Packet} → l ≡ p ∷
 unfolding tallied
 scan_tallied y c e = sym (scan_goes y.past y.begun y.closed c e)
 
-pub fine_ready : (s : Scanned) (n room : ℕ) → s ≡ Fine n → n ≤ room → Ready s room
+pub fine_ready : (s : Scanned) (n room : ℕ) → s ≡ Ok n → n ≤ room → Ready s room
 fine_ready s n room e h = rw e h
 
 -- three lent slices, of one length or not
@@ -92,14 +91,14 @@ module _ (past : Past) (begun : Bool) (ts ss ms : List ℕ) where
   lengths_differ differ = by_length (λ s. s ≡ unequal) (λ same. absurd (differ same)) (λ d. refl)
 
   -- an answer of fine says that the slices have one length, and answers for their packets
-  pub scanned_fine : (n : ℕ) → scanned_of past begun ts ss ms ≡ Fine n
-      → OneLength ts ss ms × (scan_of past begun 0 (packets ts ss ms) ≡ Fine n)
+  pub scanned_fine : (n : ℕ) → scanned_of past begun ts ss ms ≡ Ok n
+      → OneLength ts ss ms × (scan_of past begun 0 (packets ts ss ms) ≡ Ok n)
   scanned_fine n =
-      by_length (λ s. s ≡ Fine n → OneLength ts ss ms × (scan_of past begun 0 (packets ts ss ms) ≡ Fine n))
+      by_length (λ s. s ≡ Ok n → OneLength ts ss ms × (scan_of past begun 0 (packets ts ss ms) ≡ Ok n))
       (λ same e. (same, e)) (λ differ e. absurd (fine_refused n _ (sym e)))
 
 -- a refusal has a number that is not 0
-scan_some : (l : List Packet) (past : Past) (begun : Bool) (closed : ℕ) (r : Refusal) → scan_of past begun closed l ≡ Refused r
+scan_some : (l : List Packet) (past : Past) (begun : Bool) (closed : ℕ) (r : Numbered) → scan_of past begun closed l ≡ Err r
     → r.number ≡ 0 → ⊥
 unfolding scan_of
 scan_some [] past begun closed r = λ e z. fine_refused closed r e
@@ -107,16 +106,16 @@ scan_some (p ∷ ps) past begun closed r = go (eqb (number_of past p) 0) refl
     (scan_some ps (next_of past p.time) (begun || marked p) (closed + closes begun p) r)
   where
     go : (t : Bool) → eqb (number_of past p) 0 ≡ t
-        → (scan_of (next_of past p.time) (begun || marked p) (closed + closes begun p) ps ≡ Refused r → r.number ≡ 0 → ⊥)
+        → (scan_of (next_of past p.time) (begun || marked p) (closed + closes begun p) ps ≡ Err r → r.number ≡ 0 → ⊥)
         → pick t (scan_of (next_of past p.time) (begun || marked p) (closed + closes begun p) ps)
-        (Refused (record { number = number_of past p; place = past.packets })) ≡ Refused r → r.number ≡ 0 → ⊥
+        (Err (record { number = number_of past p; place = past.packets })) ≡ Err r → r.number ≡ 0 → ⊥
     go true n ih e z = ih e z
     go false n ih e z =
         let same : number_of past p ≡ r.number = ap scanned_number e in
         eqb-false (number_of past p) 0 n (same ∙ z)
 
-pub scanned_some : (past : Past) (begun : Bool) (ts ss ms : List ℕ) (r : Refusal) → scanned_of past begun ts ss ms ≡ Refused r
+pub scanned_some : (past : Past) (begun : Bool) (ts ss ms : List ℕ) (r : Numbered) → scanned_of past begun ts ss ms ≡ Err r
     → r.number ≡ 0 → ⊥
 scanned_some past begun ts ss ms r =
-    by_length past begun ts ss ms (λ s. s ≡ Refused r → r.number ≡ 0 → ⊥) (λ same. scan_some (packets ts ss ms) past begun 0 r)
+    by_length past begun ts ss ms (λ s. s ≡ Err r → r.number ≡ 0 → ⊥) (λ same. scan_some (packets ts ss ms) past begun 0 r)
     (λ differ e z. let ten : 10 ≡ r.number = ap scanned_number e in omega arith)

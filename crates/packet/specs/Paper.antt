@@ -1,13 +1,12 @@
 -- The sentences of document 01 about packets, their refusals and the frames that they close, over the whole history by place.
-use Rattle.std.specs.Prelude.{◌≡◌, ◌∷◌, ◌-◌}
+use Rattle.std.specs.Prelude.{◌≡◌, ◌∷◌, ◌-◌, Result, Err, Ok}
 use Rattle.laws.specs.Kit.{Bool, false, not, List, [], ℕ, zero, suc, ltb, leb, eqb, length, drop, get_or}
 use Rattle.laws.specs.Choose.{pick}
 use Rattle.laws.specs.Count.{count, begun, again}
 use Rattle.laws.specs.Seek.{seek}
 use Rattle.packet.specs.declared.Packet.{Packet}
+use Rattle.refusal.specs.Told.{Numbered}
 use Rattle.packet.specs.declared.Past.{Past}
-use Rattle.packet.specs.declared.Scanned.{Scanned}
-use Rattle.packet.specs.declared.Scanned.TheVariants.{Fine, Refused}
 
 -- what stands past the end of a history
 abbrev pub no_packet : Packet
@@ -34,6 +33,10 @@ lent ts ss ms i = record { time = get_or ts i 0; stamp = get_or ss i 0; marker =
 
 abbrev pub packets_from : ℕ → List ℕ → List ℕ → List ℕ → List Packet
 packets_from i ts ss ms = packets (drop i ts) (drop i ss) (drop i ms)
+
+-- N7, N11, N12: fine with the number of frames that close, or the number of the first refusal and its place in the history
+abbrev pub Scanned : Type 0
+Scanned = Result ℕ Numbered
 
 module _ (l : List Packet) where
   -- packet i of the history, counted from 0
@@ -78,8 +81,8 @@ module _ (l : List Packet) where
   unfoldable pub declared : Scanned
   declared =
       pick (ltb first_refused (length l))
-      (Refused (record { number = refusal_at first_refused; place = first_refused }))
-      (Fine (count closes_at (length l)))
+      (Err (record { number = refusal_at first_refused; place = first_refused }))
+      (Ok (count closes_at (length l)))
 
   -- what came before packet i: how many, and the first and the last arrival of them
   abbrev pub first_before : ℕ → ℕ

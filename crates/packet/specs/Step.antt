@@ -1,12 +1,11 @@
 -- A packet against what came before it, and the scan packet by packet: what the contracts cite.
-use Rattle.std.specs.Prelude.{◌&&◌, ◌||◌, ◌∷◌, ◌+◌, ◌-◌, ◌≤◌, ◌<◌}
+use Rattle.std.specs.Prelude.{◌&&◌, ◌||◌, ◌∷◌, ◌+◌, ◌-◌, ◌≤◌, ◌<◌, Err, Ok}
 use Rattle.laws.specs.Kit.{Bool, false, List, [], ℕ, ltb, leb, eqb, length}
 use Rattle.laws.specs.Choose.{pick}
 use Rattle.laws.specs.Fold.{fold}
 use Rattle.packet.specs.declared.Past.{Past}
 use Rattle.packet.specs.declared.Tally.{Tally}
-use Rattle.packet.specs.declared.Scanned.{Scanned}
-use Rattle.packet.specs.declared.Scanned.TheVariants.{Fine, Refused}
+use Rattle.packet.specs.Paper.{Scanned}
 use Rattle.packet.specs.declared.Packet.{Packet}
 use Rattle.packet.specs.Paper.{marked, packets}
 
@@ -67,15 +66,15 @@ pub record Countable (y : Tally) : Type 0 where
 
 -- so many frames closed before, then packet by packet up to the first that is refused
 unfoldable pub scan_of : Past → Bool → ℕ → List Packet → Scanned
-scan_of past begun closed [] = Fine closed
+scan_of past begun closed [] = Ok closed
 scan_of past begun closed (p ∷ ps) =
     pick (eqb (number_of past p) 0)
     (scan_of (next_of past p.time) (begun || marked p) (closed + closes begun p) ps)
-    (Refused (record { number = number_of past p; place = past.packets }))
+    (Err (record { number = number_of past p; place = past.packets }))
 
 -- N1, N6, N12: "10 the three slices differ in length", with place 0
 abbrev pub unequal : Scanned
-unequal = Refused (record { number = 10; place = 0 })
+unequal = Err (record { number = 10; place = 0 })
 
 -- the answer to three lent slices, whatever they are
 unfoldable pub scanned_of : Past → Bool → List ℕ → List ℕ → List ℕ → Scanned
@@ -86,18 +85,18 @@ scanned_of past begun ts ss ms =
 
 -- a scan found nothing to refuse, and no more frames close than there is room for
 abbrev pub Ready : Scanned → ℕ → Type 0
-Ready (Fine closed) room = closed ≤ room
-Ready (Refused r) room = ⊥
+Ready (Ok closed) room = closed ≤ room
+Ready (Err r) room = ⊥
 
 -- Document 01's number, 0 where nothing is refused, the place, and the frames that close, for each case of the answer.
 abbrev pub scanned_number : Scanned → ℕ
-scanned_number (Fine closed) = 0
-scanned_number (Refused r) = r.number
+scanned_number (Ok closed) = 0
+scanned_number (Err r) = r.number
 
 abbrev pub scanned_place : Scanned → ℕ
-scanned_place (Fine closed) = 0
-scanned_place (Refused r) = r.place
+scanned_place (Ok closed) = 0
+scanned_place (Err r) = r.place
 
 abbrev pub scanned_closed : Scanned → ℕ
-scanned_closed (Fine closed) = closed
-scanned_closed (Refused r) = 0
+scanned_closed (Ok closed) = closed
+scanned_closed (Err r) = 0

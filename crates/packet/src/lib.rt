@@ -6,10 +6,13 @@
 ghost use Rattle.std.specs.Prelude.{◌≡◌, ◌+◌, ◌-◌, ◌^◌, ◌≤◌, ◌<◌};
 ghost use Rattle.laws.specs.Kit.{length};
 ghost use Rattle.laws.specs.Every.{every};
+ghost use Rattle.refusal.specs.Told.{number_in, told};
 ghost use Rattle.packet.specs.Paper.{OneLength, lent, packets};
 ghost use Rattle.packet.specs.Quick.{start_of, takes_of, runs_of, ran_of, admits_of, closed_by};
 ghost use Rattle.packet.specs.Range.{ranges};
 ghost use Rattle.packet.specs.Step.{nothing, first_of, elapsed_of, since_of, number_of, next_of, no_packets, tallied, Countable, scan_of, scanned_of};
+
+use refusal::{Refusal, Refused};
 
 // A packet: its arrival in nanoseconds since the SMPTE epoch, its RTP timestamp, and its marker, which is 0 or 1 where it is accepted.
 #[derive(Clone, Copy, Debug, PartialEq, Eq)]
@@ -40,27 +43,6 @@ pub struct Tally {
 pub struct Run {
     pub last: u64,
     pub marks: usize,
-}
-
-// Through all packets, or broken off at one that 11 or 12 refuses.
-#[derive(Clone, Copy, Debug, PartialEq, Eq)]
-pub enum Ran {
-    Through(Run),
-    Broken,
-}
-
-// Document 01's number, and the refused packet's place in the history, from 0; place 0 for number 10.
-#[derive(Clone, Copy, Debug, PartialEq, Eq)]
-pub struct Refusal {
-    pub number: u8,
-    pub place: u64,
-}
-
-// Fine with the number of frames that close, or the first refusal.
-#[derive(Clone, Copy, Debug, PartialEq, Eq)]
-pub enum Scanned {
-    Fine(usize),
-    Refused(Refusal),
 }
 
 // Packet `i` of three lent slices.
@@ -101,7 +83,7 @@ impl Past {
     pub fn elapsed(self, t: u64) -> u64
         ensures { result ≡ elapsed_of self t }
     {
-        laws::less(t, self.first_with(t))
+        t.saturating_sub(self.first_with(t))
     }
 
     // Nanoseconds from the packet before to one at `t`, which is no earlier; 0 for the first.
@@ -124,27 +106,27 @@ impl Past {
             & (!none | (self.first == 0))
             & (!none | (self.last == 0))
             & (self.first <= self.last)
-            & (laws::less(self.last, self.first) <= 600000000000)
+            & (self.last.saturating_sub(self.first) <= 600000000000)
     }
 
-    // The number by which a packet is refused, 0 where it is not.
-    pub fn refusal(self, p: Packet) -> u8
-        ensures { result ≡ number_of self p }
+    // Whether a packet is accepted; else the first of 11 to 14 that holds of it (N7).
+    pub fn admit(self, p: Packet) -> Result<(), Refusal>
+        ensures { number_in result ≡ number_of self p }
     {
         if 1 < p.marker {
-            return 11;
+            return Err(Refusal::Marker);
         }
         if p.time < self.last {
-            return 12;
+            return Err(Refusal::Earlier);
         }
         let over = 600000000000 < self.elapsed(p.time);
         if over {
-            return 13;
+            return Err(Refusal::Late);
         }
         if 1000000000 <= self.packets {
-            return 14;
+            return Err(Refusal::Packets);
         }
-        0
+        Ok(())
     }
 
     // What came before the packet after one at `t`.
@@ -166,7 +148,7 @@ impl Past {
     {
         Run {
             last: self.last,
-            marks: if begun { 1 } else { 0 },
+            marks: usize::from(begun),
         }
     }
 
@@ -175,27 +157,34 @@ impl Past {
     pub fn admits(self, count: u64, first: u64, last: u64) -> bool
         ensures { result ≡ admits_of self count first last }
     {
-        (count <= laws::less(1000000000, self.packets))
-            & (laws::less(last, self.first_with(first)) <= 600000000000)
+        (count <= 1000000000u64.saturating_sub(self.packets))
+            & (last.saturating_sub(self.first_with(first)) <= 600000000000)
     }
 
+    // Three lent slices after these packets: how many frames close, or the first refusal of 10 to 14 with its place in the history.
     // `begun`: a marker came before. Mostly nothing is refused, and a run sees that with fewer tests; where it does not, the careful
     // scan tells what is refused.
-    pub fn scan(self, begun: bool, arrivals: &[u64], stamps: &[u32], markers: &[u8]) -> Scanned
-        ensures { result ≡ scanned_of self begun arrivals.now stamps.now markers.now }
+    pub fn scan(
+        self,
+        begun: bool,
+        arrivals: &[u64],
+        stamps: &[u32],
+        markers: &[u8],
+    ) -> Result<usize, Refused>
+        ensures { told result ≡ scanned_of self begun arrivals.now stamps.now markers.now }
     {
         let count = arrivals.len();
         if stamps.len() != count || markers.len() != count {
-            return Scanned::Refused(Refusal {
-                number: 10,
+            return Err(Refused {
+                refusal: Refusal::Lengths,
                 place: 0,
             });
         }
         if count != 0 {
             let ran = self.start(begun).over(arrivals, stamps, markers);
-            if let Ran::Through(run) = ran {
+            if let Some(run) = ran {
                 if self.admits(count as u64, arrivals[0], run.last) {
-                    return Scanned::Fine(run.closed());
+                    return Ok(run.closed());
                 }
             }
         }
@@ -231,28 +220,23 @@ impl Run {
     pub fn closed(self) -> usize
         ensures { result ≡ closed_by self }
     {
-        if self.marks == 0 {
-            return 0;
-        }
-        self.marks - 1
+        self.marks.saturating_sub(1)
     }
 
-    // Over three slices of one length.
-    fn over(self, arrivals: &[u64], stamps: &[u32], markers: &[u8]) -> Ran
+    // Over three slices of one length; none where 11 or 12 refuses a packet.
+    fn over(self, arrivals: &[u64], stamps: &[u32], markers: &[u8]) -> Option<Run>
         requires { OneLength arrivals.now stamps.now markers.now × (self.marks ≤ 1) }
         ensures { result ≡ ran_of self (packets arrivals.now stamps.now markers.now) }
     {
         let mut run = self;
-        let mut i = 0;
-        while i < arrivals.len() {
+        for i in 0..arrivals.len() {
             let p = lent_packet(arrivals, stamps, markers, i);
             if !run.takes(p) {
-                return Ran::Broken;
+                return None;
             }
             run = run.with(p);
-            i += 1;
         }
-        Ran::Through(run)
+        Some(run)
     }
 }
 
@@ -269,55 +253,38 @@ impl Tally {
     }
 
     // With one packet more.
+    #[tactic(auto, unfolding(crate::specs::Step::tallied))]
     pub fn with(self, p: Packet) -> Tally
         requires { Countable self }
         ensures { result ≡ tallied self p }
     {
-        let past = self.past;
-        let next = past.next(p.time);
-        if p.marker != 1 {
-            return Tally {
-                past: next,
-                begun: self.begun,
-                closed: self.closed,
-            };
-        }
-        let closes = self.begun;
-        if closes {
-            return Tally {
-                past: next,
-                begun: true,
-                closed: self.closed + 1,
-            };
-        }
+        let marked = p.marker == 1;
+        let closes = marked & self.begun;
         Tally {
-            past: next,
-            begun: true,
-            closed: self.closed,
+            past: self.past.next(p.time),
+            begun: self.begun | marked,
+            closed: self.closed + usize::from(closes),
         }
     }
 
     // The scan of three slices of one length.
-    fn scan(self, arrivals: &[u64], stamps: &[u32], markers: &[u8]) -> Scanned
+    fn scan(self, arrivals: &[u64], stamps: &[u32], markers: &[u8]) -> Result<usize, Refused>
         requires { OneLength arrivals.now stamps.now markers.now × (self.closed ≤ self.past.packets) }
-        ensures { result ≡ scan_of self.past self.begun self.closed
+        ensures { told result ≡ scan_of self.past self.begun self.closed
             (packets arrivals.now stamps.now markers.now) }
     {
         let mut tally = self;
-        let mut i = 0;
-        while i < arrivals.len() {
+        for i in 0..arrivals.len() {
             let p = lent_packet(arrivals, stamps, markers, i);
             let past = tally.past;
-            let number = past.refusal(p);
-            if number != 0 {
-                return Scanned::Refused(Refusal {
-                    number: number,
+            if let Err(refusal) = past.admit(p) {
+                return Err(Refused {
+                    refusal,
                     place: past.packets,
                 });
             }
             tally = tally.with(p);
-            i += 1;
         }
-        Scanned::Fine(tally.closed)
+        Ok(tally.closed)
     }
 }

@@ -1,12 +1,11 @@
 -- A call's number and place by what is found in turn: the words, the range, the scan, the room. So they depend on how many numbers are
 -- lent, and not on what they are.
-use Rattle.std.specs.Prelude.{◌≡◌, ◌⊎◌, ◌&&◌, ◌*◌, ◌/◌, ◌≤◌, ◌<◌}
+use Rattle.std.specs.Prelude.{◌≡◌, ◌⊎◌, ◌&&◌, ◌*◌, ◌/◌, ◌≤◌, ◌<◌, Err, Ok}
 use Rattle.laws.specs.Kit.{refl, sym, ap, ◌∙◌, inl, inr, Bool, true, false, List, ℕ, arith}
 use Rattle.laws.specs.Kit.{le-div_iff_mul-le, div-lt_iff_lt-mul, leb, ℤ, pos, length, take, replicate, length-replicate, le-leb, lt-leb}
 use Rattle.laws.specs.Choose.{pick}
-use Rattle.packet.specs.declared.Refusal.{Refusal}
-use Rattle.packet.specs.declared.Scanned.{Scanned}
-use Rattle.packet.specs.declared.Scanned.TheVariants.{Fine, Refused}
+use Rattle.refusal.specs.Told.{Numbered}
+use Rattle.packet.specs.Paper.{Scanned}
 use Rattle.packet.specs.declared.Packet.{Packet}
 use Rattle.packet.specs.Paper.{packets}
 use Rattle.packet.specs.Step.{scanned_of}
@@ -28,8 +27,8 @@ abbrev by_room : (room space packets closed : ℕ) → Answer
 by_room room space packets closed = pick (leb (closed * row_width) room && leb summary_width space) (answer 0 0) (answer 15 packets)
 
 abbrev by_scanned : (room space packets : ℕ) → Scanned → Answer
-by_scanned room space packets (Fine closed) = by_room room space packets closed
-by_scanned room space packets (Refused r) = answer r.number r.place
+by_scanned room space packets (Ok closed) = by_room room space packets closed
+by_scanned room space packets (Err r) = answer r.number r.place
 
 module _ (ts ss ms : List ℕ) where
   abbrev scanned : State → Scanned
@@ -63,8 +62,8 @@ module _ (ts ss ms : List ℕ) where
       found : (s : State) (b : Bool) (x : Scanned)
           → fed words rows out s (pick b (by_scan s rows x (packets ts ss ms)) (refused_by s rows 9 0))
           ≡ pick b (by_scanned (length rows) (length out) s.past.packets x) (answer 9 0)
-      found s true (Fine closed) = enough s (packets ts ss ms) (leb (closed * row_width) (length rows))
-      found s true (Refused r) = refl
+      found s true (Ok closed) = enough s (packets ts ss ms) (leb (closed * row_width) (length rows))
+      found s true (Err r) = refl
       found s false x = refl
 
       go : (h : Held) → asked (by_held words rows out ts ss ms h) ≡ answered (length rows) (length out) h
@@ -102,10 +101,10 @@ module _ (ts ss ms : List ℕ) where
         in_turn : by_scanned room space s.past.packets x ≡ asked_of words ts ss ms room space
         in_turn = sym (rw (i, ← g)) ∙ known
 
-        pub asked_refused : {r : Refusal} → x ≡ Refused r → answer r.number r.place ≡ asked_of words ts ss ms room space
+        pub asked_refused : {r : Numbered} → x ≡ Err r → answer r.number r.place ≡ asked_of words ts ss ms room space
         asked_refused q = sym (rw q) ∙ in_turn
 
-        module _ {closed : ℕ} (q : x ≡ Fine closed) where
+        module _ {closed : ℕ} (q : x ≡ Ok closed) where
           fine : by_room room space s.past.packets closed ≡ asked_of words ts ss ms room space
           fine = sym (rw q) ∙ in_turn
 

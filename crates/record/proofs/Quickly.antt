@@ -1,6 +1,6 @@
 -- A file whose bytes are packets' records, gone through by a run that is admitted, finishes as the walk over it does. By the records: each
 -- stands whole, so that the format refuses none, and no packet is refused either, as a run that is admitted says.
-use Rattle.std.specs.Prelude.{◌≡◌, ◌&&◌, ◌||◌, ◌∷◌, ◌+◌, ◌*◌}
+use Rattle.std.specs.Prelude.{◌≡◌, ◌&&◌, ◌||◌, ◌∷◌, ◌+◌, ◌*◌, None, Some}
 use Rattle.laws.specs.Kit.{refl, sym, ap, subst, ◌∙◌, Bool, true, false, and-false, List, [], ℕ, zero, suc}
 use Rattle.std.specs.Prelude.{◌/◌, ◌%◌, ◌<◌}
 use Rattle.laws.specs.Kit.{arith, eqb, length, drop, length-drop, eq-eqb, ne_eqb, eqb-true}
@@ -9,8 +9,7 @@ use Rattle.laws.proofs.Every.{and_left, and_right}
 use Rattle.packet.specs.declared.Packet.{Packet}
 use Rattle.packet.specs.declared.Past.{Past}
 use Rattle.packet.specs.declared.Run.{Run}
-use Rattle.packet.specs.declared.Ran.{Ran}
-use Rattle.packet.specs.declared.Ran.TheVariants.{Through, Broken}
+use Rattle.packet.specs.Quick.{Ran}
 use Rattle.packet.specs.declared.Scanned.TheVariants as scanned
 use Rattle.packet.specs.Paper.{marked}
 use Rattle.packet.specs.Step.{nothing, number_of, next_of, closes, no_packets, scan_of}
@@ -51,11 +50,11 @@ module _ (r : Run) {left k : ℕ} (some : left ≡ suc k) (l : List ℕ) where
   unfolding ran_in
   ran_goes s t = rw (some, s, t)
 
-  pub ran_other : stands_in l ≡ false → ran_in r left l ≡ Broken
+  pub ran_other : stands_in l ≡ false → ran_in r left l ≡ None
   unfolding ran_in
   ran_other s = rw (some, s)
 
-  pub ran_breaks : takes_of r (packet_at l) ≡ false → ran_in r left l ≡ Broken
+  pub ran_breaks : takes_of r (packet_at l) ≡ false → ran_in r left l ≡ None
   unfolding ran_in
   ran_breaks t = rw (some, t, and-false (stands_in l))
 
@@ -63,12 +62,12 @@ module _ (r : Run) {left k : ℕ} (some : left ≡ suc k) (l : List ℕ) where
 record Passed (r z : Run) (k : ℕ) (l : List ℕ) : Type 0 where
   stood : stands_in l ≡ true
   took : takes_of r (packet_at l) ≡ true
-  then : ran_in (runs_of r (packet_at l)) k (drop packet_bytes l) ≡ Through z
+  then : ran_in (runs_of r (packet_at l)) k (drop packet_bytes l) ≡ Some z
 
-passed : (r z : Run) (k : ℕ) (l : List ℕ) → ran_in r (suc k) l ≡ Through z → Passed r z k l
+passed : (r z : Run) (k : ℕ) (l : List ℕ) → ran_in r (suc k) l ≡ Some z → Passed r z k l
 unfolding ran_in
 passed r z k l =
-    pick_either (λ (x : Ran). x ≡ Through z → Passed r z k l) (stands_in l && takes_of r (packet_at l))
+    pick_either (λ (x : Ran). x ≡ Some z → Passed r z k l) (stands_in l && takes_of r (packet_at l))
     (λ t e. record { stood = and_left (stands_in l) _ t; took = and_right (stands_in l) _ t; then = e })
     (λ t e. let z : ◌≡◌ {A = ℕ} 0 1 = cc in absurd (omega arith))
 
@@ -88,7 +87,7 @@ pieces_length zero l = refl
 pieces_length (suc k) l = ap suc (pieces_length k (drop packet_bytes l))
 
 -- the run over the bytes is the run over the packets
-pieces_run : (k : ℕ) (r z : Run) (l : List ℕ) → ran_in r k l ≡ Through z → ran_of r (pieces k l) ≡ Through z
+pieces_run : (k : ℕ) (r z : Run) (l : List ℕ) → ran_in r k l ≡ Some z → ran_of r (pieces k l) ≡ Some z
 unfolding pieces ran_in ran_of
 pieces_run zero r z l e = e
 pieces_run (suc k) r z l e =
@@ -97,7 +96,7 @@ pieces_run (suc k) r z l e =
     ∙ pieces_run k (runs_of r (packet_at l)) z (drop packet_bytes l) p.then
 
 -- where the scan refuses none of them, they are what the bytes read as
-pieces_read : (k : ℕ) (r z : Run) (l : List ℕ) (past : Past) (begun : Bool) (closed at n : ℕ) → ran_in r k l ≡ Through z
+pieces_read : (k : ℕ) (r z : Run) (l : List ℕ) (past : Past) (begun : Bool) (closed at n : ℕ) → ran_in r k l ≡ Some z
     → length l ≡ packet_bytes * k → scan_of past begun closed (pieces k l) ≡ scanned.Fine n
     → packets_in past at l ≡ record { accepted = pieces k l; ending = done }
 unfolding pieces
@@ -115,7 +114,7 @@ pieces_read (suc k) r z l past begun closed at n e f s =
     (length-drop packet_bytes l ∙ omega arith) (sym on ∙ s))
 
 pub quick_finish : (numbers : FileNumbers) (at : ℕ) (l : List ℕ) (k : ℕ) {z : Run} → 0 < k → length l ≡ packet_bytes * k
-    → ran_in (start_of nothing false) k l ≡ Through z → admits_of nothing k (packet_at l).time z.last ≡ true
+    → ran_in (start_of nothing false) k l ≡ Some z → admits_of nothing k (packet_at l).time z.last ≡ true
     → answer.Fine numbers k (closed_by z) ≡ finish numbers no_packets (packets_in nothing at l)
 unfolding pieces
 quick_finish numbers at l zero {z} h f e a = absurd (omega arith)

@@ -6,8 +6,8 @@ use Rattle.laws.specs.Kit.{eqb-true}
 use Rattle.laws.specs.Choose.{pick, or_else}
 use Rattle.laws.proofs.Choose.{pick_either, neither}
 use Rattle.packet.specs.declared.Past.{Past}
-use Rattle.packet.specs.declared.Refusal.{Refusal}
-use Rattle.packet.specs.declared.Scanned.{Scanned}
+use Rattle.refusal.specs.Told.{Numbered}
+use Rattle.packet.specs.Paper.{Scanned}
 use Rattle.packet.specs.declared.Scanned.TheVariants as scan
 use Rattle.packet.specs.declared.Packet.{Packet}
 use Rattle.packet.specs.Paper.{packets, OneLength}
@@ -112,7 +112,7 @@ module _ (s : Heading) (ts ss ms : List ℕ) (room : ℕ) where
     unfolding written_of
     scanned e = rw (eq-eqb (heading_refusal s) 0 fine, e)
 
-    pub answers_scan : {r : Refusal} {w : Written} → scanned_of nothing false ts ss ms ≡ scan.Refused r → w ≡ Refused r.number r.place
+    pub answers_scan : {r : Numbered} {w : Written} → scanned_of nothing false ts ss ms ≡ scan.Refused r → w ≡ Refused r.number r.place
         → w ≡ written_of s ts ss ms room
     answers_scan e f = f ∙ sym (scanned e)
 

@@ -1,12 +1,11 @@
 -- A whole file gone through record by record, with what is counted on the way; and the answer to it, from what the file reads as.
-use Rattle.std.specs.Prelude.{◌&&◌, ◌/◌, ◌%◌}
+use Rattle.std.specs.Prelude.{◌&&◌, ◌/◌, ◌%◌, None, Some}
 use Rattle.laws.specs.Kit.{List, ℕ, zero, suc, eqb, length, drop}
 use Rattle.laws.specs.Choose.{pick}
 use Rattle.laws.specs.Count.{count}
 use Rattle.packet.specs.declared.Packet.{Packet}
 use Rattle.packet.specs.declared.Run.{Run}
-use Rattle.packet.specs.declared.Ran.{Ran}
-use Rattle.packet.specs.declared.Ran.TheVariants.{Through, Broken}
+use Rattle.packet.specs.Quick.{Ran}
 use Rattle.packet.specs.Paper.{closes_at}
 use Rattle.packet.specs.Step.{tally_of}
 use Rattle.packet.specs.Quick.{takes_of, runs_of}
@@ -75,5 +74,5 @@ records_left l = pick (eqb (length l % packet_bytes) 0) (length l / packet_bytes
 
 -- a run over so many of them, broken off where none stands
 unfoldable pub ran_in : Run → ℕ → List ℕ → Ran
-ran_in r zero l = Through r
-ran_in r (suc k) l = pick (stands_in l && takes_of r (packet_at l)) (ran_in (runs_of r (packet_at l)) k (drop packet_bytes l)) Broken
+ran_in r zero l = Some r
+ran_in r (suc k) l = pick (stands_in l && takes_of r (packet_at l)) (ran_in (runs_of r (packet_at l)) k (drop packet_bytes l)) None

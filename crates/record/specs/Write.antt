@@ -2,7 +2,7 @@
 use Rattle.std.specs.Prelude.{◌≡◌, ◌++◌, ◌+◌, ◌*◌, ◌≤◌}
 use Rattle.laws.specs.Kit.{false, List, ℕ, leb, eqb, length, drop}
 use Rattle.laws.specs.Choose.{pick, or_else}
-use Rattle.packet.specs.declared.Scanned.{Scanned}
+use Rattle.packet.specs.Paper.{Scanned}
 use Rattle.packet.specs.declared.Scanned.TheVariants as scan
 use Rattle.packet.specs.Paper.{packets, OneLength}
 use Rattle.packet.specs.Step.{nothing, scanned_of}

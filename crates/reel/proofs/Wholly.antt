@@ -1,15 +1,14 @@
 -- What is printed of a capture, record by record, is what is printed of all its packets at once: the rows of those before the first refused, and
 -- the last line. By the records, one by one, beside the scan of the packets.
-use Rattle.std.specs.Prelude.{◌≡◌, ◌||◌, ◌∷◌, ◌++◌, ◌+◌, ◌-◌, ◌≤◌}
+use Rattle.std.specs.Prelude.{◌≡◌, ◌||◌, ◌∷◌, ◌++◌, ◌+◌, ◌-◌, ◌≤◌, Err, Ok}
 use Rattle.laws.specs.Kit.{refl, sym, ap, ◌∙◌, Bool, true, false, List, [], append_assoc, ℕ, suc}
 use Rattle.laws.specs.Kit.{arith, eqb, length, take, drop, le-leb, eq-eqb}
 use Rattle.laws.specs.Choose.{pick}
 use Rattle.laws.specs.Fold.{fold}
 use Rattle.packet.specs.declared.Packet as packets
 use Rattle.packet.specs.declared.Past.{Past}
-use Rattle.packet.specs.declared.Scanned.{Scanned}
-use Rattle.packet.specs.declared.Scanned.TheVariants.{Fine, Refused}
-use Rattle.packet.specs.declared.Refusal.{Refusal}
+use Rattle.packet.specs.Paper.{Scanned}
+use Rattle.refusal.specs.Told.{Numbered}
 use Rattle.packet.specs.Step.{nothing, number_of, next_of, closes, scan_of, scanned_number, scanned_place}
 use Rattle.packet.specs.Paper.{marked}
 use Rattle.packet.proofs.Turn.{fine_refused}
@@ -55,7 +54,7 @@ module _ (rules : Rules) (e : Ending) where
       ++ last_by e (state_after rules s (handed_on xs)) (counted (records + length xs)) (counted (skips + skipped_in xs))
 
   lines_fine : (xs : List Found) (s : State) (begun : Bool) (closed records skips : ℕ) {n : ℕ}
-      → scan_of s.past begun closed (handed_on xs) ≡ Fine n → FineLines xs s records skips
+      → scan_of s.past begun closed (handed_on xs) ≡ Ok n → FineLines xs s records skips
   unfolding lines_from handed_on skipped_in rows_after row_lines scan_of fold
   lines_fine [] s begun closed records skips f =
       let all : records + 0 ≡ records = omega arith in
@@ -74,8 +73,8 @@ module _ (rules : Rules) (e : Ending) where
     where
       go : (t : Bool)
           → pick t (scan_of (next_of s.past p.time) (begun || marked p) (closed + closes begun p) (handed_on xs))
-          (Refused (record { number = number_of s.past p; place = s.past.packets })) ≡ Fine n
-          → (scan_of (next_of s.past p.time) (begun || marked p) (closed + closes begun p) (handed_on xs) ≡ Fine n
+          (Err (record { number = number_of s.past p; place = s.past.packets })) ≡ Ok n
+          → (scan_of (next_of s.past p.time) (begun || marked p) (closed + closes begun p) (handed_on xs) ≡ Ok n
           → FineLines xs (step_of rules s p) (records + 1) skips)
           → pick t (row_lines (rows_of rules s p) ++ lines_from rules (step_of rules s p) (counted (counted records + 1)) (counted skips) xs e)
           (refusal_line (number_of s.past p) s.past.packets)
@@ -89,13 +88,13 @@ module _ (rules : Rules) (e : Ending) where
   -- ---- a packet is refused
 
   -- the rows of the packets before it, and its number and place
-  pub record StoppedLines (xs : List Found) (s : State) (records skips : ℕ) (q : Refusal) : Type 0 where
+  pub record StoppedLines (xs : List Found) (s : State) (records skips : ℕ) (q : Numbered) : Type 0 where
     pub from : s.past.packets ≤ q.place
     pub lines : lines_from rules s records skips xs e
         ≡ row_lines (rows_after rules s (take (q.place - s.past.packets) (handed_on xs))) ++ refusal_line q.number q.place
 
-  lines_stopped : (xs : List Found) (s : State) (begun : Bool) (closed records skips : ℕ) {q : Refusal}
-      → scan_of s.past begun closed (handed_on xs) ≡ Refused q → StoppedLines xs s records skips q
+  lines_stopped : (xs : List Found) (s : State) (begun : Bool) (closed records skips : ℕ) {q : Numbered}
+      → scan_of s.past begun closed (handed_on xs) ≡ Err q → StoppedLines xs s records skips q
   unfolding lines_from handed_on rows_after row_lines scan_of
   lines_stopped [] s begun closed records skips {q} f = absurd (fine_refused closed q f)
   lines_stopped (skipped ∷ xs) s begun closed records skips f =
@@ -108,8 +107,8 @@ module _ (rules : Rules) (e : Ending) where
     where
       go : (t : Bool) → eqb (number_of s.past p) 0 ≡ t
           → pick t (scan_of (next_of s.past p.time) (begun || marked p) (closed + closes begun p) (handed_on xs))
-          (Refused (record { number = number_of s.past p; place = s.past.packets })) ≡ Refused q
-          → (scan_of (next_of s.past p.time) (begun || marked p) (closed + closes begun p) (handed_on xs) ≡ Refused q
+          (Err (record { number = number_of s.past p; place = s.past.packets })) ≡ Err q
+          → (scan_of (next_of s.past p.time) (begun || marked p) (closed + closes begun p) (handed_on xs) ≡ Err q
           → StoppedLines xs (step_of rules s p) (counted (records + 1)) skips q)
           → StoppedLines (packet p ∷ xs) s records skips q
       go true z g ih =
@@ -135,11 +134,11 @@ module _ (rules : Rules) (s : State) (none : s.past.packets ≡ 0) (begun : Bool
     where
       go : (x : Scanned) → scan_of s.past begun 0 (handed_on r.found) ≡ x
           → lines_from rules s 0 0 r.found r.ending ≡ printed_by x rules s r
-      go (Fine n) f =
+      go (Ok n) f =
           let all : 0 + length r.found ≡ length r.found = omega arith in
           let skips : 0 + skipped_in r.found ≡ skipped_in r.found = omega arith in
           rw (all, skips) at (lines_fine rules r.ending r.found s begun 0 0 0 f)
-      go (Refused q) f =
+      go (Err q) f =
           let all : q.place - s.past.packets ≡ q.place = omega (arith, none) in
           rw all at (lines_stopped rules r.ending r.found s begun 0 0 0 f).lines
 

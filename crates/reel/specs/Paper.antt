@@ -3,7 +3,7 @@ use Rattle.std.specs.Prelude.{◌∷◌, ◌++◌, ◌+◌, ◌%◌}
 use Rattle.laws.specs.Kit.{List, [], ℕ, leb, eqb, length, take, drop}
 use Rattle.laws.specs.Choose.{pick}
 use Rattle.packet.specs.declared.Packet as packets
-use Rattle.packet.specs.declared.Scanned.{Scanned}
+use Rattle.packet.specs.Paper.{Scanned}
 use Rattle.packet.specs.declared.Scanned.TheVariants as scanned
 use Rattle.packet.specs.Step.{number_of}
 use Rattle.text.specs.Lines.{capture_line, refusal_line}

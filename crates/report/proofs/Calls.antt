@@ -10,7 +10,7 @@ use mir.Syntax.{w64}
 use mir.Val.{SFits, to_z, of_z}
 use mir.Facts.{to_z-of_z}
 use Rattle.laws.proofs.Choose.{pick_either}
-use Rattle.packet.specs.declared.Scanned.{Scanned}
+use Rattle.packet.specs.Paper.{Scanned}
 use Rattle.packet.specs.declared.Scanned.TheVariants as scan
 use Rattle.packet.specs.Paper.{packets}
 use Rattle.packet.specs.Step.{nothing, scanned_of}

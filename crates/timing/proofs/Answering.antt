@@ -1,13 +1,12 @@
 -- The numbers that the answers stand for: by the tests that each answer goes by.
-use Rattle.std.specs.Prelude.{◌≡◌, ◌&&◌, ◌*◌, ◌≤◌, ◌<◌}
+use Rattle.std.specs.Prelude.{◌≡◌, ◌&&◌, ◌*◌, ◌≤◌, ◌<◌, Err, Ok}
 use Rattle.laws.specs.Kit.{refl, sym, ◌∙◌, Bool, true, false, List, ℕ, arith, eqb, leb, ℤ, length, eqb-true}
 use Rattle.laws.specs.Kit.{ne_eqb, le-leb, lt-leb}
 use lib.Ieee.{binary64, in_float}
 use Rattle.laws.specs.Choose.{pick, or_else}
 use Rattle.laws.proofs.Choose.{pick_either}
-use Rattle.packet.specs.declared.Scanned.{Scanned}
-use Rattle.packet.specs.declared.Scanned.TheVariants.{Fine, Refused as ScanRefused}
-use Rattle.packet.specs.declared.Refusal.{Refusal}
+use Rattle.packet.specs.Paper.{Scanned}
+use Rattle.refusal.specs.Told.{Numbered}
 use Rattle.packet.specs.Paper.{packets}
 use Rattle.packet.specs.Step.{scanned_of, scanned_number, scanned_place, scanned_closed}
 use Rattle.packet.proofs.Turn.{scanned_some}
@@ -84,11 +83,11 @@ module _ (s : State) (rows : List ℤ) (ts ss ms : List ℕ) where
   abbrev room : Scanned → ℕ
   room x = pick (leb (scanned_closed x * row_width) (length rows)) 0 15
 
-  abbrev none : Refusal
+  abbrev none : Numbered
   none = record { number = 0; place = 0 }
 
   by_room : (n : ℕ) (t : Bool) → leb (n * row_width) (length rows) ≡ t
-      → fed_refusal (by_scan s rows (Fine n) (packets ts ss ms)).answer
+      → fed_refusal (by_scan s rows (Ok n) (packets ts ss ms)).answer
       ≡ pick (eqb (pick t 0 15) 0) none (record { number = pick t 0 15; place = s.past.packets })
   by_room n true e = rw e
   by_room n false e = rw e
@@ -97,8 +96,8 @@ module _ (s : State) (rows : List ℤ) (ts ss ms : List ℕ) where
       ≡ pick (eqb (scanned_number x) 0)
       (pick (eqb (room x) 0) none (record { number = room x; place = s.past.packets }))
       (record { number = scanned_number x; place = scanned_place x })
-  by_scanned (Fine n) e = by_room n (leb (n * row_width) (length rows)) refl
-  by_scanned (ScanRefused r) e = sym (rw (ne_eqb r.number 0 (scanned_some s.past s.frames.begun ts ss ms r e)))
+  by_scanned (Ok n) e = by_room n (leb (n * row_width) (length rows)) refl
+  by_scanned (Err r) e = sym (rw (ne_eqb r.number 0 (scanned_some s.past s.frames.begun ts ss ms r e)))
 
   -- number and place are those of the first refusal that there is
   pub first_refused : fed_refusal (feed_of s rows ts ss ms).answer ≡ first_of (refusals s rows ts ss ms)

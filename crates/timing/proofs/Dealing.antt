@@ -1,14 +1,13 @@
 -- A list dealt out over any calls: each call is accepted, and states and rows are those of one call with the
 -- whole list. The idea: an accepted list is one whose packets all pass, and passing may be cut anywhere.
-use Rattle.std.specs.Prelude.{◌≡◌, ◌∷◌, ◌++◌, ◌+◌, ◌*◌, ◌≤◌}
+use Rattle.std.specs.Prelude.{◌≡◌, ◌∷◌, ◌++◌, ◌+◌, ◌*◌, ◌≤◌, Err, Ok}
 use Rattle.laws.specs.Kit.{refl, sym, ap, ◌∙◌, subst, Bool, true, false, List, [], ℕ, arith, ℤ, length}
 use Rattle.laws.specs.Kit.{length-append, le-leb, eq-eqb}
 use Rattle.laws.specs.Choose.{pick}
 use Rattle.laws.specs.Fold.{fold}
 use Rattle.laws.proofs.Fold.{fold_cut}
 use Rattle.packet.specs.declared.Past.{Past}
-use Rattle.packet.specs.declared.Scanned.{Scanned}
-use Rattle.packet.specs.declared.Scanned.TheVariants.{Fine, Refused as ScanRefused}
+use Rattle.packet.specs.Paper.{Scanned}
 use Rattle.packet.specs.declared.Packet.{Packet}
 use Rattle.packet.specs.Paper.{packets}
 use Rattle.packet.specs.Step.{number_of, next_of, closes, scan_of, scanned_of}
@@ -46,20 +45,20 @@ sound_after (q ∷ l) s x p =
 
 -- packets that pass are scanned with nothing to refuse
 passes_scan : (l : List Packet) (rules : Rules) (s : State) (k : ℕ) → Passes s.past l → scan_of s.past s.frames.begun k l
-    ≡ Fine (k + length (rows_after rules s l))
+    ≡ Ok (k + length (rows_after rules s l))
 unfolding Passes scan_of rows_after
-passes_scan [] rules s k p = ap Fine (omega arith)
+passes_scan [] rules s k p = ap Ok (omega arith)
 passes_scan (q ∷ l) rules s k p =
     let next = subst (λ (y : Past). Passes y l) (sym (step_past rules s q)) p.1 in
     let ih = passes_scan l rules (step_of rules s q) (k + closes s.frames.begun q) next in
     let here = subst (λ (y : Past). scan_of y (step_of rules s q).frames.begun (k + closes s.frames.begun q) l
-    ≡ Fine (k + closes s.frames.begun q + length (rows_after rules (step_of rules s q) l))) (step_past rules s q) ih in
+    ≡ Ok (k + closes s.frames.begun q + length (rows_after rules (step_of rules s q) l))) (step_past rules s q) ih in
     let there = subst (λ (b : Bool). scan_of (next_of s.past q.time) b (k + closes s.frames.begun q) l
-    ≡ Fine (k + closes s.frames.begun q + length (rows_after rules (step_of rules s q) l))) (begun_step rules s q) here in
+    ≡ Ok (k + closes s.frames.begun q + length (rows_after rules (step_of rules s q) l))) (begun_step rules s q) here in
     let count : k + closes s.frames.begun q + length (rows_after rules (step_of rules s q) l)
     ≡ k + length (rows_of rules s q ++ rows_after rules (step_of rules s q) l) =
     omega (arith, length-append (rows_of rules s q) (rows_after rules (step_of rules s q) l), rows_count rules s q) in
-    rw (eq-eqb (number_of s.past q) 0 p.0) (there ∙ ap Fine count)
+    rw (eq-eqb (number_of s.past q) 0 p.0) (there ∙ ap Ok count)
 
 -- one call of packets that pass, with room
 pub accepts : (s : State) (rows : List ℤ) (l : List Packet) → Sound s → Passes s.past l
@@ -115,8 +114,8 @@ fed_in_range s t rows ts ss ms e = go (scanned_of s.past s.frames.begun ts ss ms
   where
     go : (x : Scanned) → scanned_of s.past s.frames.begun ts ss ms ≡ x → (b : Bool)
         → (pick b (by_scan s rows x (packets ts ss ms)) (refused_by s rows 9 0)).answer ≡ Accepted t → in_range t ≡ true
-    go (Fine n) f b g =
+    go (Ok n) f b g =
         let same = (scanned_fine s.past s.frames.begun ts ss ms n f).0 in
         stays_in_range s t rows (packets ts ss ms) (ap (λ (o : Outcome). o.answer) (sym (feed_slices s rows ts ss ms same)) ∙ e)
-    go (ScanRefused r) f true g = let z : ◌≡◌ {A = ℕ} 0 1 = cc in absurd (omega arith)
-    go (ScanRefused r) f false g = let z : ◌≡◌ {A = ℕ} 0 1 = cc in absurd (omega arith)
+    go (Err r) f true g = let z : ◌≡◌ {A = ℕ} 0 1 = cc in absurd (omega arith)
+    go (Err r) f false g = let z : ◌≡◌ {A = ℕ} 0 1 = cc in absurd (omega arith)

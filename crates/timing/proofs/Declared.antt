@@ -1,5 +1,5 @@
 -- A state reached from set-up is the declared state of its history, and its rows are the declared rows: the step goes from place to place.
-use Rattle.std.specs.Prelude.{◌≡◌, ◌∷◌, ◌++◌}
+use Rattle.std.specs.Prelude.{◌≡◌, ◌∷◌, ◌++◌, Err, Ok}
 use Rattle.laws.specs.Kit.{refl, sym, ap, ◌∙◌, subst, Bool, true, false, List, [], append_assoc, append-nil, ℕ, zero, suc}
 use Rattle.std.specs.Prelude.{◌+◌, ◌-◌, ◌*◌, ◌/◌, ◌%◌, ◌≤◌, ◌<◌}
 use Rattle.laws.specs.Kit.{arith, ltb, leb, eqb-suc-zero, length, take, take-suc, take-length, ltb-false}
@@ -11,9 +11,8 @@ use Rattle.grain.specs.Carry.{since_instant}
 use Rattle.grain.proofs.Onward.{instants_on, since_on}
 use Rattle.laws.specs.Climb.{Climbs}
 use Rattle.laws.proofs.Climb.{climbs_le}
-use Rattle.packet.specs.declared.Refusal.{Refusal}
-use Rattle.packet.specs.declared.Scanned.{Scanned}
-use Rattle.packet.specs.declared.Scanned.TheVariants.{Fine, Refused}
+use Rattle.refusal.specs.Told.{Numbered}
+use Rattle.packet.specs.Paper.{Scanned}
 use Rattle.packet.specs.declared.Packet.{Packet}
 use Rattle.packet.specs.Paper.{no_packet, marked, at, earlier_at, refusal_at, declared, past_at}
 use Rattle.packet.specs.Step.{nothing, since_of, next_of, scan_of}
@@ -64,7 +63,7 @@ not_earlier true b c d e = absurd (omega arith)
 not_earlier false true c d e = absurd (omega arith)
 not_earlier false false c d e = refl
 
-pub arrivals_climb : (l : List Packet) (n : ℕ) → declared l ≡ Fine n → Climbs (λ i. (at l i).time) (length l)
+pub arrivals_climb : (l : List Packet) (n : ℕ) → declared l ≡ Ok n → Climbs (λ i. (at l i).time) (length l)
 unfolding refusal_at
 arrivals_climb l n e i h =
     ltb-false (at l (suc i)).time (at l i).time
@@ -79,7 +78,7 @@ not_late false true c d e = absurd (omega arith)
 not_late false false true d e = absurd (omega arith)
 not_late false false false d e = refl
 
-pub arrivals_near : (l : List Packet) (n : ℕ) → declared l ≡ Fine n → (i : ℕ) → i < length l → (at l i).time - (at l 0).time ≤ 600000000000
+pub arrivals_near : (l : List Packet) (n : ℕ) → declared l ≡ Ok n → (i : ℕ) → i < length l → (at l i).time - (at l 0).time ≤ 600000000000
 unfolding refusal_at
 arrivals_near l n e i h =
     ltb-false 600000000000 ((at l i).time - (at l 0).time)
@@ -207,18 +206,18 @@ module _ (x : StreamNumbers) (accepted : set_up_of x ≡ 0) (l : List Packet) (o
 
 -- ---- a call after an accepted history
 
-more_refused : (closed : ℕ) (x : Scanned) (r : Refusal) → more closed x ≡ Refused r → x ≡ Refused r
-more_refused closed (Fine n) r e = let z : ◌≡◌ {A = ℕ} 0 1 = cc in absurd (omega arith)
-more_refused closed (Refused q) r e = e
+more_refused : (closed : ℕ) (x : Scanned) (r : Numbered) → more closed x ≡ Err r → x ≡ Err r
+more_refused closed (Ok n) r e = let z : ◌≡◌ {A = ℕ} 0 1 = cc in absurd (omega arith)
+more_refused closed (Err q) r e = e
 
 -- the scan of a call that follows a history finds what the scan of the whole finds
-scan_after : (h l : List Packet) (closed : ℕ) (r : Refusal) → declared h ≡ Fine closed → declared (h ++ l) ≡ Refused r
-    → scan_of (past_after_packets nothing h) (begun_after false h) 0 l ≡ Refused r
+scan_after : (h l : List Packet) (closed : ℕ) (r : Numbered) → declared h ≡ Ok closed → declared (h ++ l) ≡ Err r
+    → scan_of (past_after_packets nothing h) (begun_after false h) 0 l ≡ Err r
 scan_after h l closed r e f =
-    let whole : and_then (scan_of nothing false 0 h) (λ n. scan_of (past_after_packets nothing h) (begun_after false h) n l) ≡ Refused r =
+    let whole : and_then (scan_of nothing false 0 h) (λ n. scan_of (past_after_packets nothing h) (begun_after false h) n l) ≡ Err r =
     sym (scan_cut nothing false 0 h l) ∙ scan_declared (h ++ l) ∙ f in
-    let rest : scan_of (past_after_packets nothing h) (begun_after false h) closed l ≡ Refused r =
-    subst (λ (x : Scanned). and_then x (λ n. scan_of (past_after_packets nothing h) (begun_after false h) n l) ≡ Refused r) (scan_declared h ∙ e)
+    let rest : scan_of (past_after_packets nothing h) (begun_after false h) closed l ≡ Err r =
+    subst (λ (x : Scanned). and_then x (λ n. scan_of (past_after_packets nothing h) (begun_after false h) n l) ≡ Err r) (scan_declared h ∙ e)
     whole in
     let zero_more : closed + 0 ≡ closed = omega arith in
     more_refused closed (scan_of (past_after_packets nothing h) (begun_after false h) 0 l) r
@@ -234,6 +233,6 @@ module _ (x : StreamNumbers) (accepted : set_up_of x ≡ 0) (h : List Packet) (o
   unfolding state_at F.frames_at
   begun_of = ap (λ (s : State). s.frames.begun) (state_declared x accepted h order) ∙ sym (begun_after_lem h)
 
-  pub scan_of_call : (l : List Packet) (closed : ℕ) (r : Refusal) → declared h ≡ Fine closed → declared (h ++ l) ≡ Refused r
-      → scan_of (state_after (rules_of x) (fresh_of x) h).past (state_after (rules_of x) (fresh_of x) h).frames.begun 0 l ≡ Refused r
+  pub scan_of_call : (l : List Packet) (closed : ℕ) (r : Numbered) → declared h ≡ Ok closed → declared (h ++ l) ≡ Err r
+      → scan_of (state_after (rules_of x) (fresh_of x) h).past (state_after (rules_of x) (fresh_of x) h).frames.begun 0 l ≡ Err r
   scan_of_call l closed r e f = rw (past_of, begun_of) (scan_after h l closed r e f)

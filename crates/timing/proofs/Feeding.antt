@@ -1,10 +1,9 @@
 -- The whole call, case by case, each from what its branch of the code has found.
-use Rattle.std.specs.Prelude.{◌≡◌, ◌*◌, ◌/◌, ◌≤◌, ◌<◌}
+use Rattle.std.specs.Prelude.{◌≡◌, ◌*◌, ◌/◌, ◌≤◌, ◌<◌, Err, Ok}
 use Rattle.laws.specs.Kit.{refl, sym, ap, ◌∙◌, subst, Bool, true, false, List, [], ℕ, arith, le-div_iff_mul-le}
 use Rattle.laws.specs.Kit.{div-lt_iff_lt-mul, leb, ℤ, length, le-leb, lt-leb}
-use Rattle.packet.specs.declared.Refusal.{Refusal}
-use Rattle.packet.specs.declared.Scanned.{Scanned}
-use Rattle.packet.specs.declared.Scanned.TheVariants.{Fine, Refused as ScanRefused}
+use Rattle.refusal.specs.Told.{Numbered}
+use Rattle.packet.specs.Paper.{Scanned}
 use Rattle.packet.specs.declared.Packet.{Packet}
 use Rattle.packet.specs.Paper.{OneLength, packets}
 use Rattle.packet.specs.Step.{scan_of, scanned_of}
@@ -35,11 +34,11 @@ module _ (s : State) (rows : List ℤ) (ts ss ms : List ℕ) where
     unfolding feed_of
     by_scan_lem x f = rw (e, f)
 
-    pub fed_refused : {x : Scanned} {r : Refusal} → x ≡ scanned_of s.past s.frames.begun ts ss ms → x ≡ ScanRefused r
+    pub fed_refused : {x : Scanned} {r : Numbered} → x ≡ scanned_of s.past s.frames.begun ts ss ms → x ≡ Err r
         → FeedGives (feed_of s rows ts ss ms) (Refused r.number r.place s) rows
     fed_refused {x} f g = is (ap (λ (y : Scanned). by_scan s rows y (packets ts ss ms)) (sym g) ∙ by_scan_lem x f)
 
-    module _ {x : Scanned} {n : ℕ} (f : x ≡ scanned_of s.past s.frames.begun ts ss ms) (g : x ≡ Fine n) where
+    module _ {x : Scanned} {n : ℕ} (f : x ≡ scanned_of s.past s.frames.begun ts ss ms) (g : x ≡ Ok n) where
       room_for_lem : room_for s rows n (packets ts ss ms) ≡ feed_of s rows ts ss ms
       room_for_lem = ap (λ (y : Scanned). by_scan s rows y (packets ts ss ms)) (sym g) ∙ by_scan_lem x f
 
@@ -48,7 +47,7 @@ module _ (s : State) (rows : List ℤ) (ts ss ms : List ℕ) where
           let few : length rows < n * row_width = (div-lt_iff_lt-mul {k = row_width} {x = length rows} {y = n} (omega arith)).0 l in
           is (sym (rw (lt-leb (n * row_width) (length rows) few)) ∙ room_for_lem)
 
-      fine : OneLength ts ss ms × (scan_of s.past s.frames.begun 0 (packets ts ss ms) ≡ Fine n)
+      fine : OneLength ts ss ms × (scan_of s.past s.frames.begun 0 (packets ts ss ms) ≡ Ok n)
       fine = scanned_fine s.past s.frames.begun ts ss ms n (sym f ∙ g)
 
       pub one_length : OneLength ts ss ms
@@ -88,8 +87,8 @@ refused_room s t rows n k p l = go (leb (n * row_width) (length rows))
 
 refused_scan : (s t : State) (rows : List ℤ) (x : Scanned) (k p : ℕ) (l : List Packet) → (by_scan s rows x l).answer ≡ Refused k p t
     → (t ≡ s) × ((by_scan s rows x l).rows ≡ rows)
-refused_scan s t rows (Fine n) k p l e = refused_room s t rows n k p l e
-refused_scan s t rows (ScanRefused r) k p l e = (cc, refl)
+refused_scan s t rows (Ok n) k p l e = refused_room s t rows n k p l e
+refused_scan s t rows (Err r) k p l e = (cc, refl)
 
 pub refused_stays : (s t : State) (rows : List ℤ) (ts ss ms : List ℕ) (k p : ℕ) → (feed_of s rows ts ss ms).answer ≡ Refused k p t
     → (t ≡ s) × ((feed_of s rows ts ss ms).rows ≡ rows)
@@ -124,9 +123,9 @@ accepted_from s t rows l = go (in_range s) refl (scan_of s.past s.frames.begun 0
   where
     go : (b : Bool) → in_range s ≡ b → (x : Scanned) → scan_of s.past s.frames.begun 0 l ≡ x
         → (pick b (by_scan s rows x l) (refused_by s rows 9 0)).answer ≡ Accepted t → From s t l
-    go true e (Fine n) f g = record
+    go true e (Ok n) f g = record
         { start_in_range = e; passes = (scan_runs l (rules_of s.numbers) s 0 n f).0; state = accepted_room s t rows n l g }
-    go true e (ScanRefused r) f g = let z : ◌≡◌ {A = ℕ} 0 1 = cc in absurd (omega arith)
+    go true e (Err r) f g = let z : ◌≡◌ {A = ℕ} 0 1 = cc in absurd (omega arith)
     go false e x f g = let z : ◌≡◌ {A = ℕ} 0 1 = cc in absurd (omega arith)
 
 pub nothing_fed : (s : State) (rows : List ℤ) → in_range s ≡ true → feed_all s rows [] ≡ record { answer = Accepted s; rows = rows }
@@ -140,8 +139,8 @@ unfolding feed_of feed_all
 feed_slices s rows ts ss ms o = rw (lengths_same s.past s.frames.begun ts ss ms o)
 
 -- a scan's refusal is the call's
-pub refused_call : (s : State) (rows : List ℤ) (l : List Packet) (r : Refusal) → in_range s ≡ true
-    → scan_of s.past s.frames.begun 0 l ≡ ScanRefused r
+pub refused_call : (s : State) (rows : List ℤ) (l : List Packet) (r : Numbered) → in_range s ≡ true
+    → scan_of s.past s.frames.begun 0 l ≡ Err r
     → feed_all s rows l ≡ refused_by s rows r.number r.place
 unfolding feed_all
 refused_call s rows l r e f = rw (e, f)

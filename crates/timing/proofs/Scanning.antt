@@ -1,10 +1,9 @@
 -- What a scan that refuses nothing tells of the run: every packet passes, and as many rows are written as it counted.
-use Rattle.std.specs.Prelude.{◌≡◌, ◌&&◌, ◌||◌, ◌∷◌, ◌++◌, ◌+◌, ◌*◌}
+use Rattle.std.specs.Prelude.{◌≡◌, ◌&&◌, ◌||◌, ◌∷◌, ◌++◌, ◌+◌, ◌*◌, Err, Ok}
 use Rattle.laws.specs.Kit.{refl, sym, subst, Bool, true, false, or-true, or-false, List, [], ℕ}
 use Rattle.laws.specs.Kit.{arith, eqb, length, length-append, eqb-true}
 use Rattle.laws.specs.Choose.{pick}
 use Rattle.packet.specs.declared.Past.{Past}
-use Rattle.packet.specs.declared.Scanned.TheVariants.{Fine, Refused}
 use Rattle.packet.specs.declared.Packet.{Packet}
 use Rattle.packet.specs.Paper.{marked}
 use Rattle.packet.specs.Step.{number_of, next_of, closes, scan_of}
@@ -39,23 +38,23 @@ rows_count rules s p = go _ (marked p && s.frames.begun)
     go r false = refl
 
 -- a scan of a packet and more that refuses nothing
-fine_goes : (past : Past) (begun : Bool) (k n : ℕ) (p : Packet) (ps : List Packet) → scan_of past begun k (p ∷ ps) ≡ Fine n
-    → (number_of past p ≡ 0) × (scan_of (next_of past p.time) (begun || marked p) (k + closes begun p) ps ≡ Fine n)
+fine_goes : (past : Past) (begun : Bool) (k n : ℕ) (p : Packet) (ps : List Packet) → scan_of past begun k (p ∷ ps) ≡ Ok n
+    → (number_of past p ≡ 0) × (scan_of (next_of past p.time) (begun || marked p) (k + closes begun p) ps ≡ Ok n)
 unfolding scan_of
 fine_goes past begun k n p ps = go (eqb (number_of past p) 0) refl
   where
     go : (t : Bool) → eqb (number_of past p) 0 ≡ t
         → pick t (scan_of (next_of past p.time) (begun || marked p) (k + closes begun p) ps)
-        (Refused (record { number = number_of past p; place = past.packets })) ≡ Fine n
-        → (number_of past p ≡ 0) × (scan_of (next_of past p.time) (begun || marked p) (k + closes begun p) ps ≡ Fine n)
+        (Err (record { number = number_of past p; place = past.packets })) ≡ Ok n
+        → (number_of past p ≡ 0) × (scan_of (next_of past p.time) (begun || marked p) (k + closes begun p) ps ≡ Ok n)
     go true e f = (eqb-true (number_of past p) 0 e, f)
     go false e f = let z : ◌≡◌ {A = ℕ} 0 1 = cc in absurd (omega arith)
 
-fine_none : (past : Past) (begun : Bool) (k n : ℕ) → scan_of past begun k [] ≡ Fine n → n ≡ k
+fine_none : (past : Past) (begun : Bool) (k n : ℕ) → scan_of past begun k [] ≡ Ok n → n ≡ k
 unfolding scan_of
 fine_none past begun k n e = cc
 
-pub scan_runs : (l : List Packet) (rules : Rules) (s : State) (k n : ℕ) → scan_of s.past s.frames.begun k l ≡ Fine n
+pub scan_runs : (l : List Packet) (rules : Rules) (s : State) (k n : ℕ) → scan_of s.past s.frames.begun k l ≡ Ok n
     → Passes s.past l × (n ≡ k + length (rows_after rules s l))
 unfolding Passes rows_after
 scan_runs [] rules s k n e = (tt, omega (arith, fine_none s.past s.frames.begun k n e))

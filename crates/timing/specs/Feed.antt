@@ -1,11 +1,10 @@
 -- Feeding a call's packets: what each part of the code asks and gives, and the whole call, refusals included.
-use Rattle.std.specs.Prelude.{◌≡◌, ◌∷◌, ◌++◌, ◌+◌, ◌*◌, ◌≤◌, ◌<◌}
+use Rattle.std.specs.Prelude.{◌≡◌, ◌∷◌, ◌++◌, ◌+◌, ◌*◌, ◌≤◌, ◌<◌, Err, Ok}
 use Rattle.laws.specs.Kit.{true, List, [], ℕ, eqb, leb, ℤ, length, sets}
 use Rattle.laws.specs.Choose.{pick}
 use Rattle.packet.specs.declared.Past.{Past}
-use Rattle.packet.specs.declared.Scanned.{Scanned}
-use Rattle.packet.specs.declared.Scanned.TheVariants.{Fine, Refused as ScanRefused}
-use Rattle.packet.specs.declared.Refusal.{Refusal}
+use Rattle.packet.specs.Paper.{Scanned}
+use Rattle.refusal.specs.Told.{Numbered}
 use Rattle.packet.specs.declared.Packet.{Packet}
 use Rattle.packet.specs.Paper.{packets}
 use Rattle.packet.specs.Step.{since_of, next_of, number_of, scan_of, scanned_of, scanned_number, scanned_place, scanned_closed}
@@ -100,8 +99,8 @@ module _ (s : State) (rows : List ℤ) where
   room_for closed l = pick (leb (closed * row_width) (length rows)) (accepted_as l) (refused_by 15 s.past.packets)
 
   abbrev pub by_scan : Scanned → List Packet → Outcome
-  by_scan (Fine closed) l = room_for closed l
-  by_scan (ScanRefused r) l = refused_by r.number r.place
+  by_scan (Ok closed) l = room_for closed l
+  by_scan (Err r) l = refused_by r.number r.place
 
   -- P3, D1c: the answer to packets lent in slices of one length
   unfoldable pub feed_all : List Packet → Outcome
@@ -115,11 +114,11 @@ module _ (s : State) (rows : List ℤ) where
 -- ---- the refusals of a call, in their order
 
 -- one refusal; number 0 means that there is none
-abbrev refusal : ℕ → ℕ → Refusal
+abbrev refusal : ℕ → ℕ → Numbered
 refusal number place = record { number = number; place = place }
 
 -- the first that is one
-abbrev pub first_of : List Refusal → Refusal
+abbrev pub first_of : List Numbered → Numbered
 first_of [] = refusal 0 0
 first_of (r ∷ more) = pick (eqb r.number 0) (first_of more) r
 
@@ -137,11 +136,11 @@ module _ (s : State) (rows : List ℤ) (ts ss ms : List ℕ) where
 
   -- N10, N12: "Order: 9, 10, then packet by packet 11 to 14, then 15."; "the packet's place in the history (0 for 1 to 10 and 24, the
   -- call's first packet's for 15)"
-  abbrev pub refusals : List Refusal
+  abbrev pub refusals : List Numbered
   refusals = refusal (range_number s) 0 ∷ refusal (scanned_number scanned) (scanned_place scanned) ∷ refusal room_number s.past.packets ∷ []
 
 -- what an answer says of a refusal
-abbrev pub fed_refusal : Fed → Refusal
+abbrev pub fed_refusal : Fed → Numbered
 fed_refusal (Accepted s) = refusal 0 0
 fed_refusal (Refused number place s) = refusal number place
 

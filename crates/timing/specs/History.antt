@@ -1,11 +1,10 @@
 -- The declared state: what the measurement is before packet i of a history, in the words of the crates below, over the whole list by place;
 -- and an accepted history, with the state that feeding it reaches.
-use Rattle.std.specs.Prelude.{◌≡◌, ◌++◌, ◌*◌}
+use Rattle.std.specs.Prelude.{◌≡◌, ◌++◌, ◌*◌, Ok}
 use Rattle.laws.specs.Kit.{List, [], ℕ, zero, suc, length}
 use Rattle.grain.specs.Paper.{grains}
 use Rattle.grain.specs.Carry.{since_instant}
 use Rattle.packet.specs.declared.Packet.{Packet}
-use Rattle.packet.specs.declared.Scanned.TheVariants.{Fine}
 use Rattle.packet.specs.Paper.{marked, at, past_at, declared}
 use Rattle.bucket.specs.Paper as BP
 use Rattle.bucket.specs.Step as B
@@ -50,7 +49,7 @@ pub record AcceptedHistory : Type 0 where
   pub set_up : set_up_of stream ≡ 0
   pub packets : List Packet
   pub closed : ℕ
-  pub fine : declared packets ≡ Fine closed
+  pub fine : declared packets ≡ Ok closed
 
 module _ (h : AcceptedHistory) where
   -- the state that feeding it from set-up gives, and the rows

@@ -4,4 +4,4 @@ use Rattle.packet.proofs.Past.in_range.Goals as goal
 
 pub returns : goal.returns
 unfolding after
-returns c = rw c.less.ensures
+returns c = rw c.saturating_sub.ensures

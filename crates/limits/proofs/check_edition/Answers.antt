@@ -1,7 +1,7 @@
 -- By the one question.
 use Rattle.laws.specs.Kit.{sym, ◌∙◌}
 use Rattle.limits.specs.Paper.{edition_refusal}
-use Rattle.limits.proofs.edition_refusal.Goals as goal
+use Rattle.limits.proofs.check_edition.Goals as goal
 
 pub returns-then-is_within : goal.returns-then-is_within
 unfolding edition_refusal

@@ -1,7 +1,7 @@
 -- The refusal of a packet: each return is one of the refusals in their order, from the tests before it.
 use Rattle.laws.specs.Kit.{sym, arith}
 use Rattle.packet.proofs.Refusals.{refused_11, refused_12, refused_13, refused_14, accepted_0}
-use Rattle.packet.proofs.Past.refusal.Goals as goal
+use Rattle.packet.proofs.Past.admit.Goals as goal
 
 pub returns-then-p-gt1 : goal.returns-then-p-gt1
 returns-then-p-gt1 c = sym (refused_11 _ _ _ (omega arith))

@@ -7,9 +7,9 @@ use Rattle.limits.specs.declared.Parameters.{Parameters}
 use Rattle.limits.specs.declared.Profile.{Profile}
 use Rattle.limits.specs.Paper.{class_fits, tro_fits, questions, set_up_refusal}
 use Rattle.limits.proofs.Laws.{First, passes, asked, refused, first}
-use Rattle.limits.proofs.Parameters.refusal.Goals as goal
-use Rattle.limits.proofs.Parameters.refusal.Goals.{After-struct_known-2-1, After-struct_known-3-1, Else-not-is_within-2, Else-not-is_within-3}
-use Rattle.limits.proofs.Parameters.refusal.Goals.{Else-not-maxudp_known, Else-not-packets_fit}
+use Rattle.limits.proofs.Parameters.check.Goals as goal
+use Rattle.limits.proofs.Parameters.check.Goals.{After-struct_known-2-1, After-struct_known-3-1, Else-not-is_within-2, Else-not-is_within-3}
+use Rattle.limits.proofs.Parameters.check.Goals.{Else-not-maxudp_known, Else-not-packets_fit}
 
 -- after k questions
 record Past (k : ℕ) : Type 0 where

@@ -1,0 +1,85 @@
+-- No refusal has the number 0, and two that have one number are one: so an answer that is told by its number is one answer. By the table
+-- read backwards: each number names one refusal or none.
+use Rattle.std.specs.Prelude.{◌≡◌, ◌∷◌, ℕ, List, [], Option, Some, None, Result, Ok, Err, get_or, refl}
+use Rattle.std.proofs.Common.{ap, sym, ◌∙◌}
+use Rattle.std.specs.Result.{MatchResult, IsErrAnd}
+use Rattle.refusal.specs.declared.Refusal.{Refusal}
+use Rattle.refusal.specs.declared.Refused.{Refused}
+use Rattle.refusal.specs.declared.Refusal.TheVariants.{Rate, Schedule, Class, Height, FramePackets, MaxUdp, Tro, Edition, State, Lengths}
+use Rattle.refusal.specs.declared.Refusal.TheVariants.{Marker, Earlier, Late, Packets, Room, Figure, Version, Cut, Kind, Misplaced}
+use Rattle.refusal.specs.declared.Refusal.TheVariants.{FileRoom, Header, CutCapture, SubSecond, Offset}
+use Rattle.refusal.specs.Refusal.{number}
+use Rattle.refusal.specs.Told.{Numbered, number_in, by_number, numbered, told}
+
+abbrev table : List (Option Refusal)
+table =
+    None ∷ Some Rate ∷ Some Schedule ∷ Some Class ∷ Some Height ∷ Some FramePackets ∷ Some MaxUdp ∷ Some Tro ∷
+    Some Edition ∷ Some State ∷ Some Lengths ∷ Some Marker ∷ Some Earlier ∷ Some Late ∷ Some Packets ∷ Some Room ∷
+    Some Figure ∷ None ∷ None ∷ None ∷ Some Version ∷ Some Cut ∷ Some Kind ∷ Some Misplaced ∷
+    Some FileRoom ∷ None ∷ None ∷ None ∷ None ∷ None ∷ Some Header ∷ Some CutCapture ∷
+    Some SubSecond ∷ Some Offset ∷ []
+
+abbrev named : ℕ → Option Refusal
+named n = get_or table n None
+
+named_back : (r : Refusal) → named (number r) ≡ Some r
+named_back Rate = refl
+named_back Schedule = refl
+named_back Class = refl
+named_back Height = refl
+named_back FramePackets = refl
+named_back MaxUdp = refl
+named_back Tro = refl
+named_back Edition = refl
+named_back State = refl
+named_back Lengths = refl
+named_back Marker = refl
+named_back Earlier = refl
+named_back Late = refl
+named_back Packets = refl
+named_back Room = refl
+named_back Figure = refl
+named_back Version = refl
+named_back Cut = refl
+named_back Kind = refl
+named_back Misplaced = refl
+named_back FileRoom = refl
+named_back Header = refl
+named_back CutCapture = refl
+named_back SubSecond = refl
+named_back Offset = refl
+
+-- no refusal has the number of an answer that is fine
+pub number_some : (r : Refusal) → number r ≡ 0 → ⊥
+number_some r e =
+    let back : Some r ≡ None = sym (named_back r) ∙ ap named e in
+    absurd (cc)
+
+-- N1: no two refusals have one number
+pub number_unique : (a b : Refusal) → number a ≡ number b → a ≡ b
+number_unique a b e =
+    let same : Some a ≡ Some b = sym (named_back a) ∙ ap named e ∙ named_back b in
+    cc
+
+-- so that what is told by its number is one refusal at one place, and one answer
+pub numbered_unique : (a b : Refused) → numbered a ≡ numbered b → a ≡ b
+numbered_unique a b e =
+    let n = number_unique a.refusal b.refusal (ap (λ (x : Numbered). x.number) e) in
+    let p = ap (λ (x : Numbered). x.place) e in
+    let whole : ◌≡◌ {A = Refused} (record { refusal = a.refusal; place = a.place }) b = rw (n, p) refl in
+    whole
+
+pub told_unique : {A : Type 0} → (a b : Result A Refused) → told a ≡ told b → a ≡ b
+told_unique (Ok a) (Ok b) e = cc
+told_unique (Ok a) (Err b) e = absurd (cc)
+told_unique (Err a) (Ok b) e = absurd (cc)
+told_unique (Err a) (Err b) e =
+    let same : numbered a ≡ numbered b = cc in
+    rw (numbered_unique a b same)
+
+-- a refusal that is given its place: where the answer with the place is fine, nothing was refused
+pub placed_fine : {A : Type 0} → (a : Result A Refusal) (r : Result A Refused) (Q : Refusal → Refused → Type 0)
+    → MatchResult a (λ x. r ≡ Ok x) (λ e. IsErrAnd r (Q e)) → (x : A) → r ≡ Ok x → number_in a ≡ 0
+placed_fine (Ok y) r Q m x e = refl
+placed_fine (Err d) (Ok y) Q m x e = absurd m
+placed_fine (Err d) (Err y) Q m x e = absurd (cc)
