@@ -1,11 +1,10 @@
 -- Every record is handed on or skipped; and the check of a capture is the scan of the packets handed on, or else names the record at
 -- which the file stops. By the records.
-use Rattle.std.specs.Prelude.{◌≡◌, ◌∷◌, ◌+◌}
+use Rattle.std.specs.Prelude.{◌≡◌, ◌∷◌, ◌+◌, Ok}
 use Rattle.laws.specs.Kit.{refl, sym, ◌∙◌, List, [], ℕ, suc, arith, add-zero, length, eq-eqb, ne_eqb, ℕ_discrete}
 use Rattle.laws.specs.Fold.{fold}
 use Rattle.packet.specs.declared.Packet.{Packet}
 use Rattle.packet.specs.declared.Tally.{Tally}
-use Rattle.packet.specs.declared.Scanned.TheVariants as scanned
 use Rattle.packet.specs.Step.{number_of, tallied, tally_of, scan_of}
 use Rattle.packet.proofs.Turn.{scan_tallied, scan_stops, fine_refused}
 use Rattle.capture.specs.declared.Seen.{Seen}
@@ -58,14 +57,14 @@ check_scan (packet p ∷ xs) y e = go (ℕ_discrete (number_of y.tally.past p) 0
 check_scan (skipped ∷ xs) y e = check_scan xs (with_skipped y) e ∙ rw (seen_skipped y xs)
 
 -- how many frames close, where nothing is refused
-pub scan_closed : (l : List Packet) (y : Tally) {n : ℕ} → scan_of y.past y.begun y.closed l ≡ scanned.Fine n
+pub scan_closed : (l : List Packet) (y : Tally) {n : ℕ} → scan_of y.past y.begun y.closed l ≡ Ok n
     → (tally_of y l).closed ≡ n
 unfolding scan_of fold
 scan_closed [] y {n} e = cc
 scan_closed (p ∷ l) y {n} e = go (ℕ_discrete (number_of y.past p) 0) (λ f. scan_closed l (tallied y p) {n = n} f)
   where
     go : Dec (number_of y.past p ≡ 0)
-        → (scan_of (tallied y p).past (tallied y p).begun (tallied y p).closed l ≡ scanned.Fine n → (tally_of (tallied y p) l).closed ≡ n)
+        → (scan_of (tallied y p).past (tallied y p).begun (tallied y p).closed l ≡ Ok n → (tally_of (tallied y p) l).closed ≡ n)
         → (tally_of (tallied y p) l).closed ≡ n
     go (yes z) ih = ih (scan_tallied y {p = p} {l = p ∷ l} refl z ∙ e)
     go (no m) ih = absurd (fine_refused n _ (sym e ∙ scan_stops y.past y.begun y.closed {l = p ∷ l} refl m))

@@ -1,6 +1,6 @@
 -- A capture piece by piece: what stands in front of a window, and a reader that passes over a record's bytes before it tells what became
 -- of it; what the contracts cite.
-use Rattle.std.specs.Prelude.{◌≡◌, ◌+◌, ◌-◌, ◌≤◌, ◌<◌}
+use Rattle.std.specs.Prelude.{◌≡◌, ◌+◌, ◌-◌, ◌≤◌, ◌<◌, Err, Ok}
 use Rattle.laws.specs.Kit.{Bool, true, List, ℕ, zero, suc, ltb, leb, eqb, min, length, drop}
 use Rattle.laws.specs.Choose.{pick}
 use Rattle.headers.specs.declared.Handed.{Handed}
@@ -8,7 +8,6 @@ use Rattle.headers.specs.declared.Handed.TheVariants as handed
 use Rattle.headers.specs.Step.{matter, handed_of}
 use Rattle.packet.specs.declared.Packet as Packets
 use Rattle.packet.specs.Paper.{Scanned}
-use Rattle.packet.specs.declared.Scanned.TheVariants as scanned
 use Rattle.packet.specs.Step.{number_of, tally_of}
 use Rattle.capture.specs.declared.Format.{Format}
 use Rattle.capture.specs.declared.Setting.{Setting}
@@ -155,9 +154,9 @@ seen_all y xs = record {
 
 -- R8: a packet that the scan refuses comes before the record at which the file stops
 abbrev pub checked_by : Scanned → Seen → Ending → Checked
-checked_by (scanned.Refused r) y e = Refused r.number r.place
-checked_by (scanned.Fine closed) y done = Fine y
-checked_by (scanned.Fine closed) y (stopped number) = Refused number y.records
+checked_by (Err r) y e = Refused r.number r.place
+checked_by (Ok closed) y done = Fine y
+checked_by (Ok closed) y (stopped number) = Refused number y.records
 
 -- ---- packet by packet
 

@@ -1,12 +1,11 @@
 -- What is done with a network capture. First a frame and its headers (`handed_of`, headers' Step), then a capture call (`capture_of`, intake's
 -- Paper; what a capture holds is `records_of` and `packets_of` there), its reader in pieces, the C function (`capture_answer` and
 -- `capture_filled`, film's Paper), and any run of the program for captures, of which `output_of` of reel's Paper says what it prints.
-use Rattle.std.specs.Prelude.{◌≡◌, ◌+◌, ◌≤◌, ◌<◌}
+use Rattle.std.specs.Prelude.{◌≡◌, ◌+◌, ◌≤◌, ◌<◌, Err, Ok}
 use Rattle.laws.specs.Kit.{refl, ◌∙◌, Bool, true, false, List, [], ℕ, min, ℤ, length, get_or, ne_eqb}
 use Rattle.endian.specs.Number.{Bytes}
 use Rattle.limits.specs.Accepted.{KnownEdition}
 use Rattle.refusal.specs.Told.{Numbered}
-use Rattle.packet.specs.declared.Scanned.TheVariants as scanned
 use Rattle.packet.specs.Step.{nothing, scan_of}
 use Rattle.headers.specs.declared.Handed.TheVariants.{Skipped}
 use Rattle.headers.specs.Paper.{HandedOn, on_at}
@@ -100,13 +99,13 @@ module _ (s : State) (rows : List ℤ) (port offset : ℕ) (b : List ℕ) where
 
     -- R8, R9: "12 to 14 of the packet handed on": the first that the scan refuses, at its place, whatever comes behind it
     pub packet_refused : in_range s ≡ true → offset ≤ 99 → (r : Numbered)
-        → scan_of s.past s.frames.begun 0 (packets_of port offset b) ≡ scanned.Refused r
+        → scan_of s.past s.frames.begun 0 (packets_of port offset b) ≡ Err r
         → capture_of s rows port offset b ≡ refused_by s rows r.number r.place
     packet_refused e h r = call.capture_refused s rows port offset b e h known
 
     -- R8, R9: "31 [..], 32 [..]": where it refuses none, the record at which the capture stops, at its own place
     pub record_refused : in_range s ≡ true → offset ≤ 99 → (closed number : ℕ)
-        → scan_of s.past s.frames.begun 0 (packets_of port offset b) ≡ scanned.Fine closed
+        → scan_of s.past s.frames.begun 0 (packets_of port offset b) ≡ Ok closed
         → (records_of port offset b).ending ≡ stopped number
         → capture_of s rows port offset b ≡ refused_by s rows number (length (records_of port offset b).found)
     record_refused e h closed number = call.capture_stopped s rows port offset b e h known

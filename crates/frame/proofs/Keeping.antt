@@ -1,6 +1,6 @@
 -- What the open frame keeps, packet by packet, is what its packets say: one step goes from what k
 -- packets say to what k + 1 say. And its times, taken from the first packet on, are those of document 01.
-use Rattle.std.specs.Prelude.{◌≡◌, ◌&&◌, ◌+◌, ◌-◌, ◌*◌, ◌≤◌, ◌<◌}
+use Rattle.std.specs.Prelude.{◌≡◌, ◌&&◌, ◌+◌, ◌-◌, ◌*◌, ◌≤◌, ◌<◌, None, Some}
 use Rattle.laws.specs.Kit.{refl, sym, ap, ◌∙◌, Bool, true, false, not, ℕ, zero, suc, arith, add-mul}
 use Rattle.laws.specs.Kit.{dec_lt, ltb, eqb, eqb-suc-zero, ltb-true, ltb-false, lt-ltb, le-ltb, eq-eqb, eqb-true, eqb-false}
 use native.Mathlib.Numerals.{add-one}
@@ -14,7 +14,6 @@ use Rattle.laws.proofs.Seek.{seek_is, hit_next, hit_on}
 use Rattle.grain.specs.Paper.{grains, frame_time, phase, read_before, reads_before, next_read}
 use Rattle.grain.specs.Carry.{reads_at, reads_onward}
 use Rattle.grain.specs.declared.Reads.{Reads}
-use Rattle.grain.specs.declared.NextRead.TheVariants.{In, NoneLeft}
 use Rattle.grain.proofs.Rounding.{phase_from}
 use Rattle.grain.proofs.Onward.{known_on, known_from_start}
 use Rattle.frame.specs.declared.Plan.{Plan}
@@ -196,8 +195,8 @@ next_shift n base num den x base' x' s s' e f =
     sym (add-mul base s den) ∙ ap (λ (z : ℕ). z * den) e ∙ add-mul base' s' den in
     let times : x * den + s * den ≡ x' * den + s' * den = sym (add-mul x s den) ∙ ap (λ (z : ℕ). z * den) f ∙ add-mul x' s' den in
     let far : (k : ℕ) → base * den + k * num - x * den ≡ base' * den + k * num - x' * den = λ k. omega (arith, bases, times) in
-    ap (λ (c : ℕ). pick (ltb c n) (In (base * den + c * num - x * den)) NoneLeft) same
-    ∙ ap (λ (w : ℕ). pick (ltb (reads_before n base' num den x') n) (In w) NoneLeft) (far (reads_before n base' num den x'))
+    ap (λ (c : ℕ). pick (ltb c n) (Some (base * den + c * num - x * den)) None) same
+    ∙ ap (λ (w : ℕ). pick (ltb (reads_before n base' num den x') n) (Some w) None) (far (reads_before n base' num den x'))
 
 -- so the code's reads, from one period before the frame's start on, are document 01's
 pub reads_are : (plan : Plan) (time stamp : ℕ → ℕ) (j : ℕ) → 0 < plan.period → time 0 ≤ time j

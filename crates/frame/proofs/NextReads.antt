@@ -1,13 +1,12 @@
 -- The next read of a packet, by its own arrival and that of its frame's first: asked of a frame that opens, it is the paper's; and what the
 -- open frame keeps answers it too. By the one law of what is known of the reads (grain's Onward), times counted from elsewhere.
-use Rattle.std.specs.Prelude.{◌≡◌, ◌+◌, ◌-◌, ◌*◌, ◌≤◌, ◌<◌}
+use Rattle.std.specs.Prelude.{◌≡◌, ◌+◌, ◌-◌, ◌*◌, ◌≤◌, ◌<◌, Some}
 use Rattle.laws.specs.Kit.{ap, subst, ◌∙◌, ℕ, suc, arith, add-zero, add-mul, mul_assoc}
 use Rattle.laws.specs.Kit.{Bool, true, false, mul-le-mul_right}
 use Rattle.laws.specs.Choose.{pick}
 use Rattle.laws.specs.Climb.{Climbs}
 use Rattle.laws.proofs.Climb.{climbs_le}
-use Rattle.grain.specs.declared.NextRead.{NextRead}
-use Rattle.grain.specs.declared.NextRead.TheVariants.{In}
+use Rattle.grain.specs.Paper.{NextRead}
 use Rattle.grain.specs.declared.Reads.{Reads}
 use Rattle.grain.specs.Paper.{grains, frame_time, phase, NextIs, next_read}
 use Rattle.grain.specs.Carry.{ReadsAsks, next_after, reads_onward}
@@ -93,8 +92,8 @@ module _ (plan : Plan) (h : History) (s j : ℕ) where
       next (next_read_of plan (h.time s) (h.time (s + j))) is next_by_place
 
 -- how far it can be
-module _ (plan : Plan) (first t w : ℕ) (e : next_read_of plan first t ≡ In w) where
-  is_next : NextIs plan.packets (read_zero plan first) plan.reads.num plan.reads.den (grains t) (In w)
+module _ (plan : Plan) (first t w : ℕ) (e : next_read_of plan first t ≡ Some w) where
+  is_next : NextIs plan.packets (read_zero plan first) plan.reads.num plan.reads.den (grains t) (Some w)
   unfolding next_read_of
   is_next =
       subst (λ (a : NextRead). NextIs plan.packets (read_zero plan first) plan.reads.num plan.reads.den (grains t) a) e

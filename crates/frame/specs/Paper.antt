@@ -5,7 +5,7 @@ use Rattle.std.specs.Prelude.{◌-ℤ◌, ◌≤ℤ◌, ◌<ℤ◌}
 use Rattle.laws.specs.Choose.{pick}
 use Rattle.laws.specs.Count.{count, begun, again}
 use Rattle.laws.specs.Seek.{seek, Lowest}
-use Rattle.grain.specs.declared.NextRead.{NextRead}
+use Rattle.grain.specs.Paper.{NextRead}
 use Rattle.grain.specs.Paper.{grains, frame_time, first_packet_time, LatencyIs, rtp_offset, reads_before, NextIs, next_read}
 use Rattle.frame.specs.declared.Plan.{Plan}
 use Rattle.frame.specs.declared.Row.{Row}

@@ -15,7 +15,7 @@ ghost use Rattle.frame.specs.Step.{broken_row, row_of, numbers_of, row_width, cl
 ghost use Rattle.frame.specs.Step.{no_frames, arrive_of, close_of};
 ghost use Rattle.frame.specs.Range.{Planned, PushAsks, NextAsks, RowAsks, FramesRowAsks, most_of, ranges};
 
-use grain::{NextRead, Reads, Spacing};
+use grain::{Reads, Spacing};
 
 // How many numbers a row has: `row_width`.
 pub const ROW: usize = 11;
@@ -335,7 +335,7 @@ impl Plan {
 impl Plan {
     // How long it is from a packet at `t` to the next read of its frame, whose first packet came at `first`, for the host's graph. It is the
     // rule of `Frame::push`, asked once for all that goes by since one period before the frame's start.
-    pub fn next_read(self, first: u64, t: u64) -> NextRead
+    pub fn next_read(self, first: u64, t: u64) -> Option<u64>
         requires { Planned self × NextAsks first t }
         ensures { result ≡ next_read_of self first t }
     {

@@ -1,6 +1,6 @@
 -- A quotient and what is left, where the multiples around x are known or taken off one by one; and from them the reads that come by in a
 -- time, and the wait after it.
-use Rattle.std.specs.Prelude.{◌≡◌, ◌+◌, ◌*◌, ◌-◌, ◌/◌, ◌%◌, ◌≤◌, ◌<◌}
+use Rattle.std.specs.Prelude.{◌≡◌, ◌+◌, ◌*◌, ◌-◌, ◌/◌, ◌%◌, ◌≤◌, ◌<◌, None, Some}
 use Rattle.laws.specs.Kit.{refl, sym, ap, ◌∙◌, subst, Bool, true, false, ℕ, min, arith, dec_le, dec_lt}
 use Rattle.laws.specs.Kit.{div-eq_of_lt-le, div-add-mod', div-mul-le_self, lt-div-mul-add, suc-mul, add-mul, mul-le-mul_left}
 use Rattle.laws.specs.Kit.{leb, leb-true, leb-false, lt-ltb, le-ltb}
@@ -8,7 +8,6 @@ use Rattle.laws.specs.Choose.{pick}
 use Rattle.grain.specs.declared.Division.{Division}
 use Rattle.grain.specs.declared.Kept.{Kept}
 use Rattle.grain.specs.declared.Reads.{Reads}
-use Rattle.grain.specs.declared.NextRead.TheVariants.{In, NoneLeft}
 use Rattle.grain.specs.Carry.{taken_of, divided_of, passed_by, carried_on, known_of, reads_onward}
 
 module _ (x num k : ℕ) where
@@ -38,12 +37,12 @@ module _ (count wait n num gone k : ℕ) (p : 0 < num) where
 module _ (count wait n num gone : ℕ) {k : Kept} (e : k ≡ carried_on count wait n num gone) where
   -- one is left
   pub reads_left : k.count < n
-      → ◌≡◌ {A = Reads} (record { count = k.count; next = In k.wait; wait = k.wait }) (reads_onward count wait n num gone)
+      → ◌≡◌ {A = Reads} (record { count = k.count; next = Some k.wait; wait = k.wait }) (reads_onward count wait n num gone)
   reads_left l = rw (lt-ltb k.count n l) at (ap (known_of n) e)
 
   -- or none is
   pub reads_over : n ≤ k.count
-      → ◌≡◌ {A = Reads} (record { count = k.count; next = NoneLeft; wait = k.wait }) (reads_onward count wait n num gone)
+      → ◌≡◌ {A = Reads} (record { count = k.count; next = None; wait = k.wait }) (reads_onward count wait n num gone)
   reads_over l = rw (le-ltb k.count n l) at (ap (known_of n) e)
 
 -- ---- num's taken off one by one

@@ -1,12 +1,11 @@
 -- The next read, by place: one answer is so, whatever the spacing, the denominator and the number of the reads, and it is the read whose
 -- number is the count of those before. By the reads before a time being the first ones.
-use Rattle.std.specs.Prelude.{◌≡◌, ◌↔◌, ◌+◌, ◌*◌, ◌-◌, ◌≤◌, ◌<◌}
+use Rattle.std.specs.Prelude.{◌≡◌, ◌↔◌, ◌+◌, ◌*◌, ◌-◌, ◌≤◌, ◌<◌, None, Some}
 use Rattle.laws.specs.Kit.{refl, sym, ap, subst, ◌∙◌, Bool, true, false, ℕ, zero, suc, arith}
 use Rattle.laws.specs.Kit.{mul-le-mul_right, ltb, ltb-true, ltb-false, suc-mul}
 use Rattle.laws.specs.Choose.{pick}
 use Rattle.laws.proofs.Choose.{false_true}
-use Rattle.grain.specs.declared.NextRead.{NextRead}
-use Rattle.grain.specs.declared.NextRead.TheVariants.{In, NoneLeft}
+use Rattle.grain.specs.Paper.{NextRead}
 use Rattle.grain.specs.Paper.{read_before, reads_before, IsNext, NextIs, next_read}
 use Rattle.grain.specs.Carry.{endless_read, wait_at, next_after}
 use Rattle.grain.proofs.ReadCount.{reads_first, reads_closed}
@@ -52,19 +51,19 @@ module _ (n base num den x : ℕ) where
   pub next_is_read : NextIs n base num den x (next_read n base num den x)
   next_is_read = go (ltb c n) refl
     where
-      go : (t : Bool) → ltb c n ≡ t → NextIs n base num den x (pick t (In (due c - x * den)) NoneLeft)
+      go : (t : Bool) → ltb c n ≡ t → NextIs n base num den x (pick t (Some (due c - x * den)) None)
       go true e = (c, counted_next (ltb-true c n e))
       go false e = λ j l. (reads_first n base num den x).passes j l (omega (arith, ltb-false c n e))
 
   -- P20, P21: and nothing else is
   pub next_read_unique : (a b : NextRead) → NextIs n base num den x a → NextIs n base num den x b → a ≡ b
-  next_read_unique (In v) (In w) (j, p) (k, q) =
+  next_read_unique (Some v) (Some w) (j, p) (k, q) =
       let same : j ≡ k = sym (next_counted j v p) ∙ next_counted k w q in
       let far : v ≡ w = omega (arith, p.distance, q.distance, ap (λ (z : ℕ). z * num) same) in
-      ap In far
-  next_read_unique (In v) NoneLeft (j, p) q = absurd (false_true (sym p.here ∙ q j p.one))
-  next_read_unique NoneLeft (In w) p (k, q) = absurd (false_true (sym q.here ∙ p k q.one))
-  next_read_unique NoneLeft NoneLeft p q = refl
+      ap Some far
+  next_read_unique (Some v) None (j, p) q = absurd (false_true (sym p.here ∙ q j p.one))
+  next_read_unique None (Some w) p (k, q) = absurd (false_true (sym q.here ∙ p k q.one))
+  next_read_unique None None p q = refl
 
   module _ (j w : ℕ) (p : IsNext n base num den x j w) where
     -- P23: from read 0 on it is less than a spacing away
@@ -83,7 +82,7 @@ module _ (n base num den x : ℕ) where
         omega (arith, p.distance, ap (λ (z : ℕ). z * num) first)
 
   -- P20: "A read at the arrival's own instant is the next read, at 0."
-  pub own_instant : (j : ℕ) → j < n → x * den ≡ due j → NextIs n base num den x (In 0)
+  pub own_instant : (j : ℕ) → j < n → x * den ≡ due j → NextIs n base num den x (Some 0)
   own_instant j l e =
       let not_more : ¬ (j < c) = λ h. omega (arith, ltb-true (due j) (x * den) ((reads_first n base num den x).passes j l h)) in
       let p = counted_next (omega arith) in (
@@ -100,8 +99,8 @@ module _ (n base num den x : ℕ) where
   pub next_after_lem : 0 < num → next_after n c (wait_at base num den x) ≡ next_read n base num den x
   next_after_lem some = go (ltb c n) refl
     where
-      go : (t : Bool) → ltb c n ≡ t → pick t (In (wait_at base num den x)) NoneLeft ≡ pick t (In (due c - x * den)) NoneLeft
+      go : (t : Bool) → ltb c n ≡ t → pick t (Some (wait_at base num den x)) None ≡ pick t (Some (due c - x * den)) None
       go true e =
           let same : endless_read base num den x ≡ c = omega (arith, ltb-true c n e, reads_closed n base num den some x) in
-          ap (λ (z : ℕ). In (base * den + z * num - x * den)) same
+          ap (λ (z : ℕ). Some (base * den + z * num - x * den)) same
       go false e = refl

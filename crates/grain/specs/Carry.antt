@@ -1,13 +1,12 @@
 -- What a step carries from one packet to the next in place of the product and the quotient of a whole time: what is left after the last
 -- instant, and how far it is to the next read. Both are told of the whole time; that a step keeps them so: proofs/Onward.antt.
-use Rattle.std.specs.Prelude.{◌≡◌, ◌+◌, ◌*◌, ◌-◌, ◌/◌, ◌%◌, ◌≤◌, ◌<◌}
+use Rattle.std.specs.Prelude.{◌≡◌, ◌+◌, ◌*◌, ◌-◌, ◌/◌, ◌%◌, ◌≤◌, ◌<◌, None, Some}
 use Rattle.laws.specs.Kit.{ℕ, min, leb, ltb}
 use Rattle.laws.specs.Choose.{pick}
 use Rattle.grain.specs.declared.Division.{Division}
 use Rattle.grain.specs.declared.Kept.{Kept}
 use Rattle.grain.specs.declared.Reads.{Reads}
-use Rattle.grain.specs.declared.NextRead.{NextRead}
-use Rattle.grain.specs.declared.NextRead.TheVariants.{In, NoneLeft}
+use Rattle.grain.specs.Paper.{NextRead}
 use Rattle.grain.specs.Paper.{reads_before, next_read}
 
 -- ---- instants
@@ -60,7 +59,7 @@ carried_on count wait n num gone = record {
 
 -- P21, P22: the next of n reads, where `count` are over and the one after them is `wait` away
 abbrev pub next_after : ℕ → ℕ → ℕ → NextRead
-next_after n count wait = pick (ltb count n) (In wait) NoneLeft
+next_after n count wait = pick (ltb count n) (Some wait) None
 
 -- all that is known of n reads, where so much is kept of them
 abbrev pub known_of : ℕ → Kept → Reads

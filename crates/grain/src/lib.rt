@@ -142,19 +142,12 @@ pub fn divided(x: u64, num: u64) -> Division
     }
 }
 
-// How long it is to the next of a frame's reads, times den; or no read is left.
-#[derive(Clone, Copy, Debug, PartialEq, Eq)]
-pub enum NextRead {
-    In(u64),
-    NoneLeft,
-}
-
-// What is known of a frame's reads at a time: how many are over, and how long it is until the next. The wait is what a step goes on with:
+// What is known of a frame's reads at a time: how many are over, and how long it is until the next, times den, if one is left. The wait is what a step goes on with:
 // it is that of `next`, had the reads no end. So a step has no test for the last read, and who asks for no `next` pays for none.
 #[derive(Clone, Copy, Debug, PartialEq, Eq)]
 pub struct Reads {
     pub count: u64,
-    pub next: NextRead,
+    pub next: Option<u64>,
     pub wait: u64,
 }
 
@@ -202,11 +195,7 @@ pub fn reads_on(count: u64, wait: u64, n: u64, num: u64, gone: u64) -> Reads
     ensures { result ≡ reads_onward count wait n num gone }
 {
     let on = carried_on(count, wait, n, num, gone);
-    let next = if on.count < n {
-        NextRead::In(on.wait)
-    } else {
-        NextRead::NoneLeft
-    };
+    let next = if on.count < n { Some(on.wait) } else { None };
     Reads {
         count: on.count,
         next,

@@ -1,11 +1,10 @@
 -- A capture call is `feed` of the packets that it hands on; a capture that stops at a record names what the scan of the packets before it
 -- names, or else that record. By the header, and by what the scan says.
-use Rattle.std.specs.Prelude.{◌≡◌, ◌+◌, ◌*◌, ◌≤◌, ◌<◌}
+use Rattle.std.specs.Prelude.{◌≡◌, ◌+◌, ◌*◌, ◌≤◌, ◌<◌, Err, Ok}
 use Rattle.laws.specs.Kit.{refl, sym, ap, ◌∙◌, Bool, true, false, List, [], ℕ, arith, leb, ℤ, length}
 use Rattle.laws.specs.Choose.{pick}
 use Rattle.packet.specs.declared.Packet.{Packet}
 use Rattle.packet.specs.Paper.{Scanned}
-use Rattle.packet.specs.declared.Scanned.TheVariants as scanned
 use Rattle.refusal.specs.Told.{Numbered}
 use Rattle.packet.specs.Step.{scan_of}
 use Rattle.frame.specs.Step.{row_width}
@@ -56,18 +55,18 @@ module _ (s : State) (rows : List ℤ) (port offset : ℕ) (b : List ℕ) where
             (check_known port offset s.past s.frames.begun b h k ∙ rw (g, q))
 
         -- a packet that the scan refuses
-        pub capture_refused : {r : Numbered} → scan_of s.past s.frames.begun 0 (packets_of port offset b) ≡ scanned.Refused r
+        pub capture_refused : {r : Numbered} → scan_of s.past s.frames.begun 0 (packets_of port offset b) ≡ Err r
             → capture_of s rows port offset b ≡ refused_by s rows r.number r.place
         capture_refused {r} g = by_scan_lem g refl ∙ go (records_of port offset b).ending
           where
             go : (z : Ending)
-                → by_check s rows (checked_by (scanned.Refused r) (seen port offset s.past s.frames.begun b) z) (packets_of port offset b)
+                → by_check s rows (checked_by (Err r) (seen port offset s.past s.frames.begun b) z) (packets_of port offset b)
                 (skipped_of port offset b) ≡ refused_by s rows r.number r.place
             go done = refl
             go (stopped n) = refl
 
         -- none, and the record at which the file stops
-        pub capture_stopped : {closed number : ℕ} → scan_of s.past s.frames.begun 0 (packets_of port offset b) ≡ scanned.Fine closed
+        pub capture_stopped : {closed number : ℕ} → scan_of s.past s.frames.begun 0 (packets_of port offset b) ≡ Ok closed
             → (records_of port offset b).ending ≡ stopped number
             → capture_of s rows port offset b ≡ refused_by s rows number (length (records_of port offset b).found)
         unfolding seen_all
@@ -97,8 +96,8 @@ capture_feeds s rows port offset b h k q = go (in_range s) refl (scan_of s.past 
         → capture_of s rows port offset b
         ≡ fed_as (pick t (F.by_scan s rows x (packets_of port offset b)) (F.refused_by s rows 9 0)) (packets_of port offset b) (skipped_of port offset b)
     go false e x g = capture_9 s rows port offset b e
-    go true e (scanned.Refused r) g = capture_refused s rows port offset b e h k g
-    go true e (scanned.Fine n) g =
+    go true e (Err r) g = capture_refused s rows port offset b e h k g
+    go true e (Ok n) g =
         let closed = scan_closed (packets_of port offset b) (record { past = s.past; begun = s.frames.begun; closed = 0 }) g in
         by_scan_lem s rows port offset b e h k g q
         ∙ ap (λ (m : ℕ). room_for s rows m (packets_of port offset b) (skipped_of port offset b)) closed

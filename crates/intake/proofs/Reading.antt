@@ -1,13 +1,12 @@
 -- The check of a capture whose header is known is the scan of the packets that it hands on, or else names the record at which it stops; where
 -- nothing is refused, every record is counted. By the header.
-use Rattle.std.specs.Prelude.{◌≡◌, ◌+◌, ◌≤◌}
+use Rattle.std.specs.Prelude.{◌≡◌, ◌+◌, ◌≤◌, Err, Ok}
 use Rattle.laws.specs.Kit.{refl, sym, ap, subst, ◌∙◌, Bool, List, [], ℕ, arith, length, drop}
 use Rattle.laws.specs.Kit.{dec_le, ℤ}
 use Rattle.laws.specs.Fold.{fold}
 use Rattle.packet.specs.declared.Packet.{Packet}
 use Rattle.packet.specs.declared.Past.{Past}
 use Rattle.packet.specs.Paper.{Scanned}
-use Rattle.packet.specs.declared.Scanned.TheVariants as scanned
 use Rattle.packet.specs.Step.{scan_of}
 use Rattle.capture.specs.declared.Format.{Format}
 use Rattle.capture.specs.declared.Seen.{Seen}
@@ -70,19 +69,19 @@ module _ (port offset : ℕ) (past : Past) (begun : Bool) (b : List ℕ) where
     pub format : Format
     pub known : header_of b ≡ capture format
     pub whole : (records_of port offset b).ending ≡ done
-    pub fine : scan ≡ scanned.Fine y.tally.closed
+    pub fine : scan ≡ Ok y.tally.closed
     pub all : y ≡ seen
 
   fine_read : (h : offset ≤ 99) (f : Format) → header_of b ≡ capture f → (x : Scanned) → scan ≡ x → (e : Ending)
       → (records_of port offset b).ending ≡ e → (y : Seen) → checked_by x seen e ≡ Fine y → Read y
   unfolding seen_all
-  fine_read h f k (scanned.Fine n) g done w y z =
+  fine_read h f k (Ok n) g done w y z =
       let same : seen ≡ y = cc in
       let closed = scan_closed (packets_of port offset b) (record { past = past; begun = begun; closed = 0 }) g in
       let told : n ≡ y.tally.closed = sym closed ∙ ap (λ (q : Seen). q.tally.closed) same in
-      record { in_time = h; format = f; known = k; whole = w; fine = g ∙ ap scanned.Fine told; all = sym same }
-  fine_read h f k (scanned.Fine n) g (stopped m) w y z = let q : ◌≡◌ {A = ℕ} 0 1 = cc in absurd (omega arith)
-  fine_read h f k (scanned.Refused r) g e w y z = let q : ◌≡◌ {A = ℕ} 0 1 = cc in absurd (omega arith)
+      record { in_time = h; format = f; known = k; whole = w; fine = g ∙ ap Ok told; all = sym same }
+  fine_read h f k (Ok n) g (stopped m) w y z = let q : ◌≡◌ {A = ℕ} 0 1 = cc in absurd (omega arith)
+  fine_read h f k (Err r) g e w y z = let q : ◌≡◌ {A = ℕ} 0 1 = cc in absurd (omega arith)
 
   pub checked_read : (y : Seen) → checked_of port offset (seen_from past begun) b ≡ Fine y → Read y
   checked_read y e = go (dec_le offset 99) (header_of b) refl

@@ -1,6 +1,6 @@
 -- A capture call: the request's answer, on what the reader (crate capture) and the measurement (crate timing) say. This page is what a
 -- reader must believe of it.
-use Rattle.std.specs.Prelude.{◌≡◌, ◌*◌}
+use Rattle.std.specs.Prelude.{◌≡◌, ◌*◌, Ok}
 use Rattle.laws.specs.Kit.{List, ℕ, leb, ℤ, length, drop, sets}
 use Rattle.laws.specs.Choose.{pick}
 use Rattle.packet.specs.declared.Packet.{Packet}
@@ -12,8 +12,7 @@ use Rattle.frame.specs.Step.{row_width}
 use Rattle.timing.specs.declared.State.{State}
 use Rattle.timing.specs.Step.{rules_of, state_after, rows_after, numbers}
 use Rattle.timing.specs.Range.{in_range}
-use Rattle.timing.specs.declared.Fed.{Fed}
-use Rattle.timing.specs.declared.Fed.TheVariants as fed
+use Rattle.timing.specs.Feed.{Fed, not_fed}
 use Rattle.timing.specs.Feed as F
 use Rattle.intake.specs.declared.Taken.{Taken}
 use Rattle.intake.specs.declared.Taken.TheVariants.{Accepted, Refused}
@@ -67,8 +66,8 @@ module _ (s : State) (rows : List ℤ) where
 
 -- the outcome of a call with the packets handed on, as a capture call's: it tells their number, and how many records were skipped
 abbrev pub fed_answer : Fed → ℕ → ℕ → Taken
-fed_answer (fed.Accepted t) handed skips = Accepted t handed skips
-fed_answer (fed.Refused number place t) handed skips = Refused number place t
+fed_answer (Ok t) handed skips = Accepted t handed skips
+fed_answer (not_fed number place t) handed skips = Refused number place t
 
 abbrev pub fed_as : F.Outcome → List Packet → ℕ → Outcome
 fed_as o l skips = record { answer = fed_answer o.answer (length l) skips; rows = o.rows }

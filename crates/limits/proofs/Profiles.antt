@@ -2,12 +2,13 @@
 use Rattle.std.specs.Prelude.{◌≡◌, ◌↔◌, ◌⊎◌, ◌||◌, ◌≤◌, Result, Ok, Err}
 use Rattle.std.specs.Result.{result_unwrap_or}
 use Rattle.laws.specs.Kit.{refl, sym, ap, ◌∙◌, inl, inr, Bool, true, false, ℕ, arith, eqb, ne_eqb, eqb-true}
+use Rattle.laws.specs.Choose.{pick}
 use Rattle.laws.proofs.Choose.{pick_either, false_true}
 use Rattle.limits.specs.declared.Profile.{Profile}
 use Rattle.limits.specs.declared.Profile.TheVariants.{Video, Compressed, Interlaced}
 use Rattle.limits.specs.Paper.{profile_kind, is_profile, profile_of, profile_in, profile_refusal}
 use Rattle.refusal.specs.declared.Refusal.{Refusal}
-use Rattle.refusal.specs.Told.{by_number}
+use Rattle.refusal.specs.Told.{number_in, by_number}
 
 -- S12: each profile has a kind that chooses it
 pub chosen : (p : Profile) → profile_of (profile_kind p) ≡ p
@@ -105,3 +106,17 @@ profile_22 kind = (
   pick_either (λ n. n ≡ 22 → is_profile kind ≡ false) (is_profile kind) (λ t e. absurd (omega arith)) (λ t e. t),
   λ e. rw e,
 )
+
+-- the profile that a kind chooses, and its number where it chooses none
+pub profile_number : (kind : ℕ) (r : Result Profile Refusal) → by_number r ≡ profile_in kind → number_in r ≡ profile_refusal kind
+unfolding profile_refusal
+profile_number kind r = go (is_profile kind) r
+  where
+    go : (t : Bool) (r : Result Profile Refusal) → by_number r ≡ pick t (Ok (profile_of kind)) (Err 22) → number_in r ≡ pick t 0 22
+    go true (Ok p) e = refl
+    go true (Err d) e = absurd (cc)
+    go false (Ok p) e = absurd (cc)
+    go false (Err d) e = cc
+
+pub profile_chosen : (kind : ℕ) (r : Result Profile Refusal) → by_number r ≡ profile_in kind → (p : Profile) → r ≡ Ok p → profile_refusal kind ≡ 0
+profile_chosen kind r e p f = sym (profile_number kind r e) ∙ ap number_in f

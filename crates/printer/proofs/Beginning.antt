@@ -1,6 +1,6 @@
 -- The start of a file, of a window that shows it: what is refused there is the file's refusal, and from the walk that begins there all
 -- of the file's output is still to come. By what the head says of the file.
-use Rattle.std.specs.Prelude.{◌≡◌, ◌++◌, ◌≤◌, ◌<◌}
+use Rattle.std.specs.Prelude.{◌≡◌, ◌++◌, ◌≤◌, ◌<◌, Err, Ok}
 use Rattle.laws.specs.Kit.{refl, sym, ap, subst, ◌∙◌, Bool, true, false, List, [], append-nil, ℕ, arith, eqb, length}
 use Rattle.laws.specs.Kit.{drop, drop-append-le, eqb-true, eqb-false}
 use Rattle.laws.proofs.Choose.{pick_either, false_true}
@@ -21,8 +21,7 @@ use Rattle.record.specs.Step.{head_piece, head_read}
 use Rattle.record.specs.Pieces.{head_waits}
 use Rattle.record.proofs.Saying.{Stood, SaysHead, head_says, reads_refused, reads_packets}
 use Rattle.record.proofs.InPieces.{last_head, piece_head, head_alone}
-use Rattle.timing.specs.declared.SetUp.{SetUp}
-use Rattle.timing.specs.declared.SetUp.TheVariants.{Fresh, Refused as NotSetUp}
+use Rattle.timing.specs.Answers.{SetUp}
 use Rattle.timing.specs.Step.{of_profile, rules_of, fresh_of}
 use Rattle.timing.specs.Answers.{set_up_as}
 use Rattle.timing.proofs.InRange.{sound_fresh}
@@ -110,8 +109,8 @@ unfolding ready_of
 ready_answered x c = go (set_up_as (of_profile x.profile x.parameters))
   where
     go : (a : SetUp) → Answered (ready_by a c)
-    go (Fresh s) = tt
-    go (NotSetUp n) = tt
+    go (Ok s) = tt
+    go (Err n) = tt
 
 pub head_answered : (w : List ℕ) (last : Bool) → head_waits (head_piece w last) ≡ false → Answered (begin_of w last)
 unfolding begin_of

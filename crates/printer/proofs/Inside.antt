@@ -1,5 +1,5 @@
 -- What is used of a window lies within it: a record for each packet that was shown, and the head before the first. By the turns still allowed.
-use Rattle.std.specs.Prelude.{◌≡◌, ◌-◌, ◌≤◌}
+use Rattle.std.specs.Prelude.{◌≡◌, ◌-◌, ◌≤◌, Err, Ok}
 use Rattle.laws.specs.Kit.{refl, sym, ap, subst, ◌∙◌, Bool, List, ℕ, zero, suc, arith, eqb, ltb, length, drop, length-drop}
 use Rattle.laws.proofs.Choose.{pick_either}
 use Rattle.packet.specs.Step.{number_of}
@@ -17,8 +17,7 @@ use Rattle.record.specs.Pieces.{head_waits}
 use Rattle.record.proofs.Saying.{SaysHead, head_says}
 use Rattle.record.proofs.InPieces.{head_alone}
 use Rattle.timing.specs.declared.Rules.{Rules}
-use Rattle.timing.specs.declared.SetUp.{SetUp}
-use Rattle.timing.specs.declared.SetUp.TheVariants.{Fresh, Refused as NotSetUp}
+use Rattle.timing.specs.Answers.{SetUp}
 use Rattle.timing.specs.Step.{of_profile, rules_of}
 use Rattle.timing.specs.Range.{in_range}
 use Rattle.timing.specs.Answers.{set_up_as}
@@ -67,8 +66,8 @@ unfolding ready_of
 ready_headed x c bytes h = go (set_up_as (of_profile x.profile x.parameters))
   where
     go : (a : SetUp) → Headed (ready_by a c) bytes
-    go (Fresh s) = h
-    go (NotSetUp n) = tt
+    go (Ok s) = h
+    go (Err n) = tt
 
 pub begin_headed : (w : List ℕ) (last : Bool) → Headed (begin_of w last) (length w)
 unfolding begin_of

@@ -1,13 +1,12 @@
 -- The program's whole output for a file, in document 01's words: what the file reads as, measured, line by line.
-use Rattle.std.specs.Prelude.{◌∷◌, ◌++◌}
+use Rattle.std.specs.Prelude.{◌∷◌, ◌++◌, Err, Ok}
 use Rattle.laws.specs.Kit.{List, [], ℕ}
 use Rattle.frame.specs.declared.Row.{Row}
 use Rattle.text.specs.Lines.{row_line, summary_line, refusal_line}
 use Rattle.record.specs.Paper.{Heading, resolved, Ending, done, stopped, Packets, packets_in, Reading, unread, read, reading_of}
 use Rattle.timing.specs.declared.Rules.{Rules}
 use Rattle.timing.specs.declared.State.{State}
-use Rattle.timing.specs.declared.Judged.{Judged}
-use Rattle.timing.specs.declared.Judged.TheVariants.{Given, Refused as NotJudged}
+use Rattle.timing.specs.Answers.{Judged}
 use Rattle.timing.specs.Answers.{verdict_of}
 use Rattle.limits.specs.Paper.{profile_of}
 use Rattle.timing.specs.declared.StreamNumbers.{StreamNumbers}
@@ -21,8 +20,8 @@ row_lines (r ∷ rs) = row_line r ++ row_lines rs
 -- L3: "then one last line: packets, frames closed, peak, verdicts"; a state that set-up and accepted packets lead to has a verdict
 -- (proofs/Output.antt, last_line)
 abbrev pub judged_line : State → Judged → List ℕ
-judged_line s (Given v) = summary_line s.past.packets s.frames.closed s.bucket.peak v.network v.buffer
-judged_line s (NotJudged number) = refusal_line number 0
+judged_line s (Ok v) = summary_line s.past.packets s.frames.closed s.bucket.peak v.network v.buffer
+judged_line s (Err number) = refusal_line number 0
 
 abbrev pub sum_line : State → List ℕ
 sum_line s = judged_line s (verdict_of s)

@@ -1,5 +1,5 @@
 -- A file in pieces, step by step: what its start answers, and what a call takes of a window and writes; what the contracts cite.
-use Rattle.std.specs.Prelude.{◌≡◌, ◌++◌, ◌+◌, ◌-◌, ◌/◌, ◌≤◌}
+use Rattle.std.specs.Prelude.{◌≡◌, ◌++◌, ◌+◌, ◌-◌, ◌/◌, ◌≤◌, Err, Ok}
 use Rattle.laws.specs.Kit.{Bool, false, not, List, [], ℕ, zero, suc, ltb, eqb, length, drop, sets}
 use Rattle.laws.specs.Choose.{pick}
 use Rattle.packet.specs.declared.Packet as packet
@@ -17,8 +17,7 @@ use Rattle.record.specs.Step.{head_piece, next_piece}
 use Rattle.record.specs.Pieces.{wants_more}
 use Rattle.timing.specs.declared.Rules.{Rules}
 use Rattle.timing.specs.declared.State.{State}
-use Rattle.timing.specs.declared.SetUp.{SetUp}
-use Rattle.timing.specs.declared.SetUp.TheVariants.{Fresh, Refused as NotSetUp}
+use Rattle.timing.specs.Answers.{SetUp}
 use Rattle.timing.specs.Step.{of_profile, rules_of, step_of, rows_of}
 use Rattle.timing.specs.Range.{in_range}
 use Rattle.timing.specs.Feed.{MakeAsks}
@@ -32,8 +31,8 @@ use Rattle.printer.specs.Paper.{row_lines, sum_line}
 -- ---- the start of a file
 
 abbrev pub ready_by : SetUp → Cursor → Opened
-ready_by (Fresh s) c = Opens (record { at = c; state = s })
-ready_by (NotSetUp number) c = Unopened number 1
+ready_by (Ok s) c = Opens (record { at = c; state = s })
+ready_by (Err number) c = Unopened number 1
 
 unfoldable pub ready_of : FileNumbers → Cursor → Opened
 ready_of x c = ready_by (set_up_as (of_profile x.profile x.parameters)) c

@@ -1,11 +1,10 @@
 -- The ways out of set-up and of a call, one law each, from what the code has found.
-use Rattle.std.specs.Prelude.{◌≡◌, ◌≤◌, ◌<◌}
+use Rattle.std.specs.Prelude.{◌≡◌, ◌≤◌, ◌<◌, Ok}
 use Rattle.laws.specs.Kit.{refl, sym, ap, ◌∙◌, List, ℕ, arith, ℤ, length, take, length-take, sets, ne_eqb, le-leb, lt-leb}
 use Rattle.laws.proofs.Choose.{second, before}
 use Rattle.timing.specs.declared.Stated.{Stated}
 use Rattle.timing.specs.declared.State.{State}
-use Rattle.timing.specs.declared.Fed.{Fed}
-use Rattle.timing.specs.declared.Fed.TheVariants.{Accepted, Refused}
+use Rattle.timing.specs.Feed.{Fed, not_fed}
 use Rattle.timing.specs.Step.{stated_of, stated_refusal, fresh_of}
 use Rattle.timing.specs.Answers.{summary_width, summary_of}
 use Rattle.timing.specs.Feed.{feed_of, FeedGives}
@@ -75,8 +74,8 @@ module _ (words : List ℕ) (rows : List ℤ) (out ts ss ms : List ℕ) where
     where
       fed : (s : State) (b : Fed) (after : List ℤ) → by_fed words rows out s b after
           ≡ refused words rows out (by_fed words rows out s b after).number (by_fed words rows out s b after).place
-      fed s (Accepted t) after = rw (lt-leb summary_width (length out) h)
-      fed s (Refused number place t) after = refl
+      fed s (Ok t) after = rw (lt-leb summary_width (length out) h)
+      fed s (not_fed number place t) after = refl
 
       go : (x : Held) → by_held words rows out ts ss ms x
           ≡ refused words rows out (by_held words rows out ts ss ms x).number (by_held words rows out ts ss ms x).place
@@ -100,18 +99,18 @@ module _ (words : List ℕ) (rows : List ℤ) (out ts ss ms : List ℕ) where
     by_fed_lem : by_fed words rows out s b (feed_of s rows ts ss ms).rows ≡ call_of words rows out ts ss ms
     by_fed_lem = ap (λ (z : Fed). by_fed words rows out s z (feed_of s rows ts ss ms).rows) g.answer_is ∙ by_held_lem (sym f ∙ e)
 
-    pub call_refused : {k place : ℕ} {t : State} → b ≡ Refused k place t → CallGives (call_of words rows out ts ss ms) k words after out
+    pub call_refused : {k place : ℕ} {t : State} → b ≡ not_fed k place t → CallGives (call_of words rows out ts ss ms) k words after out
     call_refused {k} {place} {t} q =
         let stays = refused_stays s t rows ts ss ms k place (sym g.answer_is ∙ q) in
         let told = ap (λ (z : Fed). by_fed words rows out s z (feed_of s rows ts ss ms).rows) (sym q) ∙ by_fed_lem in
         let r = is (refused words rows out k place) told in
         record { number_is = r.number_is; words_are = r.words_are; rows_are = g.rows_are ∙ stays.1 ∙ r.rows_are; out_is = r.out_is }
 
-    pub call_accepted : {t : State} {words' out' : List ℕ} → b ≡ Accepted t → summary_width ≤ length out → words' ≡ sets words 0 (words_of t)
+    pub call_accepted : {t : State} {words' out' : List ℕ} → b ≡ Ok t → summary_width ≤ length out → words' ≡ sets words 0 (words_of t)
         → out' ≡ sets out 0 (summary_of t) → CallGives (call_of words rows out ts ss ms) 0 words' after out'
     call_accepted {t} q room w o =
         let now = accepted words rows out t (feed_of s rows ts ss ms).rows in
-        let enough : by_fed words rows out s (Accepted t) (feed_of s rows ts ss ms).rows ≡ now =
+        let enough : by_fed words rows out s (Ok t) (feed_of s rows ts ss ms).rows ≡ now =
         rw (le-leb summary_width (length out) room) in
         let told = sym enough ∙ ap (λ (z : Fed). by_fed words rows out s z (feed_of s rows ts ss ms).rows) (sym q) ∙ by_fed_lem in
         let r = is now told in

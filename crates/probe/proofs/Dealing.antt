@@ -1,5 +1,5 @@
 -- What the C functions over a state in words do: each from what `feed` does, by the words that carry its state.
-use Rattle.std.specs.Prelude.{◌≡◌, ◌∷◌, ◌≤◌}
+use Rattle.std.specs.Prelude.{◌≡◌, ◌∷◌, ◌≤◌, Ok}
 use Rattle.laws.specs.Kit.{refl, sym, ap, ◌∙◌, subst, Bool, true, false, List, [], map, ℕ, arith, leb, ℤ, length}
 use Rattle.laws.specs.Kit.{take, sets, le-leb}
 use Rattle.laws.specs.Choose.{pick}
@@ -8,8 +8,7 @@ use Rattle.limits.proofs.Editions.{in_fine}
 use Rattle.timing.specs.declared.StreamNumbers.{StreamNumbers}
 use Rattle.timing.specs.declared.Stated.{Stated}
 use Rattle.timing.specs.declared.State.{State}
-use Rattle.timing.specs.declared.Fed.{Fed}
-use Rattle.timing.specs.declared.Fed.TheVariants.{Accepted, Refused}
+use Rattle.timing.specs.Feed.{Fed, not_fed}
 use Rattle.timing.specs.Step.{set_up_of, stated_of, stated_as, stated_refusal, rules_of, fresh_of, numbers}
 use Rattle.timing.specs.History.{AcceptedHistory, reached, rows_of_all}
 use Rattle.timing.specs.Answers.{summary_width, fed_number, fed_place}
@@ -58,8 +57,8 @@ module _ (words : List ℕ) (rows : List ℤ) (out ts ss ms : List ℕ) where
 
       fed : (s : State) (b : Fed) (after : List ℤ) → ((by_fed words rows out s b after).number ≡ 0 → ⊥)
           → Unchanged words rows out (by_fed words rows out s b after)
-      fed s (Accepted t) after n = room s.past.packets t after (leb summary_width (length out)) n
-      fed s (Refused number place t) after n = (refl, refl, refl)
+      fed s (Ok t) after n = room s.past.packets t after (leb summary_width (length out)) n
+      fed s (not_fed number place t) after n = (refl, refl, refl)
 
       go : (h : Held) → ((by_held words rows out ts ss ms h).number ≡ 0 → ⊥) → Unchanged words rows out (by_held words rows out ts ss ms h)
       go (Known s) n = fed s (feed_of s rows ts ss ms).answer (feed_of s rows ts ss ms).rows n
@@ -80,11 +79,11 @@ module _ (words : List ℕ) (rows : List ℤ) (out ts ss ms : List ℕ) where
       where
         go : (b : Fed) (after : List ℤ) → ((by_fed words rows out s b after).number ≡ fed_number b)
             × ((by_fed words rows out s b after).place ≡ fed_place b)
-        go (Accepted t) after = rw (le-leb summary_width (length out) nine) (refl, refl)
-        go (Refused number place t) after = (refl, refl)
+        go (Ok t) after = rw (le-leb summary_width (length out) nine) (refl, refl)
+        go (not_fed number place t) after = (refl, refl)
 
     -- and where it accepts: its state's words, its rows, and the nine numbers of that state
-    pub as_accepted : (t : State) (after : List ℤ) → feed_of s rows ts ss ms ≡ record { answer = Accepted t; rows = after }
+    pub as_accepted : (t : State) (after : List ℤ) → feed_of s rows ts ss ms ≡ record { answer = Ok t; rows = after }
         → call_of words rows out ts ss ms ≡ accepted words rows out t after
     unfolding call_of
     as_accepted t after f = rw (e, f, le-leb summary_width (length out) nine)

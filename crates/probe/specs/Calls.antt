@@ -1,11 +1,10 @@
 -- The C functions over a state in words: the number that comes back, its place, and what the lent slices hold then.
-use Rattle.std.specs.Prelude.{◌≡◌}
+use Rattle.std.specs.Prelude.{◌≡◌, Ok}
 use Rattle.laws.specs.Kit.{List, ℕ, leb, eqb, ℤ, pos, length, take, replicate, sets}
 use Rattle.laws.specs.Choose.{pick, or_else}
 use Rattle.timing.specs.declared.Stated.{Stated}
 use Rattle.timing.specs.declared.State.{State}
-use Rattle.timing.specs.declared.Fed.{Fed}
-use Rattle.timing.specs.declared.Fed.TheVariants.{Accepted, Refused}
+use Rattle.timing.specs.Feed.{Fed, not_fed}
 use Rattle.timing.specs.Step.{stated_of, stated_refusal, fresh_of}
 use Rattle.timing.specs.Answers.{summary_width, summary_with, summary_of}
 use Rattle.timing.specs.Feed.{feed_of}
@@ -50,8 +49,8 @@ module _ (words : List ℕ) (rows : List ℤ) (out : List ℕ) where
 
   -- X8: what `feed` answers from the state s; where it accepts, 15 after all else if fewer than nine numbers are lent for the summary
   abbrev pub by_fed : State → Fed → List ℤ → CallOutcome
-  by_fed s (Accepted t) after = pick (leb summary_width (length out)) (accepted t after) (refused 15 s.past.packets)
-  by_fed s (Refused number place t) after = refused number place
+  by_fed s (Ok t) after = pick (leb summary_width (length out)) (accepted t after) (refused 15 s.past.packets)
+  by_fed s (not_fed number place t) after = refused number place
 
   module _ (ts ss ms : List ℕ) where
     -- X7, N4: "9 exactly a state [..] with a number outside its range": so words that hold no state are 9 too

@@ -1,6 +1,6 @@
 -- A file whose bytes are packets' records, gone through by a run that is admitted, finishes as the walk over it does. By the records: each
 -- stands whole, so that the format refuses none, and no packet is refused either, as a run that is admitted says.
-use Rattle.std.specs.Prelude.{◌≡◌, ◌&&◌, ◌||◌, ◌∷◌, ◌+◌, ◌*◌, None, Some}
+use Rattle.std.specs.Prelude.{◌≡◌, ◌&&◌, ◌||◌, ◌∷◌, ◌+◌, ◌*◌, None, Some, Ok}
 use Rattle.laws.specs.Kit.{refl, sym, ap, subst, ◌∙◌, Bool, true, false, and-false, List, [], ℕ, zero, suc}
 use Rattle.std.specs.Prelude.{◌/◌, ◌%◌, ◌<◌}
 use Rattle.laws.specs.Kit.{arith, eqb, length, drop, length-drop, eq-eqb, ne_eqb, eqb-true}
@@ -10,7 +10,6 @@ use Rattle.packet.specs.declared.Packet.{Packet}
 use Rattle.packet.specs.declared.Past.{Past}
 use Rattle.packet.specs.declared.Run.{Run}
 use Rattle.packet.specs.Quick.{Ran}
-use Rattle.packet.specs.declared.Scanned.TheVariants as scanned
 use Rattle.packet.specs.Paper.{marked}
 use Rattle.packet.specs.Step.{nothing, number_of, next_of, closes, no_packets, scan_of}
 use Rattle.packet.specs.Quick.{start_of, takes_of, runs_of, ran_of, admits_of, closed_by}
@@ -97,7 +96,7 @@ pieces_run (suc k) r z l e =
 
 -- where the scan refuses none of them, they are what the bytes read as
 pieces_read : (k : ℕ) (r z : Run) (l : List ℕ) (past : Past) (begun : Bool) (closed at n : ℕ) → ran_in r k l ≡ Some z
-    → length l ≡ packet_bytes * k → scan_of past begun closed (pieces k l) ≡ scanned.Fine n
+    → length l ≡ packet_bytes * k → scan_of past begun closed (pieces k l) ≡ Ok n
     → packets_in past at l ≡ record { accepted = pieces k l; ending = done }
 unfolding pieces
 pieces_read zero r z l past begun closed at n e f s = packets_end past at l (omega arith)
@@ -122,7 +121,7 @@ quick_finish numbers at l (suc k) {z} h f e a =
     let ps = pieces (suc k) l in
     let many = pieces_length (suc k) l in
     let admitted = ap (λ (n : ℕ). admits_of nothing n (packet_at l).time z.last) many ∙ a in
-    let fine : scan_of nothing false 0 ps ≡ scanned.Fine (closed_by z) =
+    let fine : scan_of nothing false 0 ps ≡ Ok (closed_by z) =
     run_scans nothing false {ps = pieces k (drop packet_bytes l)} refl (pieces_run (suc k) (start_of nothing false) z l e) admitted in
     let closed = fine_count ps (closed_by z) (sym (scan_declared ps) ∙ fine) in
     sym (ap (finish numbers no_packets) (pieces_read (suc k) (start_of nothing false) z l nothing false 0 at (closed_by z) e f fine)

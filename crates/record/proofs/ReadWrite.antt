@@ -1,12 +1,11 @@
 -- Writing what was read: each accepted record is the bytes of its own fields, and the rest follows. By how many bytes there are.
-use Rattle.std.specs.Prelude.{◌≡◌, ◌||◌, ◌∷◌, ◌++◌, ◌+◌, ◌≤◌}
+use Rattle.std.specs.Prelude.{◌≡◌, ◌||◌, ◌∷◌, ◌++◌, ◌+◌, ◌≤◌, Ok}
 use Rattle.laws.specs.Kit.{refl, sym, ap, subst, ◌∙◌, Bool, true, false, List, [], ℕ, zero, suc, arith}
 use Rattle.laws.specs.Kit.{ℕ_discrete, length, take, drop, length-drop, drop-drop}
 use Rattle.laws.proofs.Choose.{neither}
 use Rattle.endian.specs.Number.{Bytes}
 use Rattle.endian.proofs.Width.{bytes_drop}
 use Rattle.packet.specs.declared.Past.{Past}
-use Rattle.packet.specs.declared.Scanned.TheVariants as scan
 use Rattle.packet.specs.declared.Packet.{Packet}
 use Rattle.packet.specs.Paper.{marked, packets, OneLength}
 use Rattle.packet.specs.Step.{nothing, number_of, next_of, closes, scan_of}
@@ -61,7 +60,7 @@ packets_again (suc k) past at l h b e =
 
 -- and the scan refuses none of them
 pub packets_scan : (k : ℕ) (past : Past) (begun : Bool) (closed at : ℕ) (l : List ℕ) → length l ≤ k
-    → (packets_in past at l).ending ≡ done → (n : ℕ) × (scan_of past begun closed (packets_in past at l).accepted ≡ scan.Fine n)
+    → (packets_in past at l).ending ≡ done → (n : ℕ) × (scan_of past begun closed (packets_in past at l).accepted ≡ Ok n)
 packets_scan zero past begun closed at l h e =
     (closed, scan_ends past begun closed (ap (λ p. p.accepted) (packets_end past at l (omega arith))))
 packets_scan (suc k) past begun closed at l h e =
@@ -78,8 +77,8 @@ packets_scan (suc k) past begun closed at l h e =
     go : Dec (length l ≡ 0) → Dec (packet_refusal past l ≡ 0)
         → (length (drop packet_bytes l) ≤ k → next.ending ≡ done
         → (n : ℕ)
-        × (scan_of (next_of past p_time) (begun || marked (packet_at l)) (closed + closes begun (packet_at l)) next.accepted ≡ scan.Fine n))
-        → (n : ℕ) × (scan_of past begun closed (packets_in past at l).accepted ≡ scan.Fine n)
+        × (scan_of (next_of past p_time) (begun || marked (packet_at l)) (closed + closes begun (packet_at l)) next.accepted ≡ Ok n))
+        → (n : ℕ) × (scan_of past begun closed (packets_in past at l).accepted ≡ Ok n)
     go (yes z) d rest = (closed, scan_ends past begun closed (ap (λ p. p.accepted) (packets_end past at l z)))
     go (no n) (no r) rest =
         absurd (stopped_done _ _ (sym (ap (λ p. p.ending) (packets_stop past at l _ (omega arith) refl (omega arith))) ∙ e))
@@ -102,7 +101,7 @@ pub record FileHolds (s : List ℕ) (h : Heading) (ps : List Packet) : Type 0 wh
   pub writable : heading_refusal h ≡ 0
   pub all_read : packets_in nothing head_bytes (drop head_bytes s) ≡ record { accepted = ps; ending = done }
   pub closed : ℕ
-  pub scan_fine : scan_of nothing false 0 ps ≡ scan.Fine closed
+  pub scan_fine : scan_of nothing false 0 ps ≡ Ok closed
 
 pub file_holds : (s : List ℕ) (h : Heading) (ps : List Packet) → file_of s ≡ file h ps → FileHolds s h ps
 file_holds s h ps e = go (version_fits s) refl (ℕ_discrete (parameters_refusal (version_of s) (drop 1 s)) 0)

@@ -1,12 +1,11 @@
 -- Reading what was written: each record stands at the front with its own fields, is accepted as it was, and the rest follows.
 -- By the list of packets.
-use Rattle.std.specs.Prelude.{◌≡◌, ◌||◌, ◌∷◌, ◌++◌, ◌+◌, ◌<◌}
+use Rattle.std.specs.Prelude.{◌≡◌, ◌||◌, ◌∷◌, ◌++◌, ◌+◌, ◌<◌, Ok}
 use Rattle.laws.specs.Kit.{refl, sym, ap, ◌∙◌, Bool, false, List, [], ℕ, arith, length, take, drop}
 use Rattle.laws.specs.Kit.{length-append, drop_at, eq-eqb}
 use Rattle.laws.specs.Choose.{AllBelow}
 use Rattle.laws.proofs.Choose.{second}
 use Rattle.packet.specs.declared.Past.{Past}
-use Rattle.packet.specs.declared.Scanned.TheVariants as scan
 use Rattle.packet.specs.declared.Packet.{Packet}
 use Rattle.packet.specs.Paper.{marked, packets}
 use Rattle.packet.specs.Step.{nothing, number_of, next_of, closes, scan_of}
@@ -53,7 +52,7 @@ packet_format p rest f =
     there false l here ∙ rw (length_14, packet_2)
 
 pub packets_written : (ps : List Packet) (past : Past) (begun : Bool) (closed n at : ℕ) → PacketsHeld ps
-    → scan_of past begun closed ps ≡ scan.Fine n → packets_in past at (records_of ps) ≡ every ps
+    → scan_of past begun closed ps ≡ Ok n → packets_in past at (records_of ps) ≡ every ps
 unfolding records_of
 packets_written [] past begun closed n at held e = packets_end past at [] refl
 packets_written (p ∷ ps) past begun closed n at held e =
@@ -74,7 +73,7 @@ packets_written (p ∷ ps) past begun closed n at held e =
 
 -- the whole file
 pub file_written : (s : Heading) (ps : List Packet) (n : ℕ) → ParametersHeld s.parameters → PacketsHeld ps
-    → heading_refusal s ≡ 0 → scan_of nothing false 0 ps ≡ scan.Fine n → reading_of (bytes_in s ps) ≡ read s (every ps)
+    → heading_refusal s ≡ 0 → scan_of nothing false 0 ps ≡ Ok n → reading_of (bytes_in s ps) ≡ read s (every ps)
 unfolding bytes_in
 file_written s ps n hs hp e f =
     let fine = heading_fine s e in

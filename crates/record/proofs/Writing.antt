@@ -1,5 +1,5 @@
 -- The writer's answers, one law for each way out, and what it leaves in the lent bytes: the file, and beyond it what was there.
-use Rattle.std.specs.Prelude.{◌≡◌, ◌∷◌, ◌++◌, ◌*◌, ◌≤◌, ◌<◌}
+use Rattle.std.specs.Prelude.{◌≡◌, ◌∷◌, ◌++◌, ◌*◌, ◌≤◌, ◌<◌, Err, Ok}
 use Rattle.laws.specs.Kit.{refl, sym, ap, ◌∙◌, true, false, List, [], ℕ, suc, arith, zero-add, length, take}
 use Rattle.laws.specs.Kit.{drop, get_or, length-append, sets, sets-eq, take_at, leb, eqb, eq-eqb, ne_eqb, le-leb, lt-leb, leb-true}
 use Rattle.laws.specs.Kit.{eqb-true}
@@ -8,7 +8,6 @@ use Rattle.laws.proofs.Choose.{pick_either, neither}
 use Rattle.packet.specs.declared.Past.{Past}
 use Rattle.refusal.specs.Told.{Numbered}
 use Rattle.packet.specs.Paper.{Scanned}
-use Rattle.packet.specs.declared.Scanned.TheVariants as scan
 use Rattle.packet.specs.declared.Packet.{Packet}
 use Rattle.packet.specs.Paper.{packets, OneLength}
 use Rattle.packet.specs.Step.{nothing, scanned_of}
@@ -112,11 +111,11 @@ module _ (s : Heading) (ts ss ms : List ℕ) (room : ℕ) where
     unfolding written_of
     scanned e = rw (eq-eqb (heading_refusal s) 0 fine, e)
 
-    pub answers_scan : {r : Numbered} {w : Written} → scanned_of nothing false ts ss ms ≡ scan.Refused r → w ≡ Refused r.number r.place
+    pub answers_scan : {r : Numbered} {w : Written} → scanned_of nothing false ts ss ms ≡ Err r → w ≡ Refused r.number r.place
         → w ≡ written_of s ts ss ms room
     answers_scan e f = f ∙ sym (scanned e)
 
-    module _ {closed : ℕ} (e : scanned_of nothing false ts ss ms ≡ scan.Fine closed) where
+    module _ {closed : ℕ} (e : scanned_of nothing false ts ss ms ≡ Ok closed) where
       pub answers_24 : room < file_length (length ts) → Refused 24 0 ≡ written_of s ts ss ms room
       answers_24 h = sym (scanned e ∙ rw (lt-leb (file_length (length ts)) room h))
 
@@ -124,7 +123,7 @@ module _ (s : Heading) (ts ss ms : List ℕ) (room : ℕ) where
       answers_done h = sym (scanned e ∙ rw (le-leb (file_length (length ts)) room h))
 
 -- a scan that is fine: slices of one length, and by 14 at most 1,000,000,000 packets
-module _ (ts ss ms : List ℕ) {closed : ℕ} (e : scanned_of nothing false ts ss ms ≡ scan.Fine closed) where
+module _ (ts ss ms : List ℕ) {closed : ℕ} (e : scanned_of nothing false ts ss ms ≡ Ok closed) where
   pub same_slices : OneLength ts ss ms
   same_slices = (scanned_fine nothing false ts ss ms closed e).0
 
@@ -150,7 +149,7 @@ fitting_done needed room n =
 pub record WasWritten (s : Heading) (ts ss ms : List ℕ) (room n : ℕ) : Type 0 where
   pub set_up : heading_refusal s ≡ 0
   pub closed : ℕ
-  pub scan_fine : scanned_of nothing false ts ss ms ≡ scan.Fine closed
+  pub scan_fine : scanned_of nothing false ts ss ms ≡ Ok closed
   pub enough : file_length (length ts) ≤ room
   pub size : n ≡ file_length (length ts)
 
@@ -162,10 +161,10 @@ was_written s ts ss ms room n =
   where
     go : (a : Scanned) → scanned_of nothing false ts ss ms ≡ a → heading_refusal s ≡ 0
         → Done n ≡ scanning a (file_length (length ts)) room → WasWritten s ts ss ms room n
-    go (scan.Fine k) f u e =
+    go (Ok k) f u e =
         let d = fitting_done (file_length (length ts)) room n e in
         record { set_up = u; closed = k; scan_fine = f; enough = d.0; size = d.1 }
-    go (scan.Refused r) f u e = absurd (done_refused n _ _ e)
+    go (Err r) f u e = absurd (done_refused n _ _ e)
 
 -- refused, the lent bytes stay; else they are the file and what was beyond it
 pub leaves_all : (s : Heading) (ts ss ms out : List ℕ) {w : Written} {n o : ℕ} → w ≡ written_of s ts ss ms (length out) → w ≡ Refused n o

@@ -1,9 +1,8 @@
 -- What the writer answers, and what it leaves in the lent bytes.
-use Rattle.std.specs.Prelude.{◌≡◌, ◌++◌, ◌+◌, ◌*◌, ◌≤◌}
+use Rattle.std.specs.Prelude.{◌≡◌, ◌++◌, ◌+◌, ◌*◌, ◌≤◌, Err, Ok}
 use Rattle.laws.specs.Kit.{false, List, ℕ, leb, eqb, length, drop}
 use Rattle.laws.specs.Choose.{pick, or_else}
 use Rattle.packet.specs.Paper.{Scanned}
-use Rattle.packet.specs.declared.Scanned.TheVariants as scan
 use Rattle.packet.specs.Paper.{packets, OneLength}
 use Rattle.packet.specs.Step.{nothing, scanned_of}
 use Rattle.record.specs.declared.Written.{Written}
@@ -30,8 +29,8 @@ heading_refusal h = or_else (version_refusal h.version) (or_else (profile_refusa
 
 -- N12: 10 to 14, "the packet's place in the history (0 for 1 to 10 and 24)"
 abbrev pub scanning : Scanned → ℕ → ℕ → Written
-scanning (scan.Fine closed) needed room = fitting needed room
-scanning (scan.Refused r) needed room = Refused r.number r.place
+scanning (Ok closed) needed room = fitting needed room
+scanning (Err r) needed room = Refused r.number r.place
 
 -- F9: after 20 and 22, "The writer refuses by 1 to 7, 10 to 14, then 24"
 unfoldable pub written_of : Heading → List ℕ → List ℕ → List ℕ → ℕ → Written

@@ -1,5 +1,5 @@
 -- The start of a capture: set-up, the offset and the header; what an answer to the first window says of the whole capture. By these in order.
-use Rattle.std.specs.Prelude.{◌≡◌, ◌++◌, ◌+◌, ◌≤◌, ◌<◌}
+use Rattle.std.specs.Prelude.{◌≡◌, ◌++◌, ◌+◌, ◌≤◌, ◌<◌, Err, Ok}
 use Rattle.laws.specs.Kit.{refl, sym, ap, ◌∙◌, Bool, true, List, [], append-nil, ℕ, arith, ltb, leb}
 use Rattle.laws.specs.Kit.{eqb, length, take, drop, length-append, length-drop, drop-append-le, take-append-le, le-leb, lt-leb, leb-true, leb-false}
 use Rattle.laws.specs.Kit.{eqb-true, eqb-false, ne_eqb, eq-eqb, le-ltb, lt-ltb, ltb-true, ltb-false}
@@ -13,8 +13,7 @@ use Rattle.capture.specs.declared.Opened.{Opened}
 use Rattle.capture.specs.Paper.{header_bytes, Header, capture, unknown, linked_by, magic_by, header_of, records_in}
 use Rattle.capture.specs.Step.{opened_by, opened_of, rest_from}
 use Rattle.timing.specs.declared.State.{State}
-use Rattle.timing.specs.declared.SetUp.{SetUp}
-use Rattle.timing.specs.declared.SetUp.TheVariants.{Fresh, Refused as NotSetUp}
+use Rattle.timing.specs.Answers.{SetUp}
 use Rattle.timing.specs.Step.{stated_of, stated_refusal, rules_of, fresh_of}
 use Rattle.timing.specs.Answers.{stated_up}
 use Rattle.timing.proofs.Stating.{stated_fine}
@@ -28,11 +27,11 @@ use Rattle.reel.specs.Step.{open_by, ready_of, set_up_by, begin_of, rest_by, Sta
 -- ---- each way out of the code
 
 module _ (a : Asked) (w : List ℕ) (last : Bool) {u : SetUp} (e : u ≡ stated_up a.stated) where
-  pub begins_refused : {number : ℕ} → u ≡ NotSetUp number → threaded.Refused number ≡ begin_of a w last
+  pub begins_refused : {number : ℕ} → u ≡ Err number → threaded.Refused number ≡ begin_of a w last
   unfolding begin_of
   begins_refused f = rw (← e, f)
 
-  module _ {s : State} (f : u ≡ Fresh s) where
+  module _ {s : State} (f : u ≡ Ok s) where
     pub begins_33 : 99 < a.offset → threaded.Refused 33 ≡ begin_of a w last
     unfolding begin_of
     begins_33 h = rw (← e, f, lt-leb a.offset 99 h)
@@ -134,8 +133,8 @@ begin_answered a w last h = go (stated_up a.stated)
     headed s unknown = tt
 
     go : (u : SetUp) → Answered (set_up_by a w last u)
-    go (NotSetUp number) = tt
-    go (Fresh s) =
+    go (Err number) = tt
+    go (Ok s) =
         pick_either Answered (leb a.offset 99)
         (λ f. pick_either (λ (o : Opened). Answered (open_by a s o)) (ltb (length w) header_bytes)
         (λ e. pick_either (λ (o : Opened). Answered (open_by a s o)) last (λ t. tt)

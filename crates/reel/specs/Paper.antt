@@ -1,18 +1,16 @@
 -- The program's whole output for a capture, in the request's words: what the capture holds, measured, line by line.
-use Rattle.std.specs.Prelude.{◌∷◌, ◌++◌, ◌+◌, ◌%◌}
+use Rattle.std.specs.Prelude.{◌∷◌, ◌++◌, ◌+◌, ◌%◌, Err, Ok}
 use Rattle.laws.specs.Kit.{List, [], ℕ, leb, eqb, length, take, drop}
 use Rattle.laws.specs.Choose.{pick}
 use Rattle.packet.specs.declared.Packet as packets
 use Rattle.packet.specs.Paper.{Scanned}
-use Rattle.packet.specs.declared.Scanned.TheVariants as scanned
 use Rattle.packet.specs.Step.{number_of}
 use Rattle.text.specs.Lines.{capture_line, refusal_line}
 use Rattle.capture.specs.Paper.{header_bytes, Header, capture, unknown, header_of, Found, packet, skipped, Ending, done, stopped, Records, records_in}
 use Rattle.capture.specs.Paper.{handed_on, skipped_in}
 use Rattle.timing.specs.declared.Rules.{Rules}
 use Rattle.timing.specs.declared.State.{State}
-use Rattle.timing.specs.declared.Judged.{Judged}
-use Rattle.timing.specs.declared.Judged.TheVariants.{Given, Refused as NotJudged}
+use Rattle.timing.specs.Answers.{Judged}
 use Rattle.timing.specs.Answers.{verdict_of}
 use Rattle.timing.specs.Step.{stated_of, stated_refusal, rules_of, fresh_of, step_of, rows_of, state_after, rows_after}
 use Rattle.printer.specs.Paper.{row_lines}
@@ -24,9 +22,9 @@ counted n = n % 18446744073709551616
 
 -- R17: "the last line goes on with `records R skipped S`"
 abbrev pub judged_line : State → ℕ → ℕ → Judged → List ℕ
-judged_line s records skips (Given v) =
+judged_line s records skips (Ok v) =
     capture_line s.past.packets s.frames.closed s.bucket.peak v.network v.buffer records skips
-judged_line s records skips (NotJudged number) = refusal_line number 0
+judged_line s records skips (Err number) = refusal_line number 0
 
 unfoldable pub captured_line : State → ℕ → ℕ → List ℕ
 captured_line s records skips = judged_line s records skips (verdict_of s)
@@ -62,8 +60,8 @@ output_of a file =
 
 -- R17, L4: "after the rows closed before a refusal": the packets that are measured, all, or those before the refused one
 abbrev pub measured : Scanned → List packets.Packet → List packets.Packet
-measured (scanned.Fine closed) l = l
-measured (scanned.Refused r) l = take r.place l
+measured (Ok closed) l = l
+measured (Err r) l = take r.place l
 
 -- R8, R9, R17: the last line: of the packet that is refused; else of the record at which the capture stops; else the verdict
 abbrev pub last_by : Ending → State → ℕ → ℕ → List ℕ
@@ -71,8 +69,8 @@ last_by done s records skips = captured_line s records skips
 last_by (stopped number) s records skips = refusal_line number records
 
 abbrev pub last_of : Scanned → Ending → State → ℕ → ℕ → List ℕ
-last_of (scanned.Fine closed) e s records skips = last_by e s records skips
-last_of (scanned.Refused r) e s records skips = refusal_line r.number r.place
+last_of (Ok closed) e s records skips = last_by e s records skips
+last_of (Err r) e s records skips = refusal_line r.number r.place
 
 abbrev pub printed_by : Scanned → Rules → State → Records → List ℕ
 printed_by x rules s r =

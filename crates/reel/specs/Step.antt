@@ -1,5 +1,5 @@
 -- A capture in pieces, step by step: what its start answers, and what a call takes of a window and writes; what the contracts cite.
-use Rattle.std.specs.Prelude.{◌≡◌, ◌++◌, ◌+◌, ◌-◌, ◌≤◌, ◌<◌}
+use Rattle.std.specs.Prelude.{◌≡◌, ◌++◌, ◌+◌, ◌-◌, ◌≤◌, ◌<◌, Err, Ok}
 use Rattle.laws.specs.Kit.{Bool, true, false, List, [], ℕ, zero, suc, ltb, leb, eqb, length, drop, sets}
 use Rattle.laws.specs.Choose.{pick}
 use Rattle.packet.specs.declared.Packet as packet
@@ -13,8 +13,7 @@ use Rattle.capture.specs.declared.Ahead.TheVariants.{Packet, Wait, End, Refused}
 use Rattle.capture.specs.Step.{opened_of, between, ahead_of, rest_from}
 use Rattle.timing.specs.declared.Rules.{Rules}
 use Rattle.timing.specs.declared.State.{State}
-use Rattle.timing.specs.declared.SetUp.{SetUp}
-use Rattle.timing.specs.declared.SetUp.TheVariants.{Fresh, Refused as NotSetUp}
+use Rattle.timing.specs.Answers.{SetUp}
 use Rattle.timing.specs.Step.{rules_of, step_of, rows_of}
 use Rattle.timing.specs.Range.{in_range, Sound}
 use Rattle.timing.specs.Answers.{stated_up}
@@ -43,8 +42,8 @@ unfoldable pub ready_of : Asked → State → List ℕ → Bool → Threaded
 ready_of a s w last = open_by a s (opened_of w last)
 
 abbrev pub set_up_by : Asked → List ℕ → Bool → SetUp → Threaded
-set_up_by a w last (Fresh s) = pick (leb a.offset 99) (ready_of a s w last) (threaded.Refused 33)
-set_up_by a w last (NotSetUp number) = threaded.Refused number
+set_up_by a w last (Ok s) = pick (leb a.offset 99) (ready_of a s w last) (threaded.Refused 33)
+set_up_by a w last (Err number) = threaded.Refused number
 
 unfoldable pub begin_of : Asked → List ℕ → Bool → Threaded
 begin_of a w last = set_up_by a w last (stated_up a.stated)

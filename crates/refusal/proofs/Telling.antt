@@ -2,7 +2,8 @@
 -- read backwards: each number names one refusal or none.
 use Rattle.std.specs.Prelude.{◌≡◌, ◌∷◌, ℕ, List, [], Option, Some, None, Result, Ok, Err, get_or, refl}
 use Rattle.std.proofs.Common.{ap, sym, ◌∙◌}
-use Rattle.std.specs.Result.{MatchResult, IsErrAnd}
+use Rattle.std.specs.Prelude.{true, false}
+use Rattle.std.specs.Result.{is_err}
 use Rattle.refusal.specs.declared.Refusal.{Refusal}
 use Rattle.refusal.specs.declared.Refused.{Refused}
 use Rattle.refusal.specs.declared.Refusal.TheVariants.{Rate, Schedule, Class, Height, FramePackets, MaxUdp, Tro, Edition, State, Lengths}
@@ -77,9 +78,11 @@ told_unique (Err a) (Err b) e =
     let same : numbered a ≡ numbered b = cc in
     rw (numbered_unique a b same)
 
--- a refusal that is given its place: where the answer with the place is fine, nothing was refused
-pub placed_fine : {A : Type 0} → (a : Result A Refusal) (r : Result A Refused) (Q : Refusal → Refused → Type 0)
-    → MatchResult a (λ x. r ≡ Ok x) (λ e. IsErrAnd r (Q e)) → (x : A) → r ≡ Ok x → number_in a ≡ 0
-placed_fine (Ok y) r Q m x e = refl
-placed_fine (Err d) (Ok y) Q m x e = absurd m
-placed_fine (Err d) (Err y) Q m x e = absurd (cc)
+-- an answer is an error exactly where it has a number
+pub number_of_err : {A : Type 0} → (a : Result A Refusal) → is_err a ≡ true → number_in a ≡ 0 → ⊥
+number_of_err (Ok x) e n = absurd (cc)
+number_of_err (Err r) e n = number_some r n
+
+pub number_of_ok : {A : Type 0} → (a : Result A Refusal) → is_err a ≡ false → number_in a ≡ 0
+number_of_ok (Ok x) e = refl
+number_of_ok (Err r) e = absurd (cc)

@@ -1,12 +1,11 @@
 -- What the C calls do with a file and lent bytes: by cases on what the file reads as.
-use Rattle.std.specs.Prelude.{◌≡◌, ◌++◌, ◌*◌, ◌≤◌}
+use Rattle.std.specs.Prelude.{◌≡◌, ◌++◌, ◌*◌, ◌≤◌, Ok}
 use Rattle.laws.specs.Kit.{refl, sym, ap, ◌∙◌, Bool, true, false, List, map, append-nil, ℕ, arith, leb}
 use Rattle.laws.specs.Kit.{ℤ, pos, length, take, drop, sets, drop-length, length-append, le-leb, eqb}
 use Rattle.laws.specs.Choose.{pick}
 use Rattle.laws.proofs.Lay.{sets_front}
 use Rattle.packet.specs.declared.Packet.{Packet}
 use Rattle.timing.specs.declared.State.{State}
-use Rattle.timing.specs.declared.Fed.TheVariants.{Accepted}
 use Rattle.frame.specs.Step.{row_width}
 use Rattle.timing.specs.Step.{stream_with, rules_of, fresh_of, numbers}
 use Rattle.timing.specs.Answers.{summary_with, summary_of}
@@ -62,7 +61,7 @@ module _ (edition : ℕ) (s : List ℕ) where
 pub as_fed : (edition : ℕ) (s : List ℕ) (w : Heading) (ps : List Packet) → file_in edition s ≡ file w ps → (rows : List ℤ)
     → length rows ≡ length (numbers (rows_of (stream_of edition w) ps))
     → (state : State) × (written : List ℤ)
-    × (feed_all (fresh_of (stream_of edition w)) rows ps ≡ record { answer = Accepted state; rows = written })
+    × (feed_all (fresh_of (stream_of edition w)) rows ps ≡ record { answer = Ok state; rows = written })
     × (bytes_for edition w ps ≡ encoded (map pos (summary_of state) ++ written))
 unfolding feed_all
 as_fed edition s w ps e rows same =

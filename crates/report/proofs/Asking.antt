@@ -1,13 +1,12 @@
 -- A file is asked for and the room after it: the count of frames that the check gives tells how long the report is. So what is asked
 -- decides the number, the offset and the bytes, and a file that is fine can be measured.
-use Rattle.std.specs.Prelude.{◌≡◌, ◌++◌, ◌+◌, ◌-◌, ◌*◌, ◌/◌, ◌≤◌, ◌<◌}
+use Rattle.std.specs.Prelude.{◌≡◌, ◌++◌, ◌+◌, ◌-◌, ◌*◌, ◌/◌, ◌≤◌, ◌<◌, Ok}
 use Rattle.laws.specs.Kit.{refl, sym, ap, subst, ◌∙◌, Bool, true, false, List, map, ℕ, arith}
 use Rattle.laws.specs.Kit.{leb, pos, length, drop, length-append, length-map, sets, le-leb, lt-leb, leb-true, leb-false}
 use Rattle.laws.specs.Choose.{pick}
 use Rattle.laws.specs.Count.{count}
 use Rattle.laws.proofs.Count.{count_le}
 use Rattle.endian.specs.Number.{Bytes}
-use Rattle.packet.specs.declared.Scanned.TheVariants as scan
 use Rattle.packet.specs.declared.Packet.{Packet}
 use Rattle.packet.specs.Paper.{closes_at}
 use Rattle.packet.specs.Step.{nothing, scan_of}
@@ -61,7 +60,7 @@ length_report x ps =
     ∙ rw (length_naturals (summary_of (state_of x ps)), nine (state_of x ps)))
 
 -- as many rows as frames are counted
-rows_closed : (x : StreamNumbers) (ps : List Packet) (n : ℕ) → scan_of nothing false 0 ps ≡ scan.Fine n
+rows_closed : (x : StreamNumbers) (ps : List Packet) (n : ℕ) → scan_of nothing false 0 ps ≡ Ok n
     → length (rows_of x ps) ≡ count (closes_at ps) (length ps)
 rows_closed x ps n e =
     let runs = scan_runs ps (rules_of x) (fresh_of x) 0 n e in

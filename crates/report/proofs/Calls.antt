@@ -1,7 +1,7 @@
 -- The other C functions, one law for each way out: the writer's answer as a number, the four limits, the next read, the three
 -- doubles.
 use Rattle.record.specs.Paper.{Heading}
-use Rattle.std.specs.Prelude.{◌≡◌, ◌∷◌, ◌++◌, ◌≤◌, ◌<◌}
+use Rattle.std.specs.Prelude.{◌≡◌, ◌∷◌, ◌++◌, ◌≤◌, ◌<◌, Err, Ok}
 use Rattle.laws.specs.Kit.{refl, sym, ap, ◌∙◌, Bool, true, false, List, [], ℕ, arith, leb, eqb, ℤ, length}
 use Rattle.laws.specs.Kit.{drop, sets, sets-eq, ne_eqb}
 use Rattle.laws.specs.Kit.{eqb-false, le-leb, lt-leb}
@@ -11,16 +11,13 @@ use mir.Val.{SFits, to_z, of_z}
 use mir.Facts.{to_z-of_z}
 use Rattle.laws.proofs.Choose.{pick_either}
 use Rattle.packet.specs.Paper.{Scanned}
-use Rattle.packet.specs.declared.Scanned.TheVariants as scan
 use Rattle.packet.specs.Paper.{packets}
 use Rattle.packet.specs.Step.{nothing, scanned_of}
 use Rattle.packet.proofs.Turn.{scanned_some}
 use Rattle.timing.specs.declared.Stated.{Stated}
 use Rattle.timing.specs.declared.Graph.{Graph}
-use Rattle.timing.specs.declared.Drawn.{Drawn}
-use Rattle.timing.specs.declared.Drawn.TheVariants.{Figures, Refused as NotDrawn}
-use Rattle.timing.specs.declared.Awaited.{Awaited}
-use Rattle.timing.specs.declared.Awaited.TheVariants.{Refused as NotAwaited}
+use Rattle.timing.specs.Answers.{Drawn}
+use Rattle.timing.specs.Answers.{Awaited}
 use Rattle.timing.specs.Step.{stated_of, stated_refusal}
 use Rattle.timing.specs.Answers.{graph_of, stated_next, awaited_number}
 use Rattle.timing.proofs.Awaiting.{stated_some}
@@ -54,8 +51,8 @@ number_zero s ts ss ms room =
     P w = record_write.written_number w ≡ 0 → w ≡ Done size
 
     by : (a : Scanned) → scanned_of nothing false ts ss ms ≡ a → P (record_write.scanning a size room)
-    by (scan.Fine n) f = pick_either P (leb size room) (λ t e. refl) (λ t e. absurd (omega arith))
-    by (scan.Refused r) f = λ e. absurd (scanned_some nothing false ts ss ms r f e)
+    by (Ok n) f = pick_either P (leb size room) (λ t e. refl) (λ t e. absurd (omega arith))
+    by (Err r) f = λ e. absurd (scanned_some nothing false ts ss ms r f e)
 
 pub written_whole : (s : Heading) (ts ss ms out : List ℕ) {after : List ℕ} → WriteGives s ts ss ms out 0 after
     → record_write.WriteGives s ts ss ms out (Done (record_write.file_length (length ts))) after
@@ -104,10 +101,10 @@ module _ (a b c : ℕ) (out : List ℕ) where
       record { number_is = rw enough; numbers_are = f ∙ sets-eq (a ∷ b ∷ c ∷ []) out 0 (omega arith) ∙ sym (rw enough) }
 
 module _ (x : Stated) (first t : ℕ) (out : List ℕ) {d : Awaited} (e : d ≡ stated_next x first t) where
-  pub next_refused : {n : ℕ} → d ≡ NotAwaited n → NextReadGives x first t out n out
+  pub next_refused : {n : ℕ} → d ≡ Err n → NextReadGives x first t out n out
   unfolding next_read_number next_read_left
   next_refused {n} f =
-      let told : stated_next x first t ≡ NotAwaited n = sym e ∙ f in
+      let told : stated_next x first t ≡ Err n = sym e ∙ f in
       let some = ne_eqb n 0 (stated_some x first t told) in
       record { number_is = sym (rw (told, some)); numbers_are = sym (rw (told, some, some)) }
 
@@ -157,22 +154,22 @@ drawn_of {fpt} {margin} {latency} f g h e =
 
 module _ (fpt margin latency : ℤ) (out : List Float) where
   -- a graph that is refused is so by 16
-  not_drawn : {n : ℕ} → graph_of fpt margin latency ≡ NotDrawn n → n ≡ 16
+  not_drawn : {n : ℕ} → graph_of fpt margin latency ≡ Err n → n ≡ 16
   unfolding graph_of
   not_drawn {n} =
-      let P : Drawn → Type 0 = λ d. d ≡ NotDrawn n → n ≡ 16 in
+      let P : Drawn → Type 0 = λ d. d ≡ Err n → n ≡ 16 in
       pick_either P (in_float binary64 fpt) (λ f.
       pick_either P (in_float binary64 margin) (λ m.
       pick_either P (in_float binary64 latency) (λ l e. let z : ◌≡◌ {A = ℕ} 0 1 = cc in absurd (omega arith)) (λ l e. cc))
       (λ m e. cc)) (λ f e. cc)
 
-  pub draws_refused : {n : ℕ} → graph_of fpt margin latency ≡ NotDrawn n → DrawGives fpt margin latency out n out
+  pub draws_refused : {n : ℕ} → graph_of fpt margin latency ≡ Err n → DrawGives fpt margin latency out n out
   draws_refused e = record {
     number_is = sym (ap (λ (d : Drawn). draw_number d (length out)) e ∙ rw (not_drawn e));
     doubles_are = sym (ap (λ (d : Drawn). draw_left d out) e);
   }
 
-  module _ {g : Graph} (e : graph_of fpt margin latency ≡ Figures g) where
+  module _ {g : Graph} (e : graph_of fpt margin latency ≡ Ok g) where
     pub draws_short : length out < 3 → DrawGives fpt margin latency out 15 out
     draws_short h =
         let few = lt-leb 3 (length out) h in

@@ -1,6 +1,6 @@
 -- The C functions: the sentences of document 01, each above what renders it, on what the reader (crate record) and the measurement
 -- (crate timing) say of a file. This page is what a reader must believe of them.
-use Rattle.std.specs.Prelude.{◌∷◌, ◌++◌, ◌*◌}
+use Rattle.std.specs.Prelude.{◌∷◌, ◌++◌, ◌*◌, Err}
 use Rattle.laws.specs.Kit.{List, [], map, ℕ, leb, eqb, ℤ, pos, length, drop}
 use Rattle.std.proofs.Common.{of_z}
 use Rattle.std.specs.Int.{w64}
@@ -12,8 +12,7 @@ use Rattle.timing.specs.declared.StreamNumbers.{StreamNumbers}
 use Rattle.timing.specs.declared.Stated.{Stated}
 use Rattle.timing.specs.declared.State.{State}
 use Rattle.timing.specs.Step.{stream_with, stated_of, stated_refusal, frame_of, rules_of, fresh_of, state_after, rows_after, numbers}
-use Rattle.timing.specs.declared.Awaited.{Awaited}
-use Rattle.timing.specs.declared.Awaited.TheVariants.{In, NoneLeft, Refused}
+use Rattle.timing.specs.Answers.{Awaited, awaited_in, none_left}
 use Rattle.timing.specs.Answers.{summary_width, summary_of, stated_next, awaited_number}
 use Rattle.frame.specs.declared.Row.{Row}
 use Rattle.record.specs.Paper.{Heading, resolved, File, file, refused, file_of, file_in}
@@ -109,9 +108,9 @@ limits_left x out = pick (eqb (limits_number x (length out)) 0) (limits_of (stat
 
 -- C6, P21: whether a read is left, 1 or 0, and the numerator and the denominator of how long it is until the next; 0 where there is none
 abbrev pub awaited_numbers : Awaited → List ℕ
-awaited_numbers (In numerator denominator) = 1 ∷ numerator ∷ denominator ∷ []
-awaited_numbers NoneLeft = 0 ∷ 0 ∷ 0 ∷ []
-awaited_numbers (Refused number) = []
+awaited_numbers (Ok (Some w)) = 1 ∷ w.num ∷ w.den ∷ []
+awaited_numbers (Ok None) = 0 ∷ 0 ∷ 0 ∷ []
+awaited_numbers (Err number) = []
 
 -- C6, N14, S13: 22 for a kind that chooses no profile, 1 to 7, 12 and 13; then 15 where fewer than the three numbers are lent
 unfoldable pub next_read_number : Stated → ℕ → ℕ → ℕ → ℕ

@@ -1,5 +1,5 @@
 -- A file measured part by part: what each part of the code asks and gives, in the words of Paper.
-use Rattle.std.specs.Prelude.{◌≡◌, ◌∷◌, ◌+◌, ◌*◌, ◌≤◌}
+use Rattle.std.specs.Prelude.{◌≡◌, ◌∷◌, ◌+◌, ◌*◌, ◌≤◌, Err, Ok}
 use Rattle.laws.specs.Kit.{List, ℕ, leb, ℤ, length, drop}
 use Rattle.std.specs.Prelude.{Float}
 use Rattle.laws.specs.Choose.{pick, or_else}
@@ -10,8 +10,7 @@ use Rattle.frame.specs.Step.{row_width}
 use Rattle.timing.specs.declared.StreamNumbers.{StreamNumbers}
 use Rattle.timing.specs.declared.Stated.{Stated}
 use Rattle.timing.specs.declared.State.{State}
-use Rattle.timing.specs.declared.Drawn.{Drawn}
-use Rattle.timing.specs.declared.Drawn.TheVariants.{Figures, Refused as NotDrawn}
+use Rattle.timing.specs.Answers.{Drawn}
 use Rattle.timing.specs.Step.{stream_with, set_up_of, rules_of, fresh_of}
 use Rattle.timing.specs.Answers.{summary_width, graph_of, drawn_number}
 use Rattle.timing.specs.Feed.{RunGives}
@@ -99,8 +98,8 @@ draw_number d room = or_else (drawn_number d) (pick (leb 3 room) 0 15)
 
 -- X3: refused, nothing is written
 abbrev pub draw_left : Drawn → List Float → List Float
-draw_left (Figures g) out = pick (leb 3 (length out)) (g.fpt ∷ g.margin ∷ g.latency ∷ drop 3 out) out
-draw_left (NotDrawn number) out = out
+draw_left (Ok g) out = pick (leb 3 (length out)) (g.fpt ∷ g.margin ∷ g.latency ∷ drop 3 out) out
+draw_left (Err number) out = out
 
 pub record DrawGives (fpt margin latency : ℤ) (out : List Float) (number : ℕ) (after : List Float) : Type 0 where
   pub number_is : number ≡ draw_number (graph_of fpt margin latency) (length out)

@@ -1,6 +1,6 @@
 -- What an accepted history is known to be, in the owner's words. The state that feeding it reaches is the declared one, and `as_declared`
 -- carries over to it what the crates below show of the declared bucket and the declared frames.
-use Rattle.std.specs.Prelude.{◌≡◌, ◌↔◌, ◌∷◌, ◌+◌, ◌-◌, ◌*◌, ◌≤◌, ◌<◌}
+use Rattle.std.specs.Prelude.{◌≡◌, ◌↔◌, ◌∷◌, ◌+◌, ◌-◌, ◌*◌, ◌≤◌, ◌<◌, Ok}
 use Rattle.laws.specs.Kit.{refl, sym, ap, subst, ◌∙◌, ⊎_elim, Bool, true, false, List, [], ℕ, suc, arith, ℤ}
 use Rattle.std.specs.Prelude.{◌-ℤ◌, ◌*ℤ◌, ◌≤ℤ◌, ◌<ℤ◌}
 use Rattle.laws.specs.Kit.{append-nil, pos, neg_ℤ, length, take, drop, drop-length, sets, le-ltb}
@@ -9,7 +9,7 @@ use Rattle.laws.specs.Climb.{Climbs}
 use Rattle.laws.proofs.Climb.{climbs_le}
 use Rattle.laws.proofs.Lay.{sets_front}
 use Rattle.laws.specs.Count.{count}
-use Rattle.grain.specs.declared.NextRead.{NextRead}
+use Rattle.grain.specs.Paper.{NextRead}
 use Rattle.grain.specs.Paper.{InstantBy}
 use Rattle.grain.specs.Carry.{next_after}
 use Rattle.limits.specs.Fraction.{Same}
@@ -39,7 +39,6 @@ use Rattle.frame.proofs.RowOfFrame.{row_is, offset_follows}
 use Rattle.frame.proofs.BufferOfFrames.{buffered_is, buffer_unique, buffer_is, dry_late, late_dry}
 use Rattle.frame.proofs.Editions as by_edition
 use Rattle.timing.specs.declared.State.{State}
-use Rattle.timing.specs.declared.Judged.TheVariants.{Given}
 use Rattle.timing.specs.Step.{frame_of, rules_of, fresh_of, state_after, rows_after, numbers}
 use Rattle.timing.specs.Answers.{answers_of, verdict_of, apart_number, awaited, next_of}
 use Rattle.timing.specs.Feed.{Call, all_of, Accepts, Deals, Rooms}
@@ -373,6 +372,6 @@ module _ (h : AcceptedHistory) where
       let same : sets all 0 all ≡ all = sets_front all all (omega arith) ∙ rw (drop-length all) (append-nil all) in
       (all, dealt calls e room, row.0, row.2, rw same at (numbers_at i row.0 all b row.1 (omega arith)))
 
-  pub verdict_reached : verdict_of (reached h) ≡ Given (answers_of (reached h))
+  pub verdict_reached : verdict_of (reached h) ≡ Ok (answers_of (reached h))
   unfolding verdict_of
   verdict_reached = rw (of_sound (reached h) (sound_reached h.stream h.set_up h.packets h.closed h.fine))

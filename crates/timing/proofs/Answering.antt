@@ -13,11 +13,9 @@ use Rattle.packet.proofs.Turn.{scanned_some}
 use Rattle.frame.specs.Step.{row_width}
 use Rattle.timing.specs.declared.StreamNumbers.{StreamNumbers}
 use Rattle.timing.specs.declared.State.{State}
-use Rattle.timing.specs.declared.SetUp.{SetUp}
+use Rattle.timing.specs.Answers.{SetUp}
 use Rattle.timing.specs.declared.Verdict.{Verdict}
-use Rattle.timing.specs.declared.Judged.TheVariants.{Given, Refused as NotJudged}
 use Rattle.timing.specs.declared.Graph.{Graph}
-use Rattle.timing.specs.declared.Drawn.TheVariants.{Figures, Refused as NotDrawn}
 use Rattle.timing.specs.Step.{set_up_of}
 use Rattle.timing.specs.Range.{in_range}
 use Rattle.timing.specs.Answers.{set_up_as, answers_of, verdict_of, graph_of, graph_number, set_up_number, judged_number, drawn_number}
@@ -43,14 +41,14 @@ module _ (refused need room : ℕ) where
   room_there e h = rw (e, le-leb need room h)
 
 -- a state in range has a verdict, and it is the state's own
-pub verdict_is : (s : State) (v : Verdict) → in_range s ≡ true → verdict_of s ≡ Given v → v ≡ answers_of s
+pub verdict_is : (s : State) (v : Verdict) → in_range s ≡ true → verdict_of s ≡ Ok v → v ≡ answers_of s
 unfolding verdict_of
-verdict_is s v e f = let g : Given (answers_of s) ≡ Given v = sym (rw e) ∙ f in cc
+verdict_is s v e f = let g : Ok (answers_of s) ≡ Ok v = sym (rw e) ∙ f in cc
 
-pub verdict_there : (s : State) (n : ℕ) → in_range s ≡ true → verdict_of s ≡ NotJudged n → ⊥
+pub verdict_there : (s : State) (n : ℕ) → in_range s ≡ true → verdict_of s ≡ Err n → ⊥
 unfolding verdict_of
 verdict_there s n e f =
-    let g : Given (answers_of s) ≡ NotJudged n = sym (rw e) ∙ f in
+    let g : Ok (answers_of s) ≡ Err n = sym (rw e) ∙ f in
     let z : ◌≡◌ {A = ℕ} 0 1 = cc in
     omega arith
 
@@ -58,7 +56,7 @@ pub verdict_numbered : (s : State) → judged_number (verdict_of s) ≡ range_nu
 unfolding verdict_of
 verdict_numbered s = go _ (in_range s)
   where
-    go : (v : Verdict) (t : Bool) → judged_number (pick t (Given v) (NotJudged 9)) ≡ pick t 0 9
+    go : (v : Verdict) (t : Bool) → judged_number (pick t (Ok v) (Err 9)) ≡ pick t 0 9
     go v true = refl
     go v false = refl
 
@@ -68,7 +66,7 @@ unfolding graph_of
 graph_numbered fpt margin latency = go _ (in_float binary64 fpt) (in_float binary64 margin) (in_float binary64 latency)
   where
     go : (g : Graph) (a b c : Bool)
-        → drawn_number (pick a (pick b (pick c (Figures g) (NotDrawn 16)) (NotDrawn 16)) (NotDrawn 16)) ≡ pick (a && (b && c)) 0 16
+        → drawn_number (pick a (pick b (pick c (Ok g) (Err 16)) (Err 16)) (Err 16)) ≡ pick (a && (b && c)) 0 16
     go g true true true = refl
     go g true true false = refl
     go g true false c = refl

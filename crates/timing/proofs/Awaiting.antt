@@ -1,10 +1,9 @@
 -- How long it is until the next read, and its refusals in their order: by the two numbers that are asked first.
-use Rattle.std.specs.Prelude.{◌≡◌, ◌↔◌, ◌+◌, ◌-◌, ◌*◌, ◌≤◌, ◌<◌}
+use Rattle.std.specs.Prelude.{◌≡◌, ◌↔◌, ◌+◌, ◌-◌, ◌*◌, ◌≤◌, ◌<◌, None, Some, Ok, Err, Result, Option}
 use Rattle.laws.specs.Kit.{refl, sym, ap, subst, ◌∙◌, Bool, true, false, ℕ, arith, eqb, ltb, eq-eqb, ne_eqb}
 use Rattle.laws.specs.Kit.{ltb-true, ltb-false, lt-ltb, le-ltb, eqb-true, eqb-false, dec_le, mul-le-mul, not-suc-le-zero}
 use Rattle.laws.specs.Choose.{pick}
-use Rattle.grain.specs.declared.NextRead.{NextRead}
-use Rattle.grain.specs.declared.NextRead.TheVariants.{In, NoneLeft}
+use Rattle.grain.specs.Paper.{NextRead}
 use Rattle.grain.specs.Paper.{grains, nearest}
 use Rattle.grain.proofs.Upcoming.{next_is_read, next_read_unique}
 use Rattle.limits.specs.Paper.{rate_of, frame_length, active_ratio, class_of, tro_grains, packets_fit, tro_fits, first_no, set_up_refusal}
@@ -17,11 +16,21 @@ use Rattle.frame.proofs.NextReads.{within_spacing, before_first}
 use Rattle.timing.specs.declared.StreamNumbers.{StreamNumbers}
 use Rattle.timing.specs.declared.Stated.{Stated}
 use Rattle.timing.specs.declared.Rules.{Rules}
-use Rattle.timing.specs.declared.Awaited.{Awaited}
-use Rattle.timing.specs.declared.Awaited.TheVariants.{In as AwaitedIn, Refused as NotAwaited}
+use Rattle.timing.specs.Answers.{Awaited, awaited_in}
 use Rattle.timing.specs.Step.{of_parameters, set_up_of, stated_of, rules_of}
 use Rattle.timing.specs.Answers.{apart_number, next_number, awaited, next_of, stated_next, awaited_number}
 use Rattle.timing.proofs.Planning.{planned, reads_near, tro_longest, den_by_schedule}
+
+-- the two numbers of a wait
+abbrev wait_in : Awaited → ℕ
+wait_in (Ok (Some w)) = w.num
+wait_in (Ok None) = 0
+wait_in (Err n) = 0
+
+abbrev over_in : Awaited → ℕ
+over_in (Ok (Some w)) = w.den
+over_in (Ok None) = 0
+over_in (Err n) = 0
 
 module _ (first t : ℕ) where
   -- the packet scan's own numbers, after one packet
@@ -67,11 +76,11 @@ module _ (first t : ℕ) where
     abbrev told : Awaited
     told = awaited (next_read_of (rules_of x).plan first t) (rules_of x).plan.reads.den
 
-    pub refused_first : {n : ℕ} → n ≡ set_up_of x → (n ≡ 0 → ⊥) → NotAwaited n ≡ next_of x first t
+    pub refused_first : {n : ℕ} → n ≡ set_up_of x → (n ≡ 0 → ⊥) → Err n ≡ next_of x first t
     unfolding next_of next_read_of
     refused_first {n} e some = rw (sym e, ne_eqb n 0 some, ne_eqb n 0 some)
 
-    pub refused_apart : {n : ℕ} → set_up_of x ≡ 0 → n ≡ apart_number first t → (n ≡ 0 → ⊥) → NotAwaited n ≡ next_of x first t
+    pub refused_apart : {n : ℕ} → set_up_of x ≡ 0 → n ≡ apart_number first t → (n ≡ 0 → ⊥) → Err n ≡ next_of x first t
     unfolding next_of next_read_of
     refused_apart {n} e f some = rw (eq-eqb (set_up_of x) 0 e, sym f, ne_eqb n 0 some)
 
@@ -93,9 +102,9 @@ module _ (first t : ℕ) where
     awaited_numbered = go (next_read_of (rules_of x).plan first t) (eqb (next_number x first t) 0) refl
       where
         go : (a : NextRead) (z : Bool) → eqb (next_number x first t) 0 ≡ z
-            → awaited_number (pick z (awaited a (rules_of x).plan.reads.den) (NotAwaited (next_number x first t))) ≡ next_number x first t
-        go (In w) true e = sym (eqb-true (next_number x first t) 0 e)
-        go NoneLeft true e = sym (eqb-true (next_number x first t) 0 e)
+            → awaited_number (pick z (awaited a (rules_of x).plan.reads.den) (Err (next_number x first t))) ≡ next_number x first t
+        go (Some w) true e = sym (eqb-true (next_number x first t) 0 e)
+        go None true e = sym (eqb-true (next_number x first t) 0 e)
         go a false e = refl
 
     -- so where set-up refuses nothing it is 12, or 13, exactly where the arrivals say so
@@ -109,18 +118,18 @@ module _ (first t : ℕ) where
     numbered_13 e = subst (λ (n : ℕ). (n ≡ 13) ↔ (first + 600000000000 < t)) (apart_numbered e) apart_13
 
     -- and no refusal has number 0
-    pub refused_some : {n : ℕ} → next_of x first t ≡ NotAwaited n → n ≡ 0 → ⊥
+    pub refused_some : {n : ℕ} → next_of x first t ≡ Err n → n ≡ 0 → ⊥
     unfolding next_of next_read_of
     refused_some {n} = go (next_read_of (rules_of x).plan first t) (eqb (next_number x first t) 0) refl
       where
         go : (a : NextRead) (z : Bool) → eqb (next_number x first t) 0 ≡ z
-            → pick z (awaited a (rules_of x).plan.reads.den) (NotAwaited (next_number x first t)) ≡ NotAwaited n → n ≡ 0 → ⊥
-        go (In w) true e f g = let z : ◌≡◌ {A = ℕ} 0 1 = cc in omega arith
-        go NoneLeft true e f g = let z : ◌≡◌ {A = ℕ} 0 1 = cc in omega arith
+            → pick z (awaited a (rules_of x).plan.reads.den) (Err (next_number x first t)) ≡ Err n → n ≡ 0 → ⊥
+        go (Some w) true e f g = let z : ◌≡◌ {A = ℕ} 0 1 = cc in omega arith
+        go None true e f g = let z : ◌≡◌ {A = ℕ} 0 1 = cc in omega arith
         go a false e f g = let same : next_number x first t ≡ n = cc in eqb-false (next_number x first t) 0 e (same ∙ g)
 
     -- an answer that is no refusal is the frame's
-    module _ (w den : ℕ) (e : next_of x first t ≡ AwaitedIn w den) where
+    module _ (w den : ℕ) (e : next_of x first t ≡ awaited_in w den) where
       none_refused : next_number x first t ≡ 0
       none_refused = sym awaited_numbered ∙ ap awaited_number e
 
@@ -134,15 +143,12 @@ module _ (first t : ℕ) where
       apart_fine : apart_number first t ≡ 0
       apart_fine = rw (eq-eqb (set_up_of x) 0 set_up_fine) at none_refused
 
-      by_answer : (a : NextRead) → awaited a (rules_of x).plan.reads.den ≡ AwaitedIn w den
-          → (a ≡ In w) × (den ≡ (rules_of x).plan.reads.den)
-      by_answer (In v) f =
-          let same : v ≡ w = cc in
-          let over : den ≡ (rules_of x).plan.reads.den = cc in
-          (ap In same, over)
-      by_answer NoneLeft f = let z : ◌≡◌ {A = ℕ} 0 1 = cc in absurd (omega arith)
+      by_answer : (a : NextRead) → awaited a (rules_of x).plan.reads.den ≡ awaited_in w den
+          → (a ≡ Some w) × (den ≡ (rules_of x).plan.reads.den)
+      by_answer (Some v) f = (ap Some (ap wait_in f), sym (ap over_in f))
+      by_answer None f = let z : ◌≡◌ {A = ℕ} 0 1 = cc in absurd (omega arith)
 
-      pub answer_is : (next_read_of (rules_of x).plan first t ≡ In w) × (den ≡ (rules_of x).plan.reads.den)
+      pub answer_is : (next_read_of (rules_of x).plan first t ≡ Some w) × (den ≡ (rules_of x).plan.reads.den)
       answer_is = by_answer (next_read_of (rules_of x).plan first t) (sym (is_told set_up_fine apart_fine) ∙ e)
 
       -- P23: from read 0 on the numerator is below that of a spacing
@@ -169,18 +175,18 @@ module _ (first t : ℕ) where
 abbrev widest : StreamNumbers
 widest = of_parameters (given 1 0 3 1080 20000 1460 41708)
 
-widest_next : next_read_of (rules_of widest).plan 62562500 62562500 ≡ In 844589250000000
+widest_next : next_read_of (rules_of widest).plan 62562500 62562500 ≡ Some 844589250000000
 unfolding next_read_of rules_of frame_length rate_of tro_grains active_ratio nearest
 widest_next =
     let at = grains 62562500 in
     let base = read_zero (rules_of widest).plan 62562500 in
     let plan = (rules_of widest).plan in
-    next_read_unique 20000 base plan.reads.num plan.reads.den at (next_read_of plan 62562500 62562500) (In 844589250000000)
+    next_read_unique 20000 base plan.reads.num plan.reads.den at (next_read_of plan 62562500 62562500) (Some 844589250000000)
     (next_is_read 20000 base plan.reads.num plan.reads.den at)
     (0, record { one = omega arith; earlier = λ k h. absurd (not-suc-le-zero h); here = refl; distance = refl })
 
 -- P23: so the greatest numerator is reached
-pub most_reached : next_of widest 62562500 62562500 ≡ AwaitedIn 844589250000000 500000
+pub most_reached : next_of widest 62562500 62562500 ≡ awaited_in 844589250000000 500000
 unfolding set_up_in set_up_refusal first_no edition_refusal frame_length rate_of packets_fit tro_fits class_of rules_of active_ratio
 most_reached =
     is_told 62562500 62562500 widest refl refl ∙ ap (λ (a : NextRead). awaited a (rules_of widest).plan.reads.den) widest_next
@@ -194,12 +200,12 @@ module _ (s : Stated) (first t : ℕ) where
   stated_next_lem k = rw (profile_known s.kind k)
 
   -- N1, N14: 22 exactly where it chooses none: nothing else of the table is 22
-  pub stated_next_22 : is_profile s.kind ≡ false → stated_next s first t ≡ NotAwaited 22
+  pub stated_next_22 : is_profile s.kind ≡ false → stated_next s first t ≡ Err 22
   unfolding stated_next
   stated_next_22 k = rw ((profile_22 s.kind).1 k)
 
   -- no refusal has number 0
-  pub stated_some : {n : ℕ} → stated_next s first t ≡ NotAwaited n → n ≡ 0 → ⊥
+  pub stated_some : {n : ℕ} → stated_next s first t ≡ Err n → n ≡ 0 → ⊥
   stated_some {n} e = go (is_profile s.kind) refl
     where
       go : (k : Bool) → is_profile s.kind ≡ k → n ≡ 0 → ⊥

@@ -15,7 +15,6 @@ use Rattle.packet.proofs.Turn.{scanned_fine}
 use Rattle.frame.specs.Step.{row_width}
 use Rattle.timing.specs.declared.Rules.{Rules}
 use Rattle.timing.specs.declared.State.{State}
-use Rattle.timing.specs.declared.Fed.TheVariants.{Accepted}
 use Rattle.timing.specs.Step.{rules_of, step_of, rows_of, state_after, rows_after, numbers}
 use Rattle.timing.specs.Range.{in_range, Sound}
 use Rattle.timing.specs.Feed.{Passes, Outcome, refused_by, accepted_as, by_scan, feed_all, feed_of, Call, all_of, Deals, none, call, Rooms}
@@ -102,18 +101,18 @@ deals (c ∷ cs) s x p r =
 
 -- ---- the state of an accepted call is in range
 
-pub stays_in_range : (s t : State) (rows : List ℤ) (l : List Packet) → (feed_all s rows l).answer ≡ Accepted t → in_range t ≡ true
+pub stays_in_range : (s t : State) (rows : List ℤ) (l : List Packet) → (feed_all s rows l).answer ≡ Ok t → in_range t ≡ true
 stays_in_range s t rows l e =
     let a = accepted_from s t rows l e in
     of_sound t (subst Sound (sym a.state) (sound_after l s (sound_of s a.start_in_range) a.passes))
 
 -- and so it is where slices are lent: none of unequal length are accepted
-pub fed_in_range : (s t : State) (rows : List ℤ) (ts ss ms : List ℕ) → (feed_of s rows ts ss ms).answer ≡ Accepted t → in_range t ≡ true
+pub fed_in_range : (s t : State) (rows : List ℤ) (ts ss ms : List ℕ) → (feed_of s rows ts ss ms).answer ≡ Ok t → in_range t ≡ true
 unfolding feed_of
 fed_in_range s t rows ts ss ms e = go (scanned_of s.past s.frames.begun ts ss ms) refl (in_range s) e
   where
     go : (x : Scanned) → scanned_of s.past s.frames.begun ts ss ms ≡ x → (b : Bool)
-        → (pick b (by_scan s rows x (packets ts ss ms)) (refused_by s rows 9 0)).answer ≡ Accepted t → in_range t ≡ true
+        → (pick b (by_scan s rows x (packets ts ss ms)) (refused_by s rows 9 0)).answer ≡ Ok t → in_range t ≡ true
     go (Ok n) f b g =
         let same = (scanned_fine s.past s.frames.begun ts ss ms n f).0 in
         stays_in_range s t rows (packets ts ss ms) (ap (λ (o : Outcome). o.answer) (sym (feed_slices s rows ts ss ms same)) ∙ e)

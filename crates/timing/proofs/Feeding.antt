@@ -13,10 +13,9 @@ use Rattle.laws.specs.Fold.{fold}
 use Rattle.frame.specs.Step.{row_width}
 use Rattle.timing.specs.declared.State.{State}
 use Rattle.timing.specs.declared.Rules.{Rules}
-use Rattle.timing.specs.declared.Fed.TheVariants.{Accepted, Refused}
 use Rattle.timing.specs.Step.{rules_of, state_after, rows_after, numbers}
 use Rattle.timing.specs.Range.{in_range}
-use Rattle.timing.specs.Feed.{Passes, RunAsks, RunGives, Outcome, refused_by, accepted_as, room_for, by_scan, feed_all, feed_of, FeedGives}
+use Rattle.timing.specs.Feed.{Fed, Passes, RunAsks, RunGives, Outcome, refused_by, accepted_as, room_for, by_scan, feed_all, feed_of, FeedGives, not_fed}
 use Rattle.timing.proofs.InRange.{sound_of}
 use Rattle.timing.proofs.Scanning.{scan_runs, numbers_length}
 
@@ -24,7 +23,7 @@ is : {o q : Outcome} → q ≡ o → FeedGives o q.answer q.rows
 is e = record { answer_is = ap (λ (x : Outcome). x.answer) e; rows_are = ap (λ (x : Outcome). x.rows) e }
 
 module _ (s : State) (rows : List ℤ) (ts ss ms : List ℕ) where
-  pub fed_9 : in_range s ≡ false → FeedGives (feed_of s rows ts ss ms) (Refused 9 0 s) rows
+  pub fed_9 : in_range s ≡ false → FeedGives (feed_of s rows ts ss ms) (not_fed 9 0 s) rows
   unfolding feed_of
   fed_9 e = is (rw e)
 
@@ -35,14 +34,14 @@ module _ (s : State) (rows : List ℤ) (ts ss ms : List ℕ) where
     by_scan_lem x f = rw (e, f)
 
     pub fed_refused : {x : Scanned} {r : Numbered} → x ≡ scanned_of s.past s.frames.begun ts ss ms → x ≡ Err r
-        → FeedGives (feed_of s rows ts ss ms) (Refused r.number r.place s) rows
+        → FeedGives (feed_of s rows ts ss ms) (not_fed r.number r.place s) rows
     fed_refused {x} f g = is (ap (λ (y : Scanned). by_scan s rows y (packets ts ss ms)) (sym g) ∙ by_scan_lem x f)
 
     module _ {x : Scanned} {n : ℕ} (f : x ≡ scanned_of s.past s.frames.begun ts ss ms) (g : x ≡ Ok n) where
       room_for_lem : room_for s rows n (packets ts ss ms) ≡ feed_of s rows ts ss ms
       room_for_lem = ap (λ (y : Scanned). by_scan s rows y (packets ts ss ms)) (sym g) ∙ by_scan_lem x f
 
-      pub fed_15 : length rows / row_width < n → FeedGives (feed_of s rows ts ss ms) (Refused 15 s.past.packets s) rows
+      pub fed_15 : length rows / row_width < n → FeedGives (feed_of s rows ts ss ms) (not_fed 15 s.past.packets s) rows
       fed_15 l =
           let few : length rows < n * row_width = (div-lt_iff_lt-mul {k = row_width} {x = length rows} {y = n} (omega arith)).0 l in
           is (sym (rw (lt-leb (n * row_width) (length rows) few)) ∙ room_for_lem)
@@ -67,40 +66,45 @@ module _ (s : State) (rows : List ℤ) (ts ss ms : List ℕ) where
               fits = omega (arith, enough l, r.1, numbers_length (rows_after q s (packets ts ss ms)));
             }
 
-        pub fed : {t : State} {after : List ℤ} → RunGives numbers q s (packets ts ss ms) 0 rows t after → FeedGives (feed_of s rows ts ss ms) (Accepted t) after
+        pub fed : {t : State} {after : List ℤ} → RunGives numbers q s (packets ts ss ms) 0 rows t after → FeedGives (feed_of s rows ts ss ms) (Ok t) after
         fed {t} {after} ran =
             let r = subst (λ (x : Rules). RunGives numbers x s (packets ts ss ms) 0 rows t after) eq ran in
             let o = is {q = accepted_as s rows (packets ts ss ms)} (sym (rw (le-leb (n * row_width) (length rows) (enough l))) ∙ room_for_lem) in
-            record { answer_is = ap Accepted r.state_is ∙ o.answer_is; rows_are = r.rows_are ∙ o.rows_are }
+            record { answer_is = ap Ok r.state_is ∙ o.answer_is; rows_are = r.rows_are ∙ o.rows_are }
 
 -- ---- what an answer tells
 
+-- the state that it hands back
+abbrev state_in : Fed → State
+state_in (Ok s) = s
+state_in (Err r) = r.state
+
 -- a refusal leaves state and rows
-refused_room : (s t : State) (rows : List ℤ) (n k p : ℕ) (l : List Packet) → (room_for s rows n l).answer ≡ Refused k p t → (t ≡ s)
+refused_room : (s t : State) (rows : List ℤ) (n k p : ℕ) (l : List Packet) → (room_for s rows n l).answer ≡ not_fed k p t → (t ≡ s)
     × ((room_for s rows n l).rows ≡ rows)
 refused_room s t rows n k p l = go (leb (n * row_width) (length rows))
   where
-    go : (b : Bool) → (pick b (accepted_as s rows l) (refused_by s rows 15 s.past.packets)).answer ≡ Refused k p t
+    go : (b : Bool) → (pick b (accepted_as s rows l) (refused_by s rows 15 s.past.packets)).answer ≡ not_fed k p t
         → (t ≡ s) × ((pick b (accepted_as s rows l) (refused_by s rows 15 s.past.packets)).rows ≡ rows)
     go true e = let z : ◌≡◌ {A = ℕ} 0 1 = cc in absurd (omega arith)
-    go false e = (cc, refl)
+    go false e = (sym (ap state_in e), refl)
 
-refused_scan : (s t : State) (rows : List ℤ) (x : Scanned) (k p : ℕ) (l : List Packet) → (by_scan s rows x l).answer ≡ Refused k p t
+refused_scan : (s t : State) (rows : List ℤ) (x : Scanned) (k p : ℕ) (l : List Packet) → (by_scan s rows x l).answer ≡ not_fed k p t
     → (t ≡ s) × ((by_scan s rows x l).rows ≡ rows)
 refused_scan s t rows (Ok n) k p l e = refused_room s t rows n k p l e
-refused_scan s t rows (Err r) k p l e = (cc, refl)
+refused_scan s t rows (Err r) k p l e = (sym (ap state_in e), refl)
 
-pub refused_stays : (s t : State) (rows : List ℤ) (ts ss ms : List ℕ) (k p : ℕ) → (feed_of s rows ts ss ms).answer ≡ Refused k p t
+pub refused_stays : (s t : State) (rows : List ℤ) (ts ss ms : List ℕ) (k p : ℕ) → (feed_of s rows ts ss ms).answer ≡ not_fed k p t
     → (t ≡ s) × ((feed_of s rows ts ss ms).rows ≡ rows)
 unfolding feed_of
 refused_stays s t rows ts ss ms k p = go (in_range s)
   where
     go : (b : Bool) → (pick b (by_scan s rows (scanned_of s.past s.frames.begun ts ss ms) (packets ts ss ms))
-        (refused_by s rows 9 0)).answer ≡ Refused k p t
+        (refused_by s rows 9 0)).answer ≡ not_fed k p t
         → (t ≡ s) × ((pick b (by_scan s rows (scanned_of s.past s.frames.begun ts ss ms) (packets ts ss ms))
         (refused_by s rows 9 0)).rows ≡ rows)
     go true e = refused_scan s t rows (scanned_of s.past s.frames.begun ts ss ms) k p (packets ts ss ms) e
-    go false e = (cc, refl)
+    go false e = (sym (ap state_in e), refl)
 
 -- an acceptance comes from a state in range, packets that pass and the declared end state
 pub record From (s t : State) (l : List Packet) : Type 0 where
@@ -108,27 +112,27 @@ pub record From (s t : State) (l : List Packet) : Type 0 where
   pub passes : Passes s.past l
   pub state : t ≡ state_after (rules_of s.numbers) s l
 
-accepted_room : (s t : State) (rows : List ℤ) (n : ℕ) (l : List Packet) → (room_for s rows n l).answer ≡ Accepted t → t
+accepted_room : (s t : State) (rows : List ℤ) (n : ℕ) (l : List Packet) → (room_for s rows n l).answer ≡ Ok t → t
     ≡ state_after (rules_of s.numbers) s l
 accepted_room s t rows n l = go (leb (n * row_width) (length rows))
   where
-    go : (b : Bool) → (pick b (accepted_as s rows l) (refused_by s rows 15 s.past.packets)).answer ≡ Accepted t → t
+    go : (b : Bool) → (pick b (accepted_as s rows l) (refused_by s rows 15 s.past.packets)).answer ≡ Ok t → t
         ≡ state_after (rules_of s.numbers) s l
     go true e = cc
     go false e = let z : ◌≡◌ {A = ℕ} 0 1 = cc in absurd (omega arith)
 
-pub accepted_from : (s t : State) (rows : List ℤ) (l : List Packet) → (feed_all s rows l).answer ≡ Accepted t → From s t l
+pub accepted_from : (s t : State) (rows : List ℤ) (l : List Packet) → (feed_all s rows l).answer ≡ Ok t → From s t l
 unfolding feed_all
 accepted_from s t rows l = go (in_range s) refl (scan_of s.past s.frames.begun 0 l) refl
   where
     go : (b : Bool) → in_range s ≡ b → (x : Scanned) → scan_of s.past s.frames.begun 0 l ≡ x
-        → (pick b (by_scan s rows x l) (refused_by s rows 9 0)).answer ≡ Accepted t → From s t l
+        → (pick b (by_scan s rows x l) (refused_by s rows 9 0)).answer ≡ Ok t → From s t l
     go true e (Ok n) f g = record
         { start_in_range = e; passes = (scan_runs l (rules_of s.numbers) s 0 n f).0; state = accepted_room s t rows n l g }
     go true e (Err r) f g = let z : ◌≡◌ {A = ℕ} 0 1 = cc in absurd (omega arith)
     go false e x f g = let z : ◌≡◌ {A = ℕ} 0 1 = cc in absurd (omega arith)
 
-pub nothing_fed : (s : State) (rows : List ℤ) → in_range s ≡ true → feed_all s rows [] ≡ record { answer = Accepted s; rows = rows }
+pub nothing_fed : (s : State) (rows : List ℤ) → in_range s ≡ true → feed_all s rows [] ≡ record { answer = Ok s; rows = rows }
 unfolding feed_all scan_of fold rows_after numbers
 nothing_fed s rows e = rw e (rw (le-leb 0 (length rows) (omega arith)))
 

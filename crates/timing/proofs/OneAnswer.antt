@@ -6,7 +6,7 @@ use Rattle.packet.specs.declared.Packet.{Packet}
 use Rattle.frame.specs.declared.Row.{Row}
 use Rattle.timing.specs.declared.Rules.{Rules}
 use Rattle.timing.specs.declared.State.{State}
-use Rattle.timing.specs.declared.Fed.{Fed}
+use Rattle.timing.specs.Feed.{Fed}
 use Rattle.timing.specs.Feed.{RunGives, Outcome, FeedGives}
 
 -- a call of `feed`: its answer and its rows

@@ -1,12 +1,12 @@
 -- Set-up, the verdict, the summary and the graph: what each answers, for every input.
-use Rattle.std.specs.Prelude.{◌≡◌, ◌&&◌, ◌∷◌, ◌-◌}
+use Rattle.std.specs.Prelude.{◌≡◌, ◌&&◌, ◌∷◌, ◌-◌, Option, None, Some, Result, Err, Ok}
 use Rattle.laws.specs.Kit.{List, [], ℕ, eqb, ltb, ℤ, pos}
 use Rattle.std.specs.Prelude.{Float}
 use Rattle.std.specs.Float.{binary64}
 use Rattle.std.specs.Float.Ieee.{of_int, div, in_float}
 use Rattle.laws.specs.Choose.{pick, or_else}
-use Rattle.grain.specs.declared.NextRead.{NextRead}
-use Rattle.grain.specs.declared.NextRead.TheVariants.{In, NoneLeft}
+use Rattle.grain.specs.declared.Spacing.{Spacing}
+use Rattle.grain.specs.Paper.{NextRead}
 use Rattle.limits.specs.Paper.{profile_refusal}
 use Rattle.bucket.specs.Paper.{network_number, network_first, network_last}
 use Rattle.frame.specs.declared.Row.{Row}
@@ -14,35 +14,34 @@ use Rattle.frame.specs.Paper.{next_read_of, buffer_number, buffer_frame, buffer_
 use Rattle.timing.specs.declared.StreamNumbers.{StreamNumbers}
 use Rattle.timing.specs.declared.Stated.{Stated}
 use Rattle.timing.specs.declared.State.{State}
-use Rattle.timing.specs.declared.SetUp.{SetUp}
-use Rattle.timing.specs.declared.SetUp.TheVariants.{Fresh, Refused}
-use Rattle.timing.specs.declared.Fed.{Fed}
-use Rattle.timing.specs.declared.Fed.TheVariants.{Accepted, Refused as FedRefused}
+use Rattle.timing.specs.Feed.{Fed}
 use Rattle.timing.specs.declared.Verdict.{Verdict}
-use Rattle.timing.specs.declared.Judged.{Judged}
-use Rattle.timing.specs.declared.Judged.TheVariants.{Given, Refused as NotJudged}
-use Rattle.timing.specs.declared.Drawn.{Drawn}
-use Rattle.timing.specs.declared.Drawn.TheVariants.{Figures, Refused as NotDrawn}
-use Rattle.timing.specs.declared.Awaited.{Awaited}
-use Rattle.timing.specs.declared.Awaited.TheVariants.{In as AwaitedIn, NoneLeft as AwaitedNone, Refused as NotAwaited}
+use Rattle.timing.specs.declared.Graph.{Graph}
 use Rattle.timing.specs.Step.{set_up_of, stated_of, stated_refusal, rules_of, fresh_of}
 use Rattle.timing.specs.Range.{in_range}
 
+-- N3: the fresh state, or the number
+abbrev pub SetUp : Type 0
+SetUp = Result State ℕ
+
 -- N3: "A refused set-up returns its number and no state."
 unfoldable pub set_up_as : StreamNumbers → SetUp
-set_up_as x = pick (eqb (set_up_of x) 0) (Fresh (fresh_of x)) (Refused (set_up_of x))
+set_up_as x = pick (eqb (set_up_of x) 0) (Ok (fresh_of x)) (Err (set_up_of x))
 
 -- N3, S12: and of what is stated
 unfoldable pub stated_up : Stated → SetUp
-stated_up t = pick (eqb (stated_refusal t) 0) (Fresh (fresh_of (stated_of t))) (Refused (stated_refusal t))
+stated_up t = pick (eqb (stated_refusal t) 0) (Ok (fresh_of (stated_of t))) (Err (stated_refusal t))
 
 -- V5: "The verdict holds the network answer and the buffer answer."
 abbrev pub answers_of : State → Verdict
 answers_of s = record { network = s.bucket.network; buffer = s.frames.buffer }
 
+abbrev pub Judged : Type 0
+Judged = Result Verdict ℕ
+
 -- X9: a state that a call would refuse has no verdict
 unfoldable pub verdict_of : State → Judged
-verdict_of s = pick (in_range s) (Given (answers_of s)) (NotJudged 9)
+verdict_of s = pick (in_range s) (Ok (answers_of s)) (Err 9)
 
 -- C2: "nine numbers (packets, frames, peak; network 0 pass or 1 burst, first, last; buffer 0 none, 1 pass, 2 under or 3 over, frame, packet
 -- or peak; 0 where there is none)"
@@ -71,16 +70,19 @@ summary_of s = summary_with s.past.packets s.frames.closed s.bucket.peak (answer
 unfoldable pub microseconds_of : ℤ → Float
 microseconds_of x = div binary64 (of_int binary64 x) (of_int binary64 (pos 27000))
 
+abbrev pub Drawn : Type 0
+Drawn = Result Graph ℕ
+
 -- N1, N9: "16 a figure for the graph above 2^53 in size; no doubles are given"
 unfoldable pub graph_of : ℤ → ℤ → ℤ → Drawn
 graph_of fpt margin latency =
     pick (in_float binary64 fpt)
     (pick (in_float binary64 margin)
     (pick (in_float binary64 latency)
-    (Figures (record { fpt = microseconds_of fpt; margin = microseconds_of margin; latency = microseconds_of latency }))
-    (NotDrawn 16))
-    (NotDrawn 16))
-    (NotDrawn 16)
+    (Ok (record { fpt = microseconds_of fpt; margin = microseconds_of margin; latency = microseconds_of latency }))
+    (Err 16))
+    (Err 16))
+    (Err 16)
 
 -- its number
 abbrev pub graph_number : ℤ → ℤ → ℤ → ℕ
@@ -95,23 +97,33 @@ apart_number first t = pick (ltb t first) 12 (pick (ltb 600000000000 (t - first)
 abbrev pub next_number : StreamNumbers → ℕ → ℕ → ℕ
 next_number x first t = or_else (set_up_of x) (apart_number first t)
 
+-- the wait, or that no read is left, or the number by which the question is refused
+abbrev pub Awaited : Type 0
+Awaited = Result (Option Spacing) ℕ
+
+abbrev pub awaited_in : ℕ → ℕ → Awaited
+awaited_in numerator denominator = Ok (Some (record { num = numerator; den = denominator }))
+
+abbrev pub none_left : Awaited
+none_left = Ok None
+
 -- P20, P21: "a numerator over 25·n grains for gapped and over n for linear, or say that no read is left"
 abbrev pub awaited : NextRead → ℕ → Awaited
-awaited (In numerator) den = AwaitedIn numerator den
-awaited NoneLeft den = AwaitedNone
+awaited (Some numerator) den = awaited_in numerator den
+awaited None den = none_left
 
 -- V11: how long it is until the next read, for the host's graph
 unfoldable pub next_of : StreamNumbers → ℕ → ℕ → Awaited
 unfolding next_read_of
 next_of x first t =
     pick (eqb (next_number x first t) 0) (awaited (next_read_of (rules_of x).plan first t) (rules_of x).plan.reads.den)
-    (NotAwaited (next_number x first t))
+    (Err (next_number x first t))
 
 -- V11, S12: and of what is stated: a kind that chooses no profile is refused first
 unfoldable pub stated_next : Stated → ℕ → ℕ → Awaited
 unfolding next_of
 stated_next s first t =
-    pick (eqb (profile_refusal s.kind) 0) (next_of (stated_of s) first t) (NotAwaited (profile_refusal s.kind))
+    pick (eqb (profile_refusal s.kind) 0) (next_of (stated_of s) first t) (Err (profile_refusal s.kind))
 
 -- each row of a list is so
 abbrev pub AllRows : (Row → Type 0) → List Row → Type 0
@@ -120,33 +132,32 @@ AllRows P (r ∷ rows) = P r × AllRows P rows
 
 -- For each answer that is an enum, document 01's number, 0 where nothing is refused, and its place.
 abbrev pub fed_number : Fed → ℕ
-fed_number (Accepted s) = 0
-fed_number (FedRefused number place s) = number
+fed_number (Ok s) = 0
+fed_number (Err r) = r.number
 
 abbrev pub fed_place : Fed → ℕ
-fed_place (Accepted s) = 0
-fed_place (FedRefused number place s) = place
+fed_place (Ok s) = 0
+fed_place (Err r) = r.place
 
 abbrev pub fed_state : Fed → State
-fed_state (Accepted s) = s
-fed_state (FedRefused number place s) = s
+fed_state (Ok s) = s
+fed_state (Err r) = r.state
 
 abbrev pub set_up_number : SetUp → ℕ
-set_up_number (Fresh s) = 0
-set_up_number (Refused number) = number
+set_up_number (Ok s) = 0
+set_up_number (Err number) = number
 
 abbrev pub judged_number : Judged → ℕ
-judged_number (Given v) = 0
-judged_number (NotJudged number) = number
+judged_number (Ok v) = 0
+judged_number (Err number) = number
 
 abbrev pub drawn_number : Drawn → ℕ
-drawn_number (Figures g) = 0
-drawn_number (NotDrawn number) = number
+drawn_number (Ok g) = 0
+drawn_number (Err number) = number
 
 abbrev pub awaited_number : Awaited → ℕ
-awaited_number (AwaitedIn numerator denominator) = 0
-awaited_number AwaitedNone = 0
-awaited_number (NotAwaited number) = number
+awaited_number (Ok w) = 0
+awaited_number (Err number) = number
 
 -- V9: the graph takes the row's FPT, margin and VL
 abbrev pub Drawable : Row → Type 0

@@ -1,9 +1,10 @@
 -- Feeding a call's packets: what each part of the code asks and gives, and the whole call, refusals included.
-use Rattle.std.specs.Prelude.{◌≡◌, ◌∷◌, ◌++◌, ◌+◌, ◌*◌, ◌≤◌, ◌<◌, Err, Ok}
+use Rattle.std.specs.Prelude.{◌≡◌, ◌∷◌, ◌++◌, ◌+◌, ◌*◌, ◌≤◌, ◌<◌, Result, Err, Ok}
 use Rattle.laws.specs.Kit.{true, List, [], ℕ, eqb, leb, ℤ, length, sets}
 use Rattle.laws.specs.Choose.{pick}
 use Rattle.packet.specs.declared.Past.{Past}
 use Rattle.packet.specs.Paper.{Scanned}
+use Rattle.refusal.specs.Refusal.{number}
 use Rattle.refusal.specs.Told.{Numbered}
 use Rattle.packet.specs.declared.Packet.{Packet}
 use Rattle.packet.specs.Paper.{packets}
@@ -12,10 +13,9 @@ use Rattle.frame.specs.declared.Row.{Row}
 use Rattle.frame.specs.Step as F
 use Rattle.frame.specs.Step.{row_width}
 use Rattle.frame.specs.Range.{Planned, PushAsks, FramesRowAsks}
+use Rattle.timing.specs.declared.RefusedCall.{RefusedCall}
 use Rattle.timing.specs.declared.Rules.{Rules}
 use Rattle.timing.specs.declared.State.{State}
-use Rattle.timing.specs.declared.Fed.{Fed}
-use Rattle.timing.specs.declared.Fed.TheVariants.{Accepted, Refused}
 use Rattle.timing.specs.Step.{rules_of, gone_of, left_of, state_after, rows_after, numbers}
 use Rattle.timing.specs.Range.{in_range, Sound}
 
@@ -77,6 +77,24 @@ module _ {A : Type 0} (w : List Row → List A) where
 
 -- ---- the whole call
 
+-- N11, P2: a call that is refused: the number and the place, and the state as it was
+pub record NumberedCall : Type 0 where
+  pub number : ℕ
+  pub place : ℕ
+  pub state : State
+
+-- P2: the state after the call, or how it is refused
+abbrev pub Fed : Type 0
+Fed = Result State NumberedCall
+
+abbrev pub not_fed : ℕ → ℕ → State → Fed
+not_fed number place s = Err (record { number = number; place = place; state = s })
+
+-- the answer of the code, told so
+abbrev pub fed_told : Result State RefusedCall → Fed
+fed_told (Ok s) = Ok s
+fed_told (Err r) = not_fed (number r.refusal) r.place r.state
+
 -- P2: the answer, and what the lent rows hold
 pub record Outcome : Type 0 where
   pub answer : Fed
@@ -86,11 +104,11 @@ module _ (s : State) (rows : List ℤ) where
   -- N11, D1d: "A refused call accepts none of its packets, returns the number and the packet's place in the history [..], state and rows
   -- unchanged."
   abbrev pub refused_by : ℕ → ℕ → Outcome
-  refused_by number place = record { answer = Refused number place s; rows = rows }
+  refused_by number place = record { answer = not_fed number place s; rows = rows }
 
   abbrev pub accepted_as : List Packet → Outcome
   accepted_as l = record {
-    answer = Accepted (state_after (rules_of s.numbers) s l);
+    answer = Ok (state_after (rules_of s.numbers) s l);
     rows = sets rows 0 (numbers (rows_after (rules_of s.numbers) s l));
   }
 
@@ -141,8 +159,8 @@ module _ (s : State) (rows : List ℤ) (ts ss ms : List ℕ) where
 
 -- what an answer says of a refusal
 abbrev pub fed_refusal : Fed → Numbered
-fed_refusal (Accepted s) = refusal 0 0
-fed_refusal (Refused number place s) = refusal number place
+fed_refusal (Ok s) = refusal 0 0
+fed_refusal (Err r) = refusal r.number r.place
 
 -- an answer and a list of rows are an outcome's
 pub record FeedGives (o : Outcome) (answer : Fed) (rows : List ℤ) : Type 0 where
@@ -167,7 +185,7 @@ writes s c = numbers (rows_after (rules_of s.numbers) s c.packets)
 
 -- V4: a call is accepted: the state after it, and what it writes laid from the front of its rows; "unused row numbers stay untouched"
 abbrev pub Accepts : State → Call → State → Type 0
-Accepts s c t = feed_all s c.rows c.packets ≡ record { answer = Accepted t; rows = sets c.rows 0 (writes s c) }
+Accepts s c t = feed_all s c.rows c.packets ≡ record { answer = Ok t; rows = sets c.rows 0 (writes s c) }
 
 -- N11: a call is refused: it names the number and the place, and leaves state and rows
 abbrev pub Refuses : State → Call → ℕ → ℕ → Type 0

@@ -5,14 +5,15 @@ use Rattle.frame.specs.Range.{Planned}
 use Rattle.timing.specs.declared.Rules.{Rules}
 use Rattle.timing.proofs.InRange.{by_parts}
 use Rattle.timing.proofs.Planning.{planned}
+use Rattle.refusal.proofs.Telling.{number_of_err, number_of_ok}
 use Rattle.timing.proofs.State.in_range.Goals as goal
 
-pub returns-then-refusal-ne0 : goal.returns-then-refusal-ne0
+pub returns-then-is_err : goal.returns-then-is_err
 unfolding after
-returns-then-refusal-ne0 c = rw (by_parts c.args.self, ne_eqb _ 0 (λ z. c.if-refusal-ne0.true (c.refusal.ensures ∙ z)))
+returns-then-is_err c = rw (by_parts c.args.self, ne_eqb _ 0 (λ z. number_of_err c.check.result (sym c.is_err.ensures.value ∙ c.if-is_err.true) (c.check.ensures ∙ z)))
 
 pub in_range-requires-3 : goal.in_range-requires-3
-in_range-requires-3 c = subst (λ (q : Rules). Planned q.plan) (sym c.rules-rules.ensures) (planned _ (sym c.refusal.ensures ∙ c.if-refusal-ne0.false))
+in_range-requires-3 c = subst (λ (q : Rules). Planned q.plan) (sym c.rules-rules.ensures) (planned _ (sym c.check.ensures ∙ number_of_ok c.check.result (sym c.is_err.ensures.value ∙ c.if-is_err.false)))
 
 pub returns : goal.returns
 unfolding after
@@ -23,5 +24,5 @@ returns c =
       c.in_range-2.ensures,
       c.in_range.ensures,
       c.rules-rules.ensures,
-      eq-eqb _ 0 (sym c.refusal.ensures ∙ c.if-refusal-ne0.false),
+      eq-eqb _ 0 (sym c.check.ensures ∙ number_of_ok c.check.result (sym c.is_err.ensures.value ∙ c.if-is_err.false)),
     )

@@ -1,29 +1,37 @@
 -- Set-up's refusal, then 12 or 13, then the frame's own answer: one law each (Awaiting).
-use Rattle.laws.specs.Kit.{sym, ◌∙◌, subst}
+use Rattle.std.specs.Prelude.{Err}
+use Rattle.std.proofs.lemmas.Result.{err_from_is_err_and}
+use Rattle.laws.specs.Kit.{sym, ap, ◌∙◌, subst}
+use Rattle.refusal.specs.Refusal.{number}
+use Rattle.refusal.proofs.Telling.{number_some}
 use Rattle.frame.specs.Range.{Planned}
 use Rattle.timing.specs.declared.Rules.{Rules}
 use Rattle.timing.proofs.Planning.{planned}
 use Rattle.timing.proofs.Awaiting.{apart_none, refused_first, refused_apart, as_told}
 use Rattle.timing.proofs.StreamNumbers.next_read.Goals as goal
 
-pub returns-then-number-ne0 : goal.returns-then-number-ne0
-returns-then-number-ne0 c = refused_first _ _ _ c.refusal-number.ensures c.if-number-ne0.true
+pub returns-in_err-check : goal.returns-in_err-check
+returns-in_err-check c =
+    let p = err_from_is_err_and c.from_residual.result c.from_residual.ensures.1 in
+    rw (p.1, p.2) (refused_first _ _ _ c.in_err-check.ensures (number_some c.in_err-check.field-0.0))
 
-pub returns-then-number-ne0-2 : goal.returns-then-number-ne0-2
-returns-then-number-ne0-2 c = refused_apart _ _ _ (sym c.refusal-number.ensures ∙ c.if-number-ne0.false) c.apart-number.ensures c.if-number-ne0-2.true
+pub returns-in_err-check_apart : goal.returns-in_err-check_apart
+returns-in_err-check_apart c =
+    let p = err_from_is_err_and c.from_residual-in_err-check_apart.result c.from_residual-in_err-check_apart.ensures.1 in
+    rw (p.1, p.2) (refused_apart _ _ _ (sym c.in_ok-check.ensures) c.in_err-check_apart.ensures (number_some c.in_err-check_apart.field-0.0))
 
 pub next_read-next-requires : goal.next_read-next-requires
 next_read-next-requires c = (
-  subst (λ (q : Rules). Planned q.plan) (sym c.rules-rules.ensures) (planned _ (sym c.refusal-number.ensures ∙ c.if-number-ne0.false)),
-  apart_none _ _ (sym c.apart-number.ensures ∙ c.if-number-ne0-2.false),
+  subst (λ (q : Rules). Planned q.plan) (sym c.rules-rules.ensures) (planned _ (sym c.in_ok-check.ensures)),
+  apart_none _ _ (sym c.in_ok-check_apart.ensures),
 )
 
-pub returns-in-In : goal.returns-in-In
-returns-in-In c =
-    as_told _ _ _ (sym c.refusal-number.ensures ∙ c.if-number-ne0.false) (sym c.apart-number.ensures ∙ c.if-number-ne0-2.false) c.rules-rules.ensures
-    c.next_read-next.ensures c.in-In.is
+pub returns-in-Some : goal.returns-in-Some
+returns-in-Some c =
+    as_told _ _ _ (sym c.in_ok-check.ensures) (sym c.in_ok-check_apart.ensures) c.rules-rules.ensures
+    c.next_read-next.ensures c.in-Some.is
 
-pub returns-in-NoneLeft : goal.returns-in-NoneLeft
-returns-in-NoneLeft c =
-    as_told _ _ _ (sym c.refusal-number.ensures ∙ c.if-number-ne0.false) (sym c.apart-number.ensures ∙ c.if-number-ne0-2.false) c.rules-rules.ensures
-    c.next_read-next.ensures c.in-NoneLeft.is
+pub returns-in-None : goal.returns-in-None
+returns-in-None c =
+    as_told _ _ _ (sym c.in_ok-check.ensures) (sym c.in_ok-check_apart.ensures) c.rules-rules.ensures
+    c.next_read-next.ensures c.in-None.is

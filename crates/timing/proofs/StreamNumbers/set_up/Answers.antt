@@ -1,12 +1,17 @@
 -- By the refusal's number.
+use Rattle.std.proofs.lemmas.Result.{err_from_is_err_and}
 use Rattle.laws.specs.Kit.{sym, ◌∙◌, eq-eqb, ne_eqb}
+use Rattle.refusal.proofs.Telling.{number_some}
 use Rattle.timing.specs.Answers.{set_up_as}
 use Rattle.timing.proofs.StreamNumbers.set_up.Goals as goal
 
-pub returns-in-0 : goal.returns-in-0
+pub returns-in_err-check : goal.returns-in_err-check
 unfolding set_up_as
-returns-in-0 c = rw c.fresh.ensures (rw (eq-eqb _ 0 (sym c.refusal-number.ensures ∙ c.in-0.is)))
+returns-in_err-check c =
+    let p = err_from_is_err_and c.from_residual.result c.from_residual.ensures.1 in
+    let e = c.in_err-check.ensures in
+    rw (p.1, p.2, e) (rw (ne_eqb _ 0 (λ z. number_some c.in_err-check.field-0.0 (e ∙ z))))
 
-pub returns-in-1-to-255 : goal.returns-in-1-to-255
+pub returns : goal.returns
 unfolding set_up_as
-returns-in-1-to-255 c = rw c.refusal-number.ensures (rw (ne_eqb _ 0 (λ z. c.in-1-to-255.in-1-to-255-own.rest.1 (c.refusal-number.ensures ∙ z))))
+returns c = rw c.fresh.ensures (rw (eq-eqb _ 0 (sym c.in_ok-check.ensures)))

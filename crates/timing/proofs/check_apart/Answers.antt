@@ -3,7 +3,7 @@ use Rattle.laws.specs.Kit.{arith, ap, ◌∙◌}
 use Rattle.packet.specs.declared.Past.{Past}
 use Rattle.packet.specs.Step.{next_of, refusal_of}
 use Rattle.timing.proofs.Awaiting.{apart_is}
-use Rattle.timing.proofs.apart.Goals as goal
+use Rattle.timing.proofs.check_apart.Goals as goal
 
 pub next-past-requires : goal.next-past-requires
 next-past-requires c = rw c.none-none.ensures (omega arith)
@@ -11,6 +11,6 @@ next-past-requires c = rw c.none-none.ensures (omega arith)
 pub returns : goal.returns
 returns c =
     let a = c.args in
-    c.refusal.ensures
+    c.admit.ensures
     ∙ ap (λ (p : Past). refusal_of p a.t 0) (c.next-past.ensures ∙ ap (λ (p : Past). next_of p a.first) c.none-none.ensures)
     ∙ apart_is a.first a.t
