@@ -32,14 +32,11 @@ fn open(span: Span, window: &[u8], out: &mut [u8]) -> Stepped
     requires { Fits span (length window.now) × (line_room ≤ length out.old) }
     ensures { StepGives span (open_move (begin_of (shown span window.now) span.last)) result.stage result.told out.new }
 {
-    let from = span.from;
-    let held = span.held;
-    let opened = printer::begin(&window[from..held], span.last);
-    match opened {
+    match printer::begin(&window[span.from..span.held], span.last) {
         Opened::More => Stepped {
             stage: Stage::Head,
             told: Told {
-                span: span,
+                span,
                 written: 0,
                 wants: true,
                 over: false,
@@ -48,7 +45,7 @@ fn open(span: Span, window: &[u8], out: &mut [u8]) -> Stepped
         Opened::Refused { number, offset } => Stepped {
             stage: Stage::Head,
             told: Told {
-                span: span,
+                span,
                 written: text::put_refusal(number, offset, out, 0),
                 wants: false,
                 over: true,
@@ -72,17 +69,13 @@ fn walk_on(walk: Walk, span: Span, window: &[u8], out: &mut [u8]) -> Stepped
     ensures { StepGives span (took_move (take_of walk (shown span window.now) span.last (length out.old)))
         result.stage result.told out.new }
 {
-    let from = span.from;
-    let held = span.held;
-    let taken = walk.take(&window[from..held], span.last, out);
-    let used = taken.used;
-    let next = taken.walk;
+    let taken = walk.take(&window[span.from..span.held], span.last, out);
     Stepped {
-        stage: Stage::Walking(next),
+        stage: Stage::Walking(taken.walk),
         told: Told {
-            span: span.past(used),
+            span: span.past(taken.used),
             written: taken.written,
-            wants: used == 0,
+            wants: taken.used == 0,
             over: taken.ended,
         },
     }

@@ -33,14 +33,11 @@ fn lead(asked: Asked, span: Span, window: &[u8], out: &mut [u8]) -> Stepped
     ensures { StepGives span (lead_move asked (begin_of asked (shown span window.now) span.last))
         result.stage result.told out.new }
 {
-    let from = span.from;
-    let held = span.held;
-    let threaded = reel::begin(asked, &window[from..held], span.last);
-    match threaded {
+    match reel::begin(asked, &window[span.from..span.held], span.last) {
         Threaded::More => Stepped {
             stage: Stage::Leader(asked),
             told: Told {
-                span: span,
+                span,
                 written: 0,
                 wants: true,
                 over: false,
@@ -49,7 +46,7 @@ fn lead(asked: Asked, span: Span, window: &[u8], out: &mut [u8]) -> Stepped
         Threaded::Refused { number } => Stepped {
             stage: Stage::Leader(asked),
             told: Told {
-                span: span,
+                span,
                 written: text::put_refusal(number, 0, out, 0),
                 wants: false,
                 over: true,
@@ -73,17 +70,13 @@ fn roll_on(reel: Reel, span: Span, window: &[u8], out: &mut [u8]) -> Stepped
     ensures { StepGives span (rolled_move (take_of reel (shown span window.now) span.last (length out.old)))
         result.stage result.told out.new }
 {
-    let from = span.from;
-    let held = span.held;
-    let taken = reel.take(&window[from..held], span.last, out);
-    let used = taken.used;
-    let next = taken.reel;
+    let taken = reel.take(&window[span.from..span.held], span.last, out);
     Stepped {
-        stage: Stage::Rolling(next),
+        stage: Stage::Rolling(taken.reel),
         told: Told {
-            span: span.past(used),
+            span: span.past(taken.used),
             written: taken.written,
-            wants: used == 0,
+            wants: taken.used == 0,
             over: taken.ended,
         },
     }

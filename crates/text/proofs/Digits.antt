@@ -2,12 +2,12 @@
 -- By recursion on that room.
 use Rattle.std.specs.Prelude.{◌≡◌, ◌∷◌, ◌++◌, ◌+◌, ◌/◌, ◌%◌, ◌^◌, ◌≤◌, ◌<◌}
 use Rattle.laws.specs.Kit.{refl, sym, ap, ◌∙◌, Bool, true, false, List, [], ℕ, zero, suc}
-use Rattle.laws.specs.Kit.{arith, pow-suc, div-lt_iff_lt-mul, mod-eq_of_lt, ltb, sets, length, set, length-append, ltb-false, lt-ltb}
+use Rattle.laws.specs.Kit.{arith, pow-suc, div-lt_iff_lt-mul, mod-eq_of_lt, ltb, length, set, length-append, ltb-false, lt-ltb}
 use Rattle.laws.specs.Kit.{le-ltb}
 use Rattle.laws.specs.Choose.{pick}
 use Rattle.text.specs.Decimal.{digits_by, digits_of, digits}
 use Rattle.text.specs.Lines.{Part}
-use Rattle.text.proofs.Parts.{part_then, part_kept, part_byte}
+use Rattle.text.proofs.Parts.{part_then, part_is, part_kept, part_byte}
 
 -- a tenth of a number has one digit less
 pub tenth : (k x : ℕ) → x < 10 ^ suc k → x / 10 < 10 ^ k
@@ -48,25 +48,19 @@ digits_length (suc most) k x h = go (ltb x 10) refl k h (digits_length most)
         simp length-append (omega (arith, ih k (x / 10) (tenth (suc k) x h)))
 
 -- what `put_number` does: one digit, or those of a tenth and then the last
-pub number_one : (x at d : ℕ) (before : List ℕ) → x < 10 → d ≡ 48 + x → Part 20 (digits x) at before (at + 1) (set before at d)
-number_one x at d before h e =
-    let b = part_byte at d before in
-    let same : d ∷ [] ≡ digits x = ap (λ (y : ℕ). y ∷ []) e ∙ sym (digits_one x h) in
-    record {
-      put = record { next = b.put.next ∙ ap (λ (l : List ℕ). at + length l) same; there = b.put.there ∙ ap (sets before at) same };
-      short = digits_length 20 19 x (omega arith);
-    }
+pub number_one : (x at : ℕ) (before : List ℕ) → x < 10 → Part 20 (digits x) at before (at + 1) (set before at (48 + x))
+number_one x at before h = rw (digits_one x h) (part_is (omega arith) refl (part_byte at (48 + x) before))
 
-module _ (x : ℕ) {at k : ℕ} {before between : List ℕ} (h : x < 2 ^ 64) (p : Part 20 (digits (x / 10)) at before k between) where
-  pub number_room : at + 20 ≤ length before → k < length between
-  number_room r = omega (arith, digits_length 20 18 (x / 10) (tenth 19 x (omega arith)), part_kept p, p.put.next)
+pub number_room : (x : ℕ) {at k : ℕ} {before between : List ℕ} → x < 2 ^ 64 → Part 20 (digits (x / 10)) at before k between
+    → at + 20 ≤ length before → k < length between
+number_room x h p r = omega (arith, digits_length 20 18 (x / 10) (tenth 19 x (omega arith)), part_kept p, p.put.next)
 
-  pub number_more : (d : ℕ) → 10 ≤ x → d ≡ 48 + x % 10 → Part 20 (digits x) at before (k + 1) (set between k d)
-  number_more d g e =
-      let b = part_then p (part_byte k d between) in
-      let same : digits (x / 10) ++ (d ∷ []) ≡ digits x =
-      ap (λ (y : ℕ). digits (x / 10) ++ (y ∷ [])) e ∙ sym (digits_more x g (omega arith)) in
-      record {
-        put = record { next = b.put.next ∙ ap (λ (l : List ℕ). at + length l) same; there = rw same at b.put.there };
-        short = digits_length 20 19 x (omega arith);
-      }
+pub number_more : (x : ℕ) {at k : ℕ} {before between : List ℕ} → 10 ≤ x → x < 2 ^ 64 → Part 20 (digits (x / 10)) at before k between
+    → Part 20 (digits x) at before (k + 1) (set between k (48 + x % 10))
+number_more x {at} {k} {before} {between} g h p =
+    let b = part_then p (part_byte k (48 + x % 10) between) in
+    let same : digits (x / 10) ++ ((48 + x % 10) ∷ []) ≡ digits x = sym (digits_more x g (omega arith)) in
+    let long : length (digits (x / 10) ++ ((48 + x % 10) ∷ [])) ≤ 20 = rw same (digits_length 20 19 x (omega arith)) in
+    let all : Part 20 (digits (x / 10) ++ ((48 + x % 10) ∷ [])) at before (k + 1) (set between k (48 + x % 10)) =
+    record { put = b.put; short = long } in
+    rw same at all

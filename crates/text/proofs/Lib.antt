@@ -1,7 +1,6 @@
 -- The theorems of this crate, file by file, lowest first; each file says in its first line what it shows.
 pub mod Parts
 pub mod Digits
-pub mod Signs
 pub mod Fields
 pub mod Grouping
 pub mod Read

@@ -16,37 +16,29 @@ use frame::{Buffer, ROW, Row};
 // No line is longer.
 pub const LINE: usize = 256;
 
-fn digit(x: u64) -> u8
-    requires { x < 10 }
-    ensures { result ≡ 48 + x }
-{
-    48 + x as u8
-}
-
 // The digits of a tenth of x, and then the last: at most twenty calls deep.
+#[tactic(auto, using(crate::proofs::Digits::number_room))]
 fn put_number(x: u64, out: &mut [u8], at: usize) -> usize
     requires { at + 20 ≤ length out.old }
     ensures { Part 20 (digits x) at out.old result out.new }
 {
     if x < 10 {
-        out[at] = digit(x);
+        out[at] = b'0' + x as u8;
         return at + 1;
     }
     let next = put_number(x / 10, out, at);
-    out[next] = digit(x % 10);
+    out[next] = b'0' + (x % 10) as u8;
     next + 1
 }
 
+#[tactic(auto, using(crate::proofs::Parts::part_copied))]
 fn put_word(word: &[u8], out: &mut [u8], at: usize) -> usize
     requires { at + length word.now ≤ length out.old }
     ensures { Part (length word.now) word.now at out.old result out.new }
 {
-    let mut k = 0;
-    while k < word.len() {
-        out[at + k] = word[k];
-        k += 1;
-    }
-    at + k
+    let next = at + word.len();
+    out[at..next].copy_from_slice(word);
+    next
 }
 
 // A word and then a number.
@@ -58,16 +50,17 @@ fn put_named(word: &[u8], x: u64, out: &mut [u8], at: usize) -> usize
     put_number(x, out, next)
 }
 
-// The size of the least i64 is 2^63: one is taken off before the sign is, and put back after.
+// The size of the least i64 is 2^63, which `unsigned_abs` has room for.
 fn put_signed(x: i64, out: &mut [u8], at: usize) -> usize
     requires { at + 21 ≤ length out.old }
     ensures { Part 21 (signed x) at out.old result out.new }
 {
-    if 0 <= x {
-        return put_number(x as u64, out, at);
+    let size = x.unsigned_abs();
+    if x < 0 {
+        put_named(b"-", size, out, at)
+    } else {
+        put_number(size, out, at)
     }
-    let below = (-1 - x) as u64;
-    put_named(b"-", below + 1, out, at)
 }
 
 fn put_field(x: i64, out: &mut [u8], at: usize) -> usize
@@ -83,10 +76,8 @@ fn put_fields(numbers: [i64; ROW], out: &mut [u8], at: usize) -> usize
     ensures { Part (field_room * row_width) (fields numbers) at out.old result out.new }
 {
     let mut next = at;
-    let mut k = 0;
-    while k < ROW {
-        next = put_field(numbers[k], out, next);
-        k += 1;
+    for number in numbers {
+        next = put_field(number, out, next);
     }
     next
 }
@@ -203,6 +194,6 @@ pub fn put_refusal(number: u8, offset: u64, out: &mut [u8], at: usize) -> usize
     requires { at + line_room ≤ length out.old }
     ensures { Line (refusal_line number offset) at out.old result out.new }
 {
-    let next = put_pair(b"refused ", number as u64, offset, out, at);
+    let next = put_pair(b"refused ", u64::from(number), offset, out, at);
     put_word(b"\n", out, next)
 }

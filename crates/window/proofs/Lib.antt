@@ -1,6 +1,4 @@
 -- The theorems of this crate, file by file, lowest first; each file says in its first line what it shows.
-pub mod Moving
-pub mod Reading
 pub mod Showing
 pub mod Answering
 pub mod Keeping

@@ -1,10 +1,21 @@
 -- What is shown of a window: how long it is, that it holds bytes, and what is shown behind some of it. By the laws of take and drop.
 use Rattle.std.specs.Prelude.{◌≡◌, ◌∷◌, ◌+◌, ◌-◌, ◌≤◌, ◌<◌}
 use Rattle.laws.specs.Kit.{sym, ap, subst, ◌∙◌, List, [], ℕ, zero, suc, arith, length, take, drop, drop-drop}
-use Rattle.laws.specs.Kit.{length-drop, length-take-le, get_or, get_or-drop}
+use Rattle.laws.specs.Kit.{length-drop, length-take-le, get_or, get_or-drop, drop-nil, take-nil}
 use Rattle.window.specs.declared.Span.{Span}
 use Rattle.window.specs.Step.{Fits, shown, onward, settled_of}
-use Rattle.window.proofs.Moving.{drop_take}
+
+pub drop_take : (n m : ℕ) (l : List ℕ) → drop n (take m l) ≡ take (m - n) (drop n l)
+drop_take zero m l = let all : m - 0 ≡ m = omega arith in sym (ap (λ (k : ℕ). take k l) all)
+drop_take (suc n) zero l = drop-nil (suc n) ∙ sym (ap (λ (k : ℕ). take k (drop (suc n) l)) none)
+  where
+    none : 0 - suc n ≡ 0
+    none = omega arith
+drop_take (suc n) (suc m) [] = sym (take-nil (suc m - suc n))
+drop_take (suc n) (suc m) (x ∷ l) = drop_take n m l ∙ ap (λ (k : ℕ). take k (drop n l)) less
+  where
+    less : m - n ≡ suc m - suc n
+    less = omega arith
 
 pub shown_size : (h : Span) (w : List ℕ) → Fits h (length w) → length (shown h w) ≡ h.held - h.from
 shown_size h w f =

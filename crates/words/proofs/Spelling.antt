@@ -29,7 +29,7 @@ module _ (w : List ℕ) (n : ℕ) where
   unfolding number_in
   number_when s =
       let long = s.some in
-      sym (not_too_long w (omega arith) s.few) ∙ rw (tests w s.all_digits) (ap Number (sym s.number))
+      not_too_long w (omega arith) s.few ∙ rw (tests w s.all_digits) (ap Number (sym s.number))
 
   only_then : word_of w ≡ Number n → Spells w n
   unfolding word_of number_in

@@ -3,9 +3,9 @@
 // each place it knows one number that is refused, and the refusal itself is the profile's, set-up's and the offset's.
 #![tactic(auto)]
 
-ghost use Rattle.std.specs.Prelude.{◌≡◌, ◌-◌, ◌≤◌};
+ghost use Rattle.std.specs.Prelude.{◌≡◌, ◌≤◌};
 ghost use Rattle.laws.specs.Kit.{length};
-ghost use Rattle.words.specs.Paper.{is_digit, placed, number_in, most_digits, word_of, asked_of, given_of};
+ghost use Rattle.words.specs.Paper.{number_in, most_digits, word_of, given_of};
 
 use limits::Parameters;
 use reel::Asked;
@@ -44,97 +44,56 @@ pub enum Given {
 // Every number of so many digits lies within 64 bits.
 const DIGITS: usize = 19;
 
-// The most that a place of 8, 16 and 32 bits holds.
-const MOST_8: u64 = 255;
-
-const MOST_16: u64 = 65535;
-
-const MOST_32: u64 = 4294967295;
-
-fn is_digit(c: u8) -> bool
-    ensures { result ≡ is_digit c }
-{
-    (48 <= c) & (c <= 57)
-}
-
-fn digit(c: u8) -> u64
-    requires { 48 ≤ c }
-    ensures { result ≡ c - 48 }
-{
-    (c - 48) as u64
-}
-
 // The digits from the left, up to the first byte that is none.
+#[tactic(auto, using(crate::proofs::Reading::bytes))]
 fn number_in(word: &[u8]) -> Word
     requires { length word.now ≤ most_digits }
     ensures { result ≡ number_in word.now }
 {
     let mut value = 0;
-    let mut k = 0;
-    while k < word.len() {
-        let c = word[k];
-        if !is_digit(c) {
+    for &c in word {
+        if !c.is_ascii_digit() {
             return Word::NoNumber;
         }
-        value = value * 10 + digit(c);
-        k += 1;
+        value = value * 10 + u64::from(c - b'0');
     }
-    Word::Number { value: value }
+    Word::Number { value }
 }
 
 // An empty word is no number, nor is one that might leave 64 bits.
+#[tactic(auto, using(crate::proofs::Reading::ways_out))]
 pub fn number_of(word: &[u8]) -> Word
     ensures { result ≡ word_of word.now }
 {
-    if word.len() == 0 {
-        return Word::NoNumber;
-    }
-    if DIGITS < word.len() {
+    if word.is_empty() || DIGITS < word.len() {
         return Word::NoNumber;
     }
     number_in(word)
 }
 
-// A number in a place that holds so much at most; `instead` where it does not fit.
-fn place(x: u64, most: u64, instead: u64) -> u64
-    requires { instead ≤ most }
-    ensures { (result ≡ placed most instead x) × (result ≤ most) }
-{
-    if x <= most { x } else { instead }
-}
-
-impl Numbers {
-    // What stands instead of a number that does not fit is refused by the same refusal. A TRO of all ones would be the default.
-    fn asked(self) -> Asked
-        requires { self.port ≤ 65535 }
-        ensures { result ≡ asked_of self }
-    {
-        Asked {
-            stated: Stated {
-                kind: place(self.profile, MOST_8, MOST_8) as u8,
-                parameters: Parameters {
-                    rate: place(self.rate, MOST_8, MOST_8) as u8,
-                    schedule: place(self.schedule, MOST_8, MOST_8) as u8,
-                    class: place(self.class, MOST_8, MOST_8) as u8,
-                    height: place(self.height, MOST_16, 0) as u16,
-                    n: place(self.n, MOST_32, MOST_32) as u32,
-                    maxudp: place(self.maxudp, MOST_16, MOST_16) as u16,
-                    tro: place(self.tro, MOST_32, MOST_32 - 1) as u32,
-                },
-                edition: place(self.edition, MOST_32, MOST_32) as u32,
-            },
-            port: self.port as u16,
-            offset: place(self.offset, MOST_32, MOST_32) as u32,
-        }
-    }
-}
-
+// What stands instead of a number that does not fit is refused by the same refusal. A TRO of all ones would be the default.
 // No port can be told instead of one that does not fit: it would be another stream.
 pub fn given_by(numbers: Numbers) -> Given
     ensures { result ≡ given_of numbers }
 {
-    if MOST_16 < numbers.port {
+    let Ok(port) = u16::try_from(numbers.port) else {
         return Given::NoCall;
-    }
-    Given::Asked(numbers.asked())
+    };
+    Given::Asked(Asked {
+        stated: Stated {
+            kind: u8::try_from(numbers.profile).unwrap_or(u8::MAX),
+            parameters: Parameters {
+                rate: u8::try_from(numbers.rate).unwrap_or(u8::MAX),
+                schedule: u8::try_from(numbers.schedule).unwrap_or(u8::MAX),
+                class: u8::try_from(numbers.class).unwrap_or(u8::MAX),
+                height: u16::try_from(numbers.height).unwrap_or(0),
+                n: u32::try_from(numbers.n).unwrap_or(u32::MAX),
+                maxudp: u16::try_from(numbers.maxudp).unwrap_or(u16::MAX),
+                tro: u32::try_from(numbers.tro).unwrap_or(u32::MAX - 1),
+            },
+            edition: u32::try_from(numbers.edition).unwrap_or(u32::MAX),
+        },
+        port,
+        offset: u32::try_from(numbers.offset).unwrap_or(u32::MAX),
+    })
 }

@@ -13,20 +13,20 @@ use Rattle.pump.proofs.open.Goals as goal
 
 pub past-requires : goal.past-requires
 past-requires c = let l = shown c.args.span c.args.window.now in
-    let ready = sym c.in-Ready.is ∙ c.begin-opened.ensures in
+    let ready = sym c.in-Ready.is ∙ c.begin.ensures in
     let headed = begin_headed l c.args.span.last in
     used_fits c.args.span c.args.window.now head_bytes c.requires.0
     (subst (λ (o : Opened). Headed o (length l)) (sym ready) headed)
 
 pub returns-in-More : goal.returns-in-More
-returns-in-More c = answers_waiting c.args.span Head _ (ap open_move (sym c.in-More.is ∙ c.begin-opened.ensures))
+returns-in-More c = answers_waiting c.args.span Head _ (ap open_move (sym c.in-More.is ∙ c.begin.ensures))
 
 pub returns-in-Refused : goal.returns-in-Refused
 returns-in-Refused c = let put = c.put_refusal in
     let short = put.ensures.short in
-    answers_refusing c.args.span Head _ put.result _ _ (ap open_move (sym c.in-Refused.is ∙ c.begin-opened.ensures))
+    answers_refusing c.args.span Head _ put.result _ _ (ap open_move (sym c.in-Refused.is ∙ c.begin.ensures))
     (omega (arith, short, c.requires.1)) put.ensures.put
 
 pub returns-in-Ready : goal.returns-in-Ready
 returns-in-Ready c = answers_going c.args.span (Walking _) head_bytes c.past.result _
-    (ap open_move (sym c.in-Ready.is ∙ c.begin-opened.ensures)) c.past.ensures
+    (ap open_move (sym c.in-Ready.is ∙ c.begin.ensures)) c.past.ensures

@@ -11,23 +11,23 @@ use Rattle.spool.proofs.lead.Goals as goal
 
 pub past-requires : goal.past-requires
 past-requires c = let l = shown c.args.span c.args.window.now in
-    let ready = sym c.in-Ready.is ∙ c.begin-threaded.ensures in
+    let ready = sym c.in-Ready.is ∙ c.begin.ensures in
     let tells = begin_tells c.args.asked l [] c.args.span.last (λ z. refl) in
     used_fits c.args.span c.args.window.now header_bytes c.requires.0
     (subst (Tells c.args.asked l []) (sym ready) tells).1
 
 pub returns-in-More : goal.returns-in-More
 returns-in-More c = let a = c.args in
-    answers_waiting a.span (Leader a.asked) _ (ap (lead_move a.asked) (sym c.in-More.is ∙ c.begin-threaded.ensures))
+    answers_waiting a.span (Leader a.asked) _ (ap (lead_move a.asked) (sym c.in-More.is ∙ c.begin.ensures))
 
 pub returns-in-Refused : goal.returns-in-Refused
 returns-in-Refused c = let put = c.put_refusal in
     let short = put.ensures.short in
     answers_refusing c.args.span (Leader c.args.asked) _ put.result _ _
-    (ap (lead_move c.args.asked) (sym c.in-Refused.is ∙ c.begin-threaded.ensures))
+    (ap (lead_move c.args.asked) (sym c.in-Refused.is ∙ c.begin.ensures))
     (omega (arith, short, c.requires.1)) put.ensures.put
 
 pub returns-in-Ready : goal.returns-in-Ready
 returns-in-Ready c = let a = c.args in
     answers_going a.span (Rolling _) header_bytes c.past.result _
-    (ap (lead_move a.asked) (sym c.in-Ready.is ∙ c.begin-threaded.ensures)) c.past.ensures
+    (ap (lead_move a.asked) (sym c.in-Ready.is ∙ c.begin.ensures)) c.past.ensures

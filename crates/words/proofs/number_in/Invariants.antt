@@ -1,12 +1,13 @@
--- The bytes of a word. The invariant: reading what is left, after the digits so far, gives what reading the whole gives; and k digits spell
--- less than 10^k, so that no sum leaves 64 bits.
-use Rattle.std.specs.Prelude.{◌≡◌, ◌-◌, ◌^◌, ◌≤◌, ◌<◌}
-use Rattle.laws.specs.Kit.{length, drop}
+-- The bytes of a word: reading what is left, after the digits so far, gives what reading the whole gives; and so many digits spell less than
+-- that power of 10, so that no sum leaves 64 bits.
+use Rattle.std.specs.Prelude.{◌≡◌, ◌^◌, ◌<◌}
+use Rattle.laws.specs.Kit.{drop}
+use Rattle.words.specs.Paper.{number_in}
 use Rattle.words.proofs.Reading.{read_on}
 use Rattle.words.proofs.number_in.Given as goal
 
-abbrev pub invariant-loop-k : goal.invariant-loop-k
-invariant-loop-k l = (read_on l.value (drop l.k l.word) ≡ read_on 0 l.word) × (l.k ≤ length l.word) × (l.value < 10 ^ l.k)
-
-abbrev pub decreases-loop-k : goal.decreases-loop-k
-decreases-loop-k l = length l.word - l.k
+abbrev pub invariant-loop-c : goal.invariant-loop-c
+invariant-loop-c l = record {
+  rest : read_on l.value (drop l.c-index l.word) ≡ number_in l.word;
+  below : l.value < 10 ^ l.c-index;
+}
