@@ -47,12 +47,6 @@ module _ (s : State) where
   last_none More e = refl
   last_none (Refused n o size) e = absurd (false_true (sym e))
 
-pub ends_not_more : (r : Next) → OneOf (0 ∷ 1 ∷ 3 ∷ []) (tag_of the_type r) → true ≡ not (wants_more r)
-ends_not_more (Packet p c) k = refl
-ends_not_more End k = refl
-ends_not_more More k = absurd (miss (0 ∷ 1 ∷ 3 ∷ []) 2 tt k)
-ends_not_more (Refused n o size) k = refl
-
 -- ---- lines put
 
 pub line_is : {line other : List ℕ} {at next : ℕ} {before after : List ℕ} → line ≡ other → Line line at before next after

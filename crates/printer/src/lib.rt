@@ -47,19 +47,14 @@ pub struct TakeAnswer {
 fn ready(numbers: FileNumbers, next: Cursor) -> Opened
     ensures { result ≡ ready_of numbers next }
 {
-    let parameters = numbers.parameters;
-    let profile = numbers.profile;
     let stream = StreamNumbers {
-        parameters,
+        parameters: numbers.parameters,
         edition: FIRST_EDITION,
-        profile,
+        profile: numbers.profile,
     };
     match stream.set_up() {
         SetUp::Fresh(state) => Opened::Ready(Walk { at: next, state }),
-        SetUp::Refused(number) => Opened::Refused {
-            number: number,
-            offset: 1,
-        },
+        SetUp::Refused(number) => Opened::Refused { number, offset: 1 },
     }
 }
 
@@ -76,10 +71,7 @@ pub fn begin(window: &[u8], last: bool) -> Opened
             next,
         } => ready(record::set_with(version, kind, parameters), next),
         Head::More => Opened::More,
-        Head::Refused { number, offset } => Opened::Refused {
-            number: number,
-            offset: offset,
-        },
+        Head::Refused { number, offset } => Opened::Refused { number, offset },
     }
 }
 
@@ -88,7 +80,7 @@ fn refused(number: u8, at: Cursor) -> Next
     ensures { result ≡ Refused number at.at packet_bytes }
 {
     Next::Refused {
-        number: number,
+        number,
         offset: at.at,
         size: PACKET_BYTES as u64,
     }
@@ -98,10 +90,7 @@ fn refused(number: u8, at: Cursor) -> Next
 fn ends(item: Next) -> bool
     ensures { result ≡ not (wants_more item) }
 {
-    let Next::More = item else {
-        return true;
-    };
-    false
+    !matches!(item, Next::More)
 }
 
 // The counts, the peak and the verdict.
@@ -109,24 +98,16 @@ fn put_sum(s: State, out: &mut [u8], at: usize) -> usize
     requires { at + line_room ≤ length out.old }
     ensures { Line (sum_line s) at out.old result out.new }
 {
-    let past = s.past;
-    let frames = s.frames;
-    let bucket = s.bucket;
-    let judged = s.verdict();
-    match judged {
-        Judged::Given(v) => {
-            let network = v.network;
-            let buffer = v.buffer;
-            text::put_summary(
-                past.packets,
-                frames.closed,
-                bucket.peak,
-                network,
-                buffer,
-                out,
-                at,
-            )
-        }
+    match s.verdict() {
+        Judged::Given(v) => text::put_summary(
+            s.past.packets,
+            s.frames.closed,
+            s.bucket.peak,
+            v.network,
+            v.buffer,
+            out,
+            at,
+        ),
         Judged::Refused(number) => text::put_refusal(number, 0, out, at),
     }
 }
@@ -136,12 +117,7 @@ fn put_last(s: State, item: Next, out: &mut [u8], at: usize) -> usize
     requires { at + line_room ≤ length out.old }
     ensures { Line (line_of item s) at out.old result out.new }
 {
-    let Next::Refused {
-        number,
-        offset,
-        size: _,
-    } = item
-    else {
+    let Next::Refused { number, offset, .. } = item else {
         if ends(item) {
             return put_sum(s, out, at);
         }
@@ -170,7 +146,7 @@ impl Walk {
         let next = put_last(self.state, item, out, written);
         TakeAnswer {
             walk: self,
-            used: used,
+            used,
             written: next,
             ended: ends(item),
         }
@@ -190,13 +166,12 @@ impl Walk {
         while LINE <= out.len() - written {
             let item = at.read_piece(&window[used..], last);
             let Next::Packet { packet, next } = item else {
-                let walk = Walk { at: at, state: s };
+                let walk = Walk { at, state: s };
                 return walk.stop(item, used, out, written);
             };
-            let past = s.past;
-            let number = past.refusal(packet);
+            let number = s.past.refusal(packet);
             if number != 0 {
-                let walk = Walk { at: at, state: s };
+                let walk = Walk { at, state: s };
                 return walk.stop(refused(number, at), used, out, written);
             }
             s = s.arrive(rules, packet.time, packet.stamp);
@@ -208,9 +183,9 @@ impl Walk {
             used += PACKET_BYTES;
         }
         TakeAnswer {
-            walk: Walk { at: at, state: s },
-            used: used,
-            written: written,
+            walk: Walk { at, state: s },
+            used,
+            written,
             ended: false,
         }
     }
@@ -221,7 +196,6 @@ impl Walk {
         ensures { TakeGives (take_of self window.now last (length out.old)) 0 0
             out.old result out.new }
     {
-        let s = self.state;
         if out.len() < LINE {
             return TakeAnswer {
                 walk: self,
@@ -230,7 +204,7 @@ impl Walk {
                 ended: false,
             };
         }
-        if !s.in_range() {
+        if !self.state.in_range() {
             let unmeasured = Next::Refused {
                 number: 9,
                 offset: 0,
@@ -238,7 +212,6 @@ impl Walk {
             };
             return self.stop(unmeasured, 0, out, 0);
         }
-        let numbers = s.numbers;
-        self.run(numbers.rules(), window, last, out)
+        self.run(self.state.numbers.rules(), window, last, out)
     }
 }

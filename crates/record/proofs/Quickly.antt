@@ -1,9 +1,9 @@
 -- A file whose bytes are packets' records, gone through by a run that is admitted, finishes as the walk over it does. By the records: each
 -- stands whole, so that the format refuses none, and no packet is refused either, as a run that is admitted says.
-use Rattle.std.specs.Prelude.{◌≡◌, ◌&&◌, ◌||◌, ◌∷◌, ◌+◌, ◌*◌, None, Some, Ok}
+use Rattle.std.specs.Prelude.{◌≡◌, ◌&&◌, ◌||◌, ◌∷◌, ◌+◌, ◌*◌, None, Some, Ok, ◌-◌}
 use Rattle.laws.specs.Kit.{refl, sym, ap, subst, ◌∙◌, Bool, true, false, and-false, List, [], ℕ, zero, suc}
 use Rattle.std.specs.Prelude.{◌/◌, ◌%◌, ◌<◌}
-use Rattle.laws.specs.Kit.{arith, eqb, length, drop, length-drop, eq-eqb, ne_eqb, eqb-true}
+use Rattle.laws.specs.Kit.{arith, eqb, length, drop, length-drop, drop-drop, eq-eqb, ne_eqb, eqb-true}
 use Rattle.laws.proofs.Choose.{pick_either, second}
 use Rattle.laws.proofs.Every.{and_left, and_right}
 use Rattle.packet.specs.declared.Packet.{Packet}
@@ -56,6 +56,23 @@ module _ (r : Run) {left k : ℕ} (some : left ≡ suc k) (l : List ℕ) where
   pub ran_breaks : takes_of r (packet_at l) ≡ false → ran_in r left l ≡ None
   unfolding ran_in
   ran_breaks t = rw (some, t, and-false (stands_in l))
+
+-- the same in a turn: behind so many records from a place in a file
+module _ (r : Run) {n k : ℕ} (some : k < n) (at : ℕ) (l : List ℕ) where
+  pub turn_goes : stands_in (drop (at + packet_bytes * k) l) ≡ true → takes_of r (packet_at (drop (at + packet_bytes * k) l)) ≡ true
+      → ran_in (runs_of r (packet_at (drop (at + packet_bytes * k) l))) (n - (k + 1)) (drop (at + packet_bytes * (k + 1)) l)
+      ≡ ran_in r (n - k) (drop (at + packet_bytes * k) l)
+  turn_goes s t =
+      let next : at + packet_bytes * (k + 1) ≡ at + packet_bytes * k + packet_bytes = omega arith in
+      let left : n - k ≡ suc (n - (k + 1)) = omega arith in
+      rw (next, ← drop-drop packet_bytes (at + packet_bytes * k) l) (sym (ran_goes r left _ s t))
+
+  pub turn_other : stands_in (drop (at + packet_bytes * k) l) ≡ false → Broken ≡ ran_in r (n - k) (drop (at + packet_bytes * k) l)
+  turn_other s = sym (ran_other r {k = n - (k + 1)} (omega arith) _ s)
+
+  pub turn_breaks : takes_of r (packet_at (drop (at + packet_bytes * k) l)) ≡ false
+      → Broken ≡ ran_in r (n - k) (drop (at + packet_bytes * k) l)
+  turn_breaks t = sym (ran_breaks r {k = n - (k + 1)} (omega arith) _ t)
 
 -- what a run that went through says of its first record
 record Passed (r z : Run) (k : ℕ) (l : List ℕ) : Type 0 where

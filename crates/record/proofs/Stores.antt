@@ -1,6 +1,6 @@
 -- A record's fields, stored one after the other, are the record stored. By the law that bytes stored in two runs are stored in one.
-use Rattle.std.specs.Prelude.{◌≡◌, ◌+◌, ◌≤◌, ◌<◌}
-use Rattle.laws.specs.Kit.{sym, ◌∙◌, List, ℕ, div-one, div-eq_of_lt, mod-eq_of_lt, add_assoc, lit<, length, set}
+use Rattle.std.specs.Prelude.{◌≡◌, ◌+◌, ◌*◌, ◌≤◌, ◌<◌}
+use Rattle.laws.specs.Kit.{sym, ◌∙◌, List, ℕ, div-one, div-eq_of_lt, mod-eq_of_lt, add_assoc, lit<, arith, length, set}
 use Rattle.laws.specs.Kit.{length-append, sets}
 use Rattle.endian.specs.Number.{bytes_of}
 use Rattle.endian.specs.Fields.{field_bytes}
@@ -11,7 +11,7 @@ use Rattle.packet.specs.Paper.{OneLength, lent, packets_from}
 use Rattle.packet.proofs.Lent.{packets_cons, packets_none}
 use Rattle.limits.specs.declared.Parameters.{Parameters}
 use Rattle.record.specs.Layout.{packet_with, packet_record, head_of, records_of}
-use Rattle.record.specs.Paper.{parameters_length, packet_length, packet_bytes, heading}
+use Rattle.record.specs.Paper.{parameters_length, packet_length, packet_bytes, head_bytes, heading}
 
 one_stored : (v : ℕ) (d : List ℕ) (at : ℕ) → sets d at (bytes_of 1 v) ≡ set d at v
 unfolding bytes_of
@@ -42,7 +42,7 @@ unfolding field_bytes
 length_packet p = simp (length-append, length_bytes)
 
 module _ {ts ss ms : List ℕ} (same : OneLength ts ss ms) (i : ℕ) (d : List ℕ) (at : ℕ) where
-  pub records_go : i < length ts
+  records_go : i < length ts
       → sets (sets d at (packet_record (lent ts ss ms i))) (at + packet_bytes) (records_of (packets_from (i + 1) ts ss ms))
       ≡ sets d at (records_of (packets_from i ts ss ms))
   unfolding records_of
@@ -56,3 +56,13 @@ module _ {ts ss ms : List ℕ} (same : OneLength ts ss ms) (i : ℕ) (d : List �
   pub records_end : length ts ≤ i → i ≤ length ts → sets d at (records_of (packets_from i ts ss ms)) ≡ d
   unfolding records_of
   records_end h k = rw (packets_none same i h k)
+
+-- the same in a turn: the places are counted by the packets
+module _ {ts ss ms : List ℕ} (same : OneLength ts ss ms) (i : ℕ) (d : List ℕ) where
+  pub records_turn : i < length ts
+      → sets (sets d (head_bytes + packet_bytes * i) (packet_record (lent ts ss ms i))) (head_bytes + packet_bytes * (i + 1))
+      (records_of (packets_from (i + 1) ts ss ms))
+      ≡ sets d (head_bytes + packet_bytes * i) (records_of (packets_from i ts ss ms))
+  records_turn h =
+      let next : head_bytes + packet_bytes * (i + 1) ≡ head_bytes + packet_bytes * i + packet_bytes = omega arith in
+      rw next (records_go same i d (head_bytes + packet_bytes * i) h)

@@ -113,10 +113,7 @@ pub const HEAD_BYTES: usize = 1 + (2 + PARAMETERS_LENGTH as usize);
 fn version_known(version: u8) -> bool
     ensures { result ≡ version_known version }
 {
-    match version {
-        1 | 2 => true,
-        _ => false,
-    }
+    matches!(version, 1 | 2)
 }
 
 // The class that a file of a version sets up with: one of version 1 keeps 0 as wide.
@@ -138,13 +135,8 @@ fn resolved(version: u8, written: Parameters) -> Parameters
     ensures { result ≡ resolved_in version written }
 {
     Parameters {
-        rate: written.rate,
-        schedule: written.schedule,
         class: class_in(version, written.class),
-        height: written.height,
-        n: written.n,
-        maxudp: written.maxudp,
-        tro: written.tro,
+        ..written
     }
 }
 
@@ -170,10 +162,10 @@ fn kind_length(kind: u8) -> u16
     ensures { result ≡ kind_length kind }
 {
     if is_parameters(kind) {
-        return PARAMETERS_LENGTH as u16;
+        return u16::from(PARAMETERS_LENGTH);
     }
     if kind == PACKET {
-        return PACKET_LENGTH as u16;
+        return u16::from(PACKET_LENGTH);
     }
     0
 }
@@ -216,7 +208,7 @@ fn packet_of(s: &[u8], next: Cursor) -> Next
 {
     Next::Packet {
         packet: packet_at(s),
-        next: next,
+        next,
     }
 }
 
@@ -246,7 +238,7 @@ fn after_packet(at: u64) -> Cursor
     ensures { result ≡ after at packet_bytes }
 {
     Cursor {
-        at: std::num::wrapping_add_u64(at, PACKET_BYTES as u64),
+        at: at.wrapping_add(PACKET_BYTES as u64),
     }
 }
 
@@ -281,7 +273,7 @@ pub fn frame(window: &[u8], last: bool) -> Framed
         return Framed::More;
     }
     Framed::Whole {
-        body: body,
+        body,
         kind: window[2],
     }
 }
@@ -289,10 +281,7 @@ pub fn frame(window: &[u8], last: bool) -> Framed
 fn head_refused(number: u8, offset: u64) -> Head
     ensures { result ≡ Refused number offset }
 {
-    Head::Refused {
-        number: number,
-        offset: offset,
-    }
+    Head::Refused { number, offset }
 }
 
 // A first record that is all there.
@@ -307,8 +296,8 @@ fn first_record(version: u8, body: u16, kind: u8, s: &[u8]) -> Head
         return head_refused(23, 1);
     }
     Head::Ready {
-        version: version,
-        kind: kind,
+        version,
+        kind,
         parameters: parameters_of(s),
         next: Cursor {
             at: HEAD_BYTES as u64,
@@ -394,12 +383,12 @@ impl Cursor {
         requires { Whole body kind s.now }
         ensures { result ≡ whole_of self.at body kind s.now }
     {
-        let size = 2 + body as u64;
+        let size = 2 + u64::from(body);
         if body != kind_length(kind) {
             return Next::Refused {
                 number: 22,
                 offset: self.at,
-                size: size,
+                size,
             };
         }
         let again = is_parameters(kind);
@@ -407,7 +396,7 @@ impl Cursor {
             return Next::Refused {
                 number: 23,
                 offset: self.at,
-                size: size,
+                size,
             };
         }
         packet_of(s, after_packet(self.at))
@@ -424,17 +413,13 @@ fn closed(tally: Tally, item: Next, numbers: FileNumbers) -> Checked
         size: _,
     } = item
     else {
-        let past = tally.past;
         return Checked::Fine {
-            numbers: numbers,
-            packets: past.packets,
+            numbers,
+            packets: tally.past.packets,
             closed: tally.closed as u64,
         };
     };
-    Checked::Refused {
-        number: number,
-        offset: offset,
-    }
+    Checked::Refused { number, offset }
 }
 
 // The answer where reading stops before there are stream numbers: at a refusal, and at nothing else.
@@ -447,10 +432,7 @@ fn refused_by(head: Head) -> Checked
             offset: 0,
         };
     };
-    Checked::Refused {
-        number: number,
-        offset: offset,
-    }
+    Checked::Refused { number, offset }
 }
 
 // One pass over a whole file that copies nothing: what `report` asks before it measures. A file carries no edition: it is told beside the
@@ -469,14 +451,9 @@ pub fn check(edition: u32, s: &[u8]) -> Checked
         return refused_by(head);
     };
     let numbers = set_with(version, kind, parameters);
-    let set = numbers.parameters;
-    let profile = numbers.profile;
-    let number = set.refusal_in(profile, edition);
+    let number = numbers.parameters.refusal_in(numbers.profile, edition);
     if number != 0 {
-        return Checked::Refused {
-            number: number,
-            offset: 1,
-        };
+        return Checked::Refused { number, offset: 1 };
     }
     check_packets(numbers, next, s)
 }
@@ -485,7 +462,7 @@ pub fn check(edition: u32, s: &[u8]) -> Checked
 fn records_left(from: Cursor, s: &[u8]) -> usize
     ensures { result ≡ records_left (drop from.at s.now) }
 {
-    let size = laws::less(s.len() as u64, from.at) as usize;
+    let size = (s.len() as u64).saturating_sub(from.at) as usize;
     if size % PACKET_BYTES != 0 {
         return 0;
     }
@@ -498,19 +475,17 @@ fn run_packets(from: Cursor, count: usize, s: &[u8]) -> Ran
     ensures { result ≡ ran_in (start_of nothing false) count (drop from.at s.now) }
 {
     let mut run = Past::none().start(false);
-    let mut at = from.at as usize;
-    let mut left = count;
-    while 0 < left {
-        if !packet_fits(&s[at..]) {
+    let start = from.at as usize;
+    for k in 0..count {
+        let record = &s[start + PACKET_BYTES * k..];
+        if !packet_fits(record) {
             return Ran::Broken;
         }
-        let p = packet_at(&s[at..]);
+        let p = packet_at(record);
         if !run.takes(p) {
             return Ran::Broken;
         }
         run = run.with(p);
-        at += PACKET_BYTES;
-        left -= 1;
     }
     Ran::Through(run)
 }
@@ -526,7 +501,7 @@ fn check_packets(numbers: FileNumbers, from: Cursor, s: &[u8]) -> Checked
             let first = packet_at(&s[from.at as usize..]);
             if Past::none().admits(count as u64, first.time, run.last) {
                 return Checked::Fine {
-                    numbers: numbers,
+                    numbers,
                     packets: count as u64,
                     closed: run.closed() as u64,
                 };
@@ -547,11 +522,10 @@ fn walk_packets(numbers: FileNumbers, from: Cursor, s: &[u8]) -> Checked
         let Next::Packet { packet, next } = item else {
             return closed(tally, item, numbers);
         };
-        let past = tally.past;
-        let number = past.refusal(packet);
+        let number = tally.past.refusal(packet);
         if number != 0 {
             return Checked::Refused {
-                number: number,
+                number,
                 offset: cursor.at,
             };
         }
@@ -573,8 +547,7 @@ fn heading_refusal(version: u8, kind: u8, written: Parameters) -> u8
 {
     let of_version = version_refusal(version);
     let of_kind = limits::profile_refusal(kind);
-    let numbers = resolved(version, written);
-    let of_numbers = numbers.refusal(limits::profile_of(kind));
+    let of_numbers = resolved(version, written).refusal(limits::profile_of(kind));
     let later = laws::first_of(of_kind, of_numbers);
     laws::first_of(of_version, later)
 }
@@ -593,10 +566,7 @@ pub fn would_write(
 {
     let number = heading_refusal(version, kind, numbers);
     if number != 0 {
-        return Written::Refused {
-            number: number,
-            place: 0,
-        };
+        return Written::Refused { number, place: 0 };
     }
     let scanned = Past::none().scan(false, arrivals, stamps, markers);
     match scanned {
@@ -637,7 +607,7 @@ pub fn write(
     };
     write_head(version, kind, numbers, out);
     write_packets(arrivals, stamps, markers, out);
-    Written::Done { bytes: bytes }
+    Written::Done { bytes }
 }
 
 // The version byte and the parameters.
@@ -677,11 +647,8 @@ fn write_packets(arrivals: &[u64], stamps: &[u32], markers: &[u8], out: &mut [u8
     ensures { out.new
         ≡ sets out.old head_bytes (records_of (packets arrivals.now stamps.now markers.now)) }
 {
-    let mut i = 0;
-    let mut at = HEAD_BYTES;
-    while i < arrivals.len() {
+    for i in 0..arrivals.len() {
+        let at = HEAD_BYTES + PACKET_BYTES * i;
         write_packet(arrivals[i], stamps[i], markers[i], out, at);
-        at += PACKET_BYTES;
-        i += 1;
     }
 }

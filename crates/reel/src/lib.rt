@@ -60,12 +60,12 @@ fn ready(asked: Asked, state: State, window: &[u8], last: bool) -> Threaded
         Opened::Unknown => Threaded::Refused { number: 30 },
         Opened::Capture { format } => Threaded::Ready(Reel {
             setting: Setting {
-                format: format,
+                format,
                 port: asked.port,
                 offset: asked.offset,
             },
             cursor: Cursor::start(),
-            state: state,
+            state,
             records: 0,
             skipped: 0,
         }),
@@ -76,23 +76,15 @@ fn ready(asked: Asked, state: State, window: &[u8], last: bool) -> Threaded
 pub fn begin(asked: Asked, window: &[u8], last: bool) -> Threaded
     ensures { result ≡ begin_of asked window.now last }
 {
-    let stated = asked.stated;
-    match stated.set_up() {
+    match asked.stated.set_up() {
         SetUp::Fresh(state) => {
             if 99 < asked.offset {
                 return Threaded::Refused { number: 33 };
             }
             ready(asked, state, window, last)
         }
-        SetUp::Refused(number) => Threaded::Refused { number: number },
+        SetUp::Refused(number) => Threaded::Refused { number },
     }
-}
-
-// One count more; a capture of 2^64 records would begin it anew.
-fn plus(count: u64, more: u64) -> u64
-    ensures { result ≡ counted (count + more) }
-{
-    std::num::wrapping_add_u64(count, more)
 }
 
 // The counts, the peak, the verdict, and the records.
@@ -100,43 +92,32 @@ fn put_sum(s: State, records: u64, skipped: u64, out: &mut [u8], at: usize) -> u
     requires { at + line_room ≤ length out.old }
     ensures { Line (captured_line s records skipped) at out.old result out.new }
 {
-    let past = s.past;
-    let frames = s.frames;
-    let bucket = s.bucket;
-    let judged = s.verdict();
-    match judged {
-        Judged::Given(v) => {
-            let network = v.network;
-            let buffer = v.buffer;
-            text::put_capture(
-                past.packets,
-                frames.closed,
-                bucket.peak,
-                network,
-                buffer,
-                records,
-                skipped,
-                out,
-                at,
-            )
-        }
+    match s.verdict() {
+        Judged::Given(v) => text::put_capture(
+            s.past.packets,
+            s.frames.closed,
+            s.bucket.peak,
+            v.network,
+            v.buffer,
+            records,
+            skipped,
+            out,
+            at,
+        ),
         Judged::Refused(number) => text::put_refusal(number, 0, out, at),
     }
 }
 
 impl Reel {
-    // So many skipped records were passed over.
+    // So many skipped records were passed over. A capture of 2^64 records would begin its counts anew.
     fn passed(self, cursor: Cursor, skips: u64) -> Reel
         ensures { result ≡ passed_by self cursor skips }
     {
-        let setting = self.setting;
-        let state = self.state;
         Reel {
-            setting: setting,
-            cursor: cursor,
-            state: state,
-            records: plus(self.records, skips),
-            skipped: plus(self.skipped, skips),
+            cursor,
+            records: self.records.wrapping_add(skips),
+            skipped: self.skipped.wrapping_add(skips),
+            ..self
         }
     }
 
@@ -146,22 +127,14 @@ impl Reel {
         ensures { Line (line_ahead self ahead) at out.old result out.new }
     {
         match ahead {
-            Ahead::Packet {
-                packet: _,
-                skipped: _,
-                used: _,
-            } => at,
-            Ahead::Wait {
-                cursor: _,
-                skipped: _,
-                used: _,
-            } => at,
+            Ahead::Packet { .. } | Ahead::Wait { .. } => at,
             Ahead::End { skipped } => {
-                let records = plus(self.records, skipped);
-                put_sum(self.state, records, plus(self.skipped, skipped), out, at)
+                let records = self.records.wrapping_add(skipped);
+                let all_skipped = self.skipped.wrapping_add(skipped);
+                put_sum(self.state, records, all_skipped, out, at)
             }
             Ahead::Refused { number, skipped } => {
-                text::put_refusal(number, plus(self.records, skipped), out, at)
+                text::put_refusal(number, self.records.wrapping_add(skipped), out, at)
             }
         }
     }
@@ -175,13 +148,9 @@ impl Reel {
     {
         let next = self.put_ahead(ahead, out, written);
         match ahead {
-            Ahead::Packet {
-                packet: _,
-                skipped: _,
-                used: _,
-            } => TakeAnswer {
+            Ahead::Packet { .. } => TakeAnswer {
                 reel: self,
-                used: used,
+                used,
                 written: next,
                 ended: false,
             },
@@ -195,18 +164,9 @@ impl Reel {
                 written: next,
                 ended: false,
             },
-            Ahead::End { skipped: _ } => TakeAnswer {
+            Ahead::End { .. } | Ahead::Refused { .. } => TakeAnswer {
                 reel: self,
-                used: used,
-                written: next,
-                ended: true,
-            },
-            Ahead::Refused {
-                number: _,
-                skipped: _,
-            } => TakeAnswer {
-                reel: self,
-                used: used,
+                used,
                 written: next,
                 ended: true,
             },
@@ -228,7 +188,7 @@ impl Reel {
         let next = text::put_refusal(number, place, out, written);
         TakeAnswer {
             reel: self,
-            used: used,
+            used,
             written: next,
             ended: true,
         }
@@ -241,7 +201,6 @@ impl Reel {
         ensures { TakeGives (roll_of rules self window.now last (length out.old)) 0 0
             out.old result out.new }
     {
-        let setting = self.setting;
         let mut cursor = self.cursor;
         let mut s = self.state;
         let mut records = self.records;
@@ -249,7 +208,7 @@ impl Reel {
         let mut used = 0;
         let mut written = 0;
         while LINE <= out.len() - written {
-            let ahead = cursor.ahead(setting, &window[used..], last);
+            let ahead = cursor.ahead(self.setting, &window[used..], last);
             let Ahead::Packet {
                 packet,
                 skipped: skips,
@@ -257,46 +216,45 @@ impl Reel {
             } = ahead
             else {
                 let reel = Reel {
-                    setting: setting,
-                    cursor: cursor,
+                    cursor,
                     state: s,
-                    records: records,
-                    skipped: skipped,
+                    records,
+                    skipped,
+                    ..self
                 };
                 return reel.stop(ahead, used, out, written);
             };
-            let past = s.past;
-            let number = past.refusal(packet);
+            let number = s.past.refusal(packet);
             if number != 0 {
                 let reel = Reel {
-                    setting: setting,
-                    cursor: cursor,
+                    cursor,
                     state: s,
-                    records: records,
-                    skipped: skipped,
+                    records,
+                    skipped,
+                    ..self
                 };
-                return reel.refuse(number, past.packets, used, out, written);
+                return reel.refuse(number, s.past.packets, used, out, written);
             }
             s = s.arrive(rules, packet.time, packet.stamp);
             if packet.marker == 1 {
                 written = printer::put_closed(s, rules, out, written);
                 s = s.mark(rules, packet.time);
             }
-            records = plus(plus(records, skips), 1);
-            skipped = plus(skipped, skips);
+            records = records.wrapping_add(skips).wrapping_add(1);
+            skipped = skipped.wrapping_add(skips);
             cursor = Cursor::start();
             used += more;
         }
         TakeAnswer {
             reel: Reel {
-                setting: setting,
-                cursor: cursor,
+                cursor,
                 state: s,
-                records: records,
-                skipped: skipped,
+                records,
+                skipped,
+                ..self
             },
-            used: used,
-            written: written,
+            used,
+            written,
             ended: false,
         }
     }
@@ -307,7 +265,6 @@ impl Reel {
         ensures { TakeGives (take_of self window.now last (length out.old)) 0 0
             out.old result out.new }
     {
-        let s = self.state;
         if out.len() < LINE {
             return TakeAnswer {
                 reel: self,
@@ -316,10 +273,9 @@ impl Reel {
                 ended: false,
             };
         }
-        if !s.in_range() {
+        if !self.state.in_range() {
             return self.refuse(9, 0, 0, out, 0);
         }
-        let numbers = s.numbers;
-        self.run(numbers.rules(), window, last, out)
+        self.run(self.state.numbers.rules(), window, last, out)
     }
 }

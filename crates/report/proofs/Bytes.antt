@@ -67,7 +67,7 @@ pub naturals : (xs : List ℕ) → map signed (map pos xs) ≡ xs
 naturals [] = refl
 naturals (x ∷ xs) = ap (λ (l : List ℕ). x ∷ l) (naturals xs)
 
-sign_at : (zs : List ℤ) (k : ℕ) → get_or (map signed zs) k 0 ≡ signed (get_or zs k (pos 0))
+pub sign_at : (zs : List ℤ) (k : ℕ) → get_or (map signed zs) k 0 ≡ signed (get_or zs k (pos 0))
 sign_at [] k = refl
 sign_at (z ∷ zs) zero = refl
 sign_at (z ∷ zs) (suc k) = sign_at zs k

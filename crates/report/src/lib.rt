@@ -53,12 +53,10 @@ pub fn fits(front: usize, closed: u64, room: usize) -> bool
 fn stream_in(edition: u32, numbers: FileNumbers) -> StreamNumbers
     ensures { result ≡ stream_in edition numbers }
 {
-    let parameters = numbers.parameters;
-    let profile = numbers.profile;
     StreamNumbers {
-        parameters,
+        parameters: numbers.parameters,
         edition,
-        profile,
+        profile: numbers.profile,
     }
 }
 
@@ -91,10 +89,8 @@ fn put_row(row: Row, out: &mut [u8], at: usize)
     ensures { out.new ≡ sets out.old at (encoded (numbers_of row)) }
 {
     let numbers = row.numbers();
-    let mut k = 0;
-    while k < frame::ROW {
-        write64(out, at + NUMBER * k, grain::bits(numbers[k]));
-        k += 1;
+    for (k, &number) in numbers.iter().enumerate() {
+        write64(out, at + NUMBER * k, number.cast_unsigned());
     }
 }
 
@@ -103,10 +99,8 @@ fn put_nine(numbers: [u64; SUMMARY], out: &mut [u8])
     requires { (summary_bytes ≤ length out.old) × (length numbers ≡ summary_width) }
     ensures { out.new ≡ sets out.old 0 (in_bytes numbers) }
 {
-    let mut k = 0;
-    while k < SUMMARY {
-        write64(out, NUMBER * k, numbers[k]);
-        k += 1;
+    for (k, &number) in numbers.iter().enumerate() {
+        write64(out, NUMBER * k, number);
     }
 }
 
@@ -115,12 +109,11 @@ pub fn put_summary(s: State, out: &mut [u8])
     requires { (summary_bytes ≤ length out.old) × (in_range s ≡ true) }
     ensures { out.new ≡ sets out.old 0 (in_bytes (summary_of s)) }
 {
-    let past = s.past;
-    let frames = s.frames;
-    let bucket = s.bucket;
-    let judged = s.verdict();
-    match judged {
-        Judged::Given(v) => put_nine(v.summary(past.packets, frames.closed, bucket.peak), out),
+    match s.verdict() {
+        Judged::Given(v) => {
+            let summary = v.summary(s.past.packets, s.frames.closed, s.bucket.peak);
+            put_nine(summary, out);
+        }
         Judged::Refused(_) => {}
     }
 }
@@ -180,7 +173,7 @@ pub extern "C" fn vtiming_measure(file: &[u8], edition: u32, out: &mut [u8]) -> 
             put_summary(s, out);
             0
         }
-        Asked::Refused { number, offset: _ } => number as u32,
+        Asked::Refused { number, offset: _ } => u32::from(number),
     }
 }
 
@@ -249,7 +242,7 @@ pub extern "C" fn vtiming_write(
     let written = record::write(version, profile, numbers, arrivals, stamps, markers, out);
     match written {
         Written::Done { bytes: _ } => 0,
-        Written::Refused { number, place: _ } => number as u32,
+        Written::Refused { number, place: _ } => u32::from(number),
     }
 }
 
@@ -336,18 +329,17 @@ pub extern "C" fn vtiming_limits(
     let asked = stated(rate, schedule, class, height, n, maxudp, tro, profile);
     let number = asked.refusal();
     if number != 0 {
-        return number as u32;
+        return u32::from(number);
     }
     if out.len() < 4 {
         return 15;
     }
     let numbers = asked.numbers();
     let rules = numbers.rules();
-    let plan = rules.plan;
     out[0] = numbers.frame_length();
-    out[1] = plan.tro;
+    out[1] = rules.plan.tro;
     out[2] = rules.limit;
-    out[3] = plan.full;
+    out[3] = rules.plan.full;
     0
 }
 
@@ -391,7 +383,7 @@ pub extern "C" fn vtiming_next_read(
             denominator,
         } => put_three(1, numerator, denominator, out),
         Awaited::NoneLeft => put_three(0, 0, 0, out),
-        Awaited::Refused(number) => number as u32,
+        Awaited::Refused(number) => u32::from(number),
     }
 }
 
@@ -411,6 +403,6 @@ pub extern "C" fn vtiming_graph(fpt: i64, margin: i64, latency: i64, out: &mut [
             out[2] = g.latency;
             0
         }
-        Drawn::Refused(number) => number as u32,
+        Drawn::Refused(number) => u32::from(number),
     }
 }

@@ -8,10 +8,10 @@ pub returns-in-Given : goal.returns-in-Given
 returns-in-Given c =
     let a = c.args in
     subst (λ (l : List ℕ). Line l a.at a.out.now c.put_summary.result c.put_summary.new.out)
-    (ap (judged_line a.s) (sym c.in-Given.is ∙ c.verdict-judged.ensures)) c.put_summary.ensures
+    (ap (judged_line a.s) (sym c.in-Given.is ∙ c.verdict.ensures)) c.put_summary.ensures
 
 pub returns-in-Refused : goal.returns-in-Refused
 returns-in-Refused c =
     let a = c.args in
     subst (λ (l : List ℕ). Line l a.at a.out.now c.put_refusal.result c.put_refusal.new.out)
-    (ap (judged_line a.s) (sym c.in-Refused.is ∙ c.verdict-judged.ensures)) c.put_refusal.ensures
+    (ap (judged_line a.s) (sym c.in-Refused.is ∙ c.verdict.ensures)) c.put_refusal.ensures

@@ -8,5 +8,5 @@ pub returns : goal.returns
 returns c =
     c.first_of.ensures
     ∙ ap (or_else c.version_refusal-of_version.result) c.first_of-later.ensures
-    ∙ heading_all _ _ _ c.version_refusal-of_version.ensures c.profile_refusal-of_kind.ensures c.resolved-numbers.ensures
+    ∙ heading_all _ _ _ c.version_refusal-of_version.ensures c.profile_refusal-of_kind.ensures c.resolved.ensures
     c.profile_of.ensures c.refusal-of_numbers.ensures

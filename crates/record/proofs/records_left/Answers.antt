@@ -6,9 +6,9 @@ use Rattle.record.proofs.records_left.Goals as goal
 pub returns-then-size-ne0 : goal.returns-then-size-ne0
 returns-then-size-ne0 c =
     let a = c.args in
-    left_none (drop a.from.at a.s.now) (c.less-size.ensures ∙ sym (length-drop a.from.at a.s.now)) c.if-size-ne0.true
+    left_none (drop a.from.at a.s.now) (c.saturating_sub-size.ensures ∙ sym (length-drop a.from.at a.s.now)) c.if-size-ne0.true
 
 pub returns : goal.returns
 returns c =
     let a = c.args in
-    left_all (drop a.from.at a.s.now) (c.less-size.ensures ∙ sym (length-drop a.from.at a.s.now)) c.if-size-ne0.false
+    left_all (drop a.from.at a.s.now) (c.saturating_sub-size.ensures ∙ sym (length-drop a.from.at a.s.now)) c.if-size-ne0.false

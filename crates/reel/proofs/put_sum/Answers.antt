@@ -8,12 +8,12 @@ pub returns-in-Given : goal.returns-in-Given
 unfolding captured_line
 returns-in-Given c =
     let a = c.args in
-    line_is (ap (judged_line a.s a.records a.skipped) (sym c.in-Given.is ∙ c.verdict-judged.ensures))
+    line_is (ap (judged_line a.s a.records a.skipped) (sym c.in-Given.is ∙ c.verdict.ensures))
     c.put_capture.ensures
 
 pub returns-in-Refused : goal.returns-in-Refused
 unfolding captured_line
 returns-in-Refused c =
     let a = c.args in
-    line_is (ap (judged_line a.s a.records a.skipped) (sym c.in-Refused.is ∙ c.verdict-judged.ensures))
+    line_is (ap (judged_line a.s a.records a.skipped) (sym c.in-Refused.is ∙ c.verdict.ensures))
     c.put_refusal.ensures

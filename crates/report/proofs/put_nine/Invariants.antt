@@ -1,5 +1,5 @@
 -- What is left of the nine numbers, stored from the next place on, gives the end; each turn stores one.
-use Rattle.std.specs.Prelude.{◌≡◌, ◌-◌, ◌*◌, ◌≤◌}
+use Rattle.std.specs.Prelude.{◌≡◌, ◌*◌}
 use Rattle.laws.specs.Kit.{length, drop, sets}
 use Rattle.timing.specs.Answers.{summary_width}
 use Rattle.report.specs.Paper.{number_bytes, in_bytes}
@@ -7,8 +7,5 @@ use Rattle.report.proofs.put_nine.Given as goal
 
 abbrev pub invariant-loop-k : goal.invariant-loop-k
 invariant-loop-k l =
-    (sets l.out (number_bytes * l.k) (in_bytes (drop l.k l.numbers)) ≡ sets l.initial.out 0 (in_bytes l.numbers)) × (l.k ≤ summary_width)
-    × (length l.out ≡ length l.initial.out) × (length l.numbers ≡ summary_width)
-
-abbrev pub decreases-loop-k : goal.decreases-loop-k
-decreases-loop-k l = summary_width - l.k
+    (sets l.out (number_bytes * l.k) (in_bytes (drop l.k l.fn.numbers)) ≡ sets l.initial.out 0 (in_bytes l.fn.numbers))
+    × (length l.fn.numbers ≡ summary_width)

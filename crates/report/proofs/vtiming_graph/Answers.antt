@@ -22,4 +22,4 @@ returns-else-out-lt3 c =
 pub returns-in-Refused : goal.returns-in-Refused
 returns-in-Refused c =
     let drawn = drawn_of c.ranges.fpt c.ranges.margin c.ranges.latency c.draw-drawn.ensures in
-    draws_refused _ _ _ _ (drawn ∙ c.in-Refused.is)
+    rw c.from.ensures (draws_refused _ _ _ _ (drawn ∙ c.in-Refused.is))

@@ -4,7 +4,8 @@ use Rattle.report.proofs.Calls.{limits_refused, limits_short, limits_done}
 use Rattle.report.proofs.vtiming_limits.Goals as goal
 
 pub returns-then-number-ne0 : goal.returns-then-number-ne0
-returns-then-number-ne0 c = rw (sym c.stated-asked.ensures) (limits_refused _ _ _ (sym c.refusal-number.ensures) (omega arith))
+returns-then-number-ne0 c =
+    rw (c.from.ensures, sym c.stated-asked.ensures) (limits_refused _ _ _ (sym c.refusal-number.ensures) (omega arith))
 
 pub returns-then-out-lt4 : goal.returns-then-out-lt4
 returns-then-out-lt4 c = rw (sym c.stated-asked.ensures) (limits_short _ _ (sym c.refusal-number.ensures ∙ c.if-number-ne0.false) c.if-out-lt4.true)

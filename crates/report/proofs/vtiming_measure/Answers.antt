@@ -29,6 +29,6 @@ pub returns-in-Refused : goal.returns-in-Refused
 returns-in-Refused c =
     let refused = sym c.ask-asked.ensures ∙ c.in-Refused.is in
     record {
-      number_is = sym (ap (λ (a : Answer). a.number) (asked_answer _ _ _ _ refused));
+      number_is = c.from.ensures ∙ sym (ap (λ (a : Answer). a.number) (asked_answer _ _ _ _ refused));
       bytes_are = refused_leaves _ _ _ _ _ refused;
     }

@@ -19,4 +19,4 @@ returns-in-NoneLeft c =
 
 pub returns-in-Refused : goal.returns-in-Refused
 returns-in-Refused c =
-    rw (sym c.stated-asked.ensures) (next_refused _ _ _ _ c.next_read-awaited.ensures c.in-Refused.is)
+    rw (c.from.ensures, sym c.stated-asked.ensures) (next_refused _ _ _ _ c.next_read-awaited.ensures c.in-Refused.is)

@@ -7,4 +7,4 @@ returns-in-Done c = writes_as _ _ _ _ _ c.write-written.ensures c.in-Done.is
 
 pub returns-in-Refused : goal.returns-in-Refused
 returns-in-Refused c =
-    writes_as _ _ _ _ _ c.write-written.ensures c.in-Refused.is
+    rw c.from.ensures (writes_as _ _ _ _ _ c.write-written.ensures c.in-Refused.is)

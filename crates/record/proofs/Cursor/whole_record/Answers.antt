@@ -5,7 +5,8 @@ use Rattle.record.proofs.Ways.{whole_22, whole_23, whole_packet}
 use Rattle.record.proofs.Cursor.whole_record.Goals as goal
 
 pub returns-then-body-kind_length : goal.returns-then-body-kind_length
-returns-then-body-kind_length c = sym (whole_22 _ _ _ _ (λ e. c.if-body-kind_length.true (e ∙ sym c.kind_length.ensures)))
+returns-then-body-kind_length c =
+    rw c.from-size.ensures (sym (whole_22 _ _ _ _ (λ e. c.if-body-kind_length.true (e ∙ sym c.kind_length.ensures))))
 
 pub packet_of-requires : goal.packet_of-requires
 packet_of-requires c =
@@ -21,4 +22,4 @@ returns c =
 pub returns-then-again : goal.returns-then-again
 returns-then-again c =
     let fits = c.if-body-kind_length.false ∙ c.kind_length.ensures in
-    sym (whole_23 _ _ _ _ fits (sym c.is_parameters-again.ensures ∙ c.if-again.true))
+    rw c.from-size.ensures (sym (whole_23 _ _ _ _ fits (sym c.is_parameters-again.ensures ∙ c.if-again.true)))

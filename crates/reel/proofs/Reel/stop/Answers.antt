@@ -1,5 +1,5 @@
 -- By what lies ahead: each return is one law (Turning).
-use Rattle.laws.specs.Kit.{subst, refl, arith}
+use Rattle.laws.specs.Kit.{inl, inr, subst, refl, arith}
 use Rattle.capture.specs.declared.Ahead.{Ahead}
 use Rattle.reel.specs.Step.{AheadFits}
 use Rattle.reel.proofs.Turning.{stop_packet, stop_wait, stop_end, stop_refused}
@@ -20,8 +20,7 @@ returns-in-Wait c =
 
 pub returns-in-End : goal.returns-in-End
 returns-in-End c =
-    stop_end c.args.self c.in-End.is c.requires.0 c.put_ahead-next.ensures
-
-pub returns-in-Refused : goal.returns-in-Refused
-returns-in-Refused c =
-    stop_refused c.args.self c.in-Refused.is c.requires.0 c.put_ahead-next.ensures
+    elim c.in-End.is [
+      | inl h ↦ stop_end c.args.self h.1 c.requires.0 c.put_ahead-next.ensures
+      | inr h ↦ stop_refused c.args.self h.2 c.requires.0 c.put_ahead-next.ensures
+    ]
