@@ -1,7 +1,7 @@
 -- One packet of a scan: where the scan goes after it, what an answer of the scan says of it, and what there is room for.
 -- By the test on its refusal.
-use Rattle.std.specs.Prelude.{◌≡◌, ◌&&◌, ◌||◌, ◌∷◌, ◌+◌, ◌≤◌}
-use Rattle.laws.specs.Kit.{refl, sym, ap, subst, ◌∙◌, Bool, true, false, or-false, List, [], ℕ, arith}
+use Rattle.std.specs.Prelude.{◌≡◌, ◌&&◌, ◌||◌, ◌∷◌, ◌+◌, ◌≤◌, ◌<◌}
+use Rattle.laws.specs.Kit.{refl, sym, ap, subst, ◌∙◌, Bool, true, false, or-false, or-true, List, [], ℕ, arith}
 use Rattle.laws.specs.Kit.{add-zero, eqb, length, eq-eqb, ne_eqb, eqb-true, eqb-false}
 use Rattle.laws.specs.Choose.{pick}
 use Rattle.laws.proofs.Choose.{pick_either}
@@ -11,8 +11,10 @@ use Rattle.packet.specs.declared.Tally.{Tally}
 use Rattle.packet.specs.declared.Scanned.{Scanned}
 use Rattle.packet.specs.declared.Scanned.TheVariants.{Fine, Refused}
 use Rattle.packet.specs.declared.Packet.{Packet}
-use Rattle.packet.specs.Paper.{marked, packets, OneLength}
-use Rattle.packet.specs.Step.{number_of, next_of, closes, tallied, scan_of, unequal, scanned_of, Ready, scanned_number}
+use Rattle.packet.specs.Paper.{marked, packets, OneLength, lent, packets_from}
+use Rattle.packet.specs.Step.{number_of, next_of, closes, tallied, Countable, scan_of, unequal, scanned_of, Ready, scanned_number}
+use Rattle.packet.proofs.Refusals.{accepted}
+use Rattle.packet.proofs.Lent.{packets_lent, packets_done}
 
 pub fine_refused : (n : ℕ) (r : Refusal) → Fine n ≡ Refused r → ⊥
 fine_refused n r e = let z : ◌≡◌ {A = ℕ} 0 1 = cc in omega arith
@@ -21,19 +23,16 @@ pub scan_ends : (past : Past) (begun : Bool) (closed : ℕ) {l : List Packet} �
 unfolding scan_of
 scan_ends past begun closed e = rw e
 
--- the tally with one packet more: no marker, the first marker, a marker that closes a frame
+-- the tally with one packet more, by its marker
 module _ (y : Tally) (p : Packet) {past : Past} (e : past ≡ next_of y.past p.time) where
   pub tally_passes : (p.marker ≡ 1 → ⊥) → record { past = past; begun = y.begun; closed = y.closed } ≡ tallied y p
   unfolding tallied
   tally_passes n = simp (e, ne_eqb p.marker 1 n, or-false, add-zero)
 
-  pub tally_closes : p.marker ≡ 1 → y.begun ≡ true → record { past = past; begun = true; closed = y.closed + 1 } ≡ tallied y p
+  pub tally_marked : p.marker ≡ 1 → {n : ℕ} → n ≡ pick y.begun 1 0
+      → record { past = past; begun = true; closed = y.closed + n } ≡ tallied y p
   unfolding tallied
-  tally_closes m b = rw (e, eq-eqb p.marker 1 m, b)
-
-  pub tally_begins : p.marker ≡ 1 → y.begun ≡ false → record { past = past; begun = true; closed = y.closed } ≡ tallied y p
-  unfolding tallied
-  tally_begins m b = rw (e, eq-eqb p.marker 1 m, b, add-zero)
+  tally_marked m {n} f = simp (e, f, eq-eqb p.marker 1 m, or-true)
 
 -- no more frames close than packets come
 pub tally_keeps : (y : Tally) (p : Packet) → y.closed ≤ y.past.packets → (tallied y p).closed ≤ (tallied y p).past.packets
@@ -67,6 +66,26 @@ pub scan_tallied : (y : Tally) {p : Packet} {l ps : List Packet} → l ≡ p ∷
     → scan_of (tallied y p).past (tallied y p).begun (tallied y p).closed ps ≡ scan_of y.past y.begun y.closed l
 unfolding tallied
 scan_tallied y c e = sym (scan_goes y.past y.begun y.closed c e)
+
+-- one turn of the scan of three lent slices, and its end
+module _ (y : Tally) (ts ss ms : List ℕ) (i : ℕ) where
+  pub scan_turn : (p : Packet) → OneLength ts ss ms → i < length ts → p ≡ lent ts ss ms i → number_of y.past p ≡ 0
+      → scan_of y.past y.begun y.closed (packets_from i ts ss ms)
+      ≡ scan_of (tallied y p).past (tallied y p).begun (tallied y p).closed (packets_from (i + 1) ts ss ms)
+  scan_turn p same h e n = sym (scan_tallied y (packets_lent same i e h) n)
+
+  pub scan_turn_stops : (p : Packet) → OneLength ts ss ms → i < length ts → p ≡ lent ts ss ms i → (number_of y.past p ≡ 0 → ⊥)
+      → scan_of y.past y.begun y.closed (packets_from i ts ss ms) ≡ Refused (record { number = number_of y.past p; place = y.past.packets })
+  scan_turn_stops p same h e n = scan_stops y.past y.begun y.closed (packets_lent same i e h) n
+
+  pub scan_done : length ts ≤ i → scan_of y.past y.begun y.closed (packets_from i ts ss ms) ≡ Fine y.closed
+  scan_done h = scan_ends y.past y.begun y.closed (packets_done ts ss ms i h)
+
+-- a packet that is accepted may be counted
+pub countable : (y : Tally) (p : Packet) → number_of y.past p ≡ 0 → y.closed ≤ y.past.packets → Countable y
+countable y p e h = record { few = (accepted y.past p.time p.marker e).few; no_more = h }
+
+pub ruleset scan_laws = (scan_turn, scan_turn_stops, scan_done, countable, tally_keeps)
 
 pub fine_ready : (s : Scanned) (n room : ℕ) → s ≡ Fine n → n ≤ room → Ready s room
 fine_ready s n room e h = rw e h

@@ -91,17 +91,14 @@ impl Past {
     fn first_with(self, t: u64) -> u64
         ensures { result ≡ first_of self t }
     {
-        if self.packets == 0 {
-            return t;
-        }
-        self.first
+        if self.packets == 0 { t } else { self.first }
     }
 
     // Nanoseconds from the first packet to one at `t`: 0 for a past no history has, whose first is after `t`.
     pub fn elapsed(self, t: u64) -> u64
         ensures { result ≡ elapsed_of self t }
     {
-        laws::less(t, self.first_with(t))
+        t.saturating_sub(self.first_with(t))
     }
 
     // Nanoseconds from the packet before to one at `t`, which is no earlier; 0 for the first.
@@ -109,13 +106,11 @@ impl Past {
         requires { self.last ≤ t }
         ensures { result ≡ since_of self t }
     {
-        if self.packets == 0 {
-            return 0;
-        }
-        t - self.last
+        if self.packets == 0 { 0 } else { t - self.last }
     }
 
     // Whether each number is in its range: docs/STATE.md.
+    #[tactic(auto, unfolding(laws::specs::Every::after))]
     pub fn in_range(self) -> bool
         ensures { result ≡ every (ranges self) }
     {
@@ -124,10 +119,11 @@ impl Past {
             & (!none | (self.first == 0))
             & (!none | (self.last == 0))
             & (self.first <= self.last)
-            & (laws::less(self.last, self.first) <= 600000000000)
+            & (self.last.saturating_sub(self.first) <= 600000000000)
     }
 
     // The number by which a packet is refused, 0 where it is not.
+    #[tactic(auto, unfolding(crate::specs::Step::refusal_of))]
     pub fn refusal(self, p: Packet) -> u8
         ensures { result ≡ number_of self p }
     {
@@ -152,10 +148,9 @@ impl Past {
         requires { self.packets < 1000000000 }
         ensures { result ≡ next_of self t }
     {
-        let first = self.first_with(t);
         Past {
             packets: self.packets + 1,
-            first: first,
+            first: self.first_with(t),
             last: t,
         }
     }
@@ -166,7 +161,7 @@ impl Past {
     {
         Run {
             last: self.last,
-            marks: if begun { 1 } else { 0 },
+            marks: usize::from(begun),
         }
     }
 
@@ -175,12 +170,13 @@ impl Past {
     pub fn admits(self, count: u64, first: u64, last: u64) -> bool
         ensures { result ≡ admits_of self count first last }
     {
-        (count <= laws::less(1000000000, self.packets))
-            & (laws::less(last, self.first_with(first)) <= 600000000000)
+        (count <= 1000000000_u64.saturating_sub(self.packets))
+            & (last.saturating_sub(self.first_with(first)) <= 600000000000)
     }
 
     // `begun`: a marker came before. Mostly nothing is refused, and a run sees that with fewer tests; where it does not, the careful
     // scan tells what is refused.
+    #[tactic(auto, using(crate::proofs::Latest::lent_laws))]
     pub fn scan(self, begun: bool, arrivals: &[u64], stamps: &[u32], markers: &[u8]) -> Scanned
         ensures { result ≡ scanned_of self begun arrivals.now stamps.now markers.now }
     {
@@ -223,7 +219,7 @@ impl Run {
     {
         Run {
             last: p.time,
-            marks: self.marks + p.marker as usize,
+            marks: self.marks + usize::from(p.marker),
         }
     }
 
@@ -231,26 +227,22 @@ impl Run {
     pub fn closed(self) -> usize
         ensures { result ≡ closed_by self }
     {
-        if self.marks == 0 {
-            return 0;
-        }
-        self.marks - 1
+        self.marks.saturating_sub(1)
     }
 
     // Over three slices of one length.
+    #[tactic(auto, using(crate::proofs::Latest::run_laws))]
     fn over(self, arrivals: &[u64], stamps: &[u32], markers: &[u8]) -> Ran
         requires { OneLength arrivals.now stamps.now markers.now × (self.marks ≤ 1) }
         ensures { result ≡ ran_of self (packets arrivals.now stamps.now markers.now) }
     {
         let mut run = self;
-        let mut i = 0;
-        while i < arrivals.len() {
+        for i in 0..arrivals.len() {
             let p = lent_packet(arrivals, stamps, markers, i);
             if !run.takes(p) {
                 return Ran::Broken;
             }
             run = run.with(p);
-            i += 1;
         }
         Ran::Through(run)
     }
@@ -269,54 +261,41 @@ impl Tally {
     }
 
     // With one packet more.
+    #[tactic(auto, unfolding(crate::specs::Step::tallied))]
     pub fn with(self, p: Packet) -> Tally
         requires { Countable self }
         ensures { result ≡ tallied self p }
     {
-        let past = self.past;
-        let next = past.next(p.time);
+        let past = self.past.next(p.time);
         if p.marker != 1 {
-            return Tally {
-                past: next,
-                begun: self.begun,
-                closed: self.closed,
-            };
+            return Tally { past, ..self };
         }
         let closes = self.begun;
-        if closes {
-            return Tally {
-                past: next,
-                begun: true,
-                closed: self.closed + 1,
-            };
-        }
         Tally {
-            past: next,
+            past,
             begun: true,
-            closed: self.closed,
+            closed: self.closed + usize::from(closes),
         }
     }
 
     // The scan of three slices of one length.
+    #[tactic(auto, using(crate::proofs::Turn::scan_laws))]
     fn scan(self, arrivals: &[u64], stamps: &[u32], markers: &[u8]) -> Scanned
         requires { OneLength arrivals.now stamps.now markers.now × (self.closed ≤ self.past.packets) }
         ensures { result ≡ scan_of self.past self.begun self.closed
             (packets arrivals.now stamps.now markers.now) }
     {
         let mut tally = self;
-        let mut i = 0;
-        while i < arrivals.len() {
+        for i in 0..arrivals.len() {
             let p = lent_packet(arrivals, stamps, markers, i);
-            let past = tally.past;
-            let number = past.refusal(p);
+            let number = tally.past.refusal(p);
             if number != 0 {
                 return Scanned::Refused(Refusal {
-                    number: number,
-                    place: past.packets,
+                    number,
+                    place: tally.past.packets,
                 });
             }
             tally = tally.with(p);
-            i += 1;
         }
         Scanned::Fine(tally.closed)
     }
