@@ -14,14 +14,13 @@ use Rattle.capture.specs.declared.Setting.{Setting}
 use Rattle.capture.specs.declared.Format.{Format}
 use Rattle.capture.specs.declared.Opened.{Opened}
 use Rattle.capture.specs.declared.Opened.TheVariants as opened
-use Rattle.capture.specs.contracts.Opened.{the_type as opened_type}
 use Rattle.capture.specs.declared.Told.{Told}
 use Rattle.capture.specs.declared.Told.TheVariants.{Packet, Skipped, Late}
 use Rattle.capture.specs.declared.Front.{Front}
 use Rattle.capture.specs.declared.Front.TheVariants as front
 use Rattle.capture.specs.contracts.Front.{the_type}
 use Rattle.capture.specs.declared.Seen.{Seen}
-use Rattle.capture.specs.declared.Checked.TheVariants.{Fine, Refused}
+use Rattle.capture.specs.declared.Checked.TheVariants.{Refused}
 use Rattle.capture.specs.Paper.{header_bytes, record_bytes, Header, capture, unknown, header_of, checked_of}
 use Rattle.capture.specs.Paper.{Records, records_in, check_all, check_records}
 use Rattle.capture.specs.Step.{opened_by, opened_of, front_of, tell_by, refusal_of, refused_at, seen_of, closing, Room}
@@ -54,14 +53,6 @@ check_stops p y l f k e = go f k (subst (Says p l true) e (front_says p l true))
     go front.End k s = rw (records_end p l s.1)
     go front.More k s = let z : ◌≡◌ {A = ℕ} 0 1 = (let t = s.0 in cc) in absurd (omega arith)
     go front.Cut k s = rw s.1
-
--- an answer that is no cut
-pub closing_fine : (y : Seen) (f : Front) → OneOf (0 ∷ 1 ∷ 2 ∷ []) (tag_of the_type f) → Fine y ≡ closing y f
-unfolding closing
-closing_fine y (front.Record told size) k = refl
-closing_fine y front.End k = refl
-closing_fine y front.More k = refl
-closing_fine y front.Cut k = absurd (miss (0 ∷ 1 ∷ 2 ∷ []) 3 tt k)
 
 -- ---- what is counted
 
@@ -137,11 +128,11 @@ module _ (s : List ℕ) {r : Opened} (e : r ≡ opened_of s true) where
       go (capture k) q = let same : f ≡ k = cc in rw same
       go unknown q = let z : ◌≡◌ {A = ℕ} 0 1 = cc in absurd (omega arith)
 
-  pub header_unknown : OneOf (0 ∷ 1 ∷ []) (tag_of opened_type r) → header_of s ≡ unknown
+  pub header_unknown : ((f : Format) → r ≡ opened.Capture f → ⊥) → header_of s ≡ unknown
   header_unknown k = go (header_of s) (e ∙ opened_whole s)
     where
       go : (header : Header) → r ≡ opened_by header → header ≡ unknown
-      go (capture f) g = absurd (miss (0 ∷ 1 ∷ []) 2 tt (subst (λ (o : Opened). OneOf (0 ∷ 1 ∷ []) (tag_of opened_type o)) g k))
+      go (capture f) g = absurd (k f g)
       go unknown g = refl
 
 module _ (port offset : ℕ) (y : Seen) (s : List ℕ) where
@@ -168,3 +159,5 @@ capture_long s {r} {f} e g = go (ltb (length s) header_bytes) refl (sym g ∙ e)
         → header_bytes ≤ length s
     go true q z = let y : ◌≡◌ {A = ℕ} 0 1 = cc in absurd (omega arith)
     go false q z = ltb-false (length s) header_bytes q
+
+pub ruleset opening = (header_known, header_unknown, capture_long)

@@ -151,10 +151,3 @@ module _ (p : Setting) where
             seek_same (length (drop at s)) (length (drop size (drop at s))) (at + size) (drop size (drop at s)) (omega arith) (omega arith)
             ∙ rw (drop-drop size at s) in
             sym (seek_first h ∙ rw (e ∙ g, z) next)
-
--- a record that is not skipped
-pub found_none : (told : Told) (at : ℕ) → OneOf (1 ∷ 2 ∷ []) (tag_of told_type told) → sought.Nothing ≡ found_of told at
-unfolding found_of
-found_none (Packet q) at k = absurd (miss (1 ∷ 2 ∷ []) 0 tt k)
-found_none Skipped at k = refl
-found_none Late at k = refl

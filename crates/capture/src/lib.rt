@@ -131,19 +131,8 @@ const NANOSECONDS: u32 = 0xa1b23c4d;
 
 const ETHERNET: u32 = 1;
 
-fn size(x: u32) -> usize
-    ensures { (result ≡ x) × (result < 4294967296) }
-{
-    x as usize
-}
-
-fn wide(x: u32) -> u64
-    ensures { (result ≡ x) × (result < 4294967296) }
-{
-    x as u64
-}
-
 // The link type, once the order is known.
+#[tactic(auto, unfolding(crate::specs::Paper::linked_by))]
 fn linked(order: Order, nano: bool, s: &[u8]) -> Opened
     requires { Room header_bytes s.now 0 }
     ensures { result ≡ opened_by (linked_by order nano s.now) }
@@ -152,15 +141,13 @@ fn linked(order: Order, nano: bool, s: &[u8]) -> Opened
         return Opened::Unknown;
     }
     Opened::Capture {
-        format: Format {
-            order: order,
-            nano: nano,
-        },
+        format: Format { order, nano },
     }
 }
 
 //  0       4         20     24
 //  | magic |         | link |
+#[tactic(auto, unfolding(crate::specs::Paper::header_of, crate::specs::Paper::magic_by))]
 fn known(s: &[u8]) -> Opened
     requires { Room header_bytes s.now 0 }
     ensures { result ≡ opened_by (header_of s.now) }
@@ -183,61 +170,56 @@ fn known(s: &[u8]) -> Opened
 }
 
 // The header of a file, of which `window` shows the first bytes; `last`: no more will come.
+#[tactic(auto, unfolding(crate::specs::Step::opened_of))]
 pub fn open(window: &[u8], last: bool) -> Opened
     ensures { result ≡ opened_of window.now last }
 {
     if window.len() < HEADER {
-        if last {
-            return Opened::Unknown;
-        }
-        return Opened::More;
+        return if last { Opened::Unknown } else { Opened::More };
     }
     known(window)
 }
 
 impl Format {
     // How many sub-seconds a second has.
+    #[tactic(auto, unfolding(crate::specs::Paper::second_of))]
     fn second(self) -> u32
         ensures { result ≡ second_of self }
     {
-        if self.nano {
-            return 1000000000;
-        }
-        1000000
+        if self.nano { 1000000000 } else { 1000000 }
     }
 }
 
 impl Setting {
     // When a frame arrived, in nanoseconds: 33 bits of seconds and 32 bits of milliseconds do not wrap.
+    #[tactic(auto, unfolding(crate::specs::Paper::unit_of))]
     fn arrival(self, seconds: u32, sub: u32) -> u64
         ensures { result ≡ arrival_of self seconds sub }
     {
-        let format = self.format;
-        let whole = (wide(seconds) + wide(self.offset)) * 1000000000;
-        if format.nano {
-            return whole + wide(sub);
+        let whole = (u64::from(seconds) + u64::from(self.offset)) * 1000000000;
+        if self.format.nano {
+            return whole + u64::from(sub);
         }
-        whole + wide(sub) * 1000
+        whole + u64::from(sub) * 1000
     }
 
     //  0         4     8          12         16
     //  | seconds | sub | captured | original | captured bytes
+    #[tactic(auto, unfolding(crate::specs::Step::told_of))]
     fn told(self, window: &[u8], captured: usize) -> Told
         requires { Enough self.format window.now captured }
         ensures { result ≡ told_of self window.now }
     {
-        let format = self.format;
-        let order = format.order;
+        let order = self.format.order;
         let sub = read32_by(order, window, 4);
-        if format.second() <= sub {
+        if self.format.second() <= sub {
             return Told::Late;
         }
-        let handed = headers::hand_on_front(&window[RECORD..], captured, self.port);
-        match handed {
+        match headers::hand_on_front(&window[RECORD..], captured, self.port) {
             Handed::On { stamp, marker } => Told::Packet(Packet {
                 time: self.arrival(read32_by(order, window, 0), sub),
-                stamp: stamp,
-                marker: marker,
+                stamp,
+                marker,
             }),
             Handed::Skipped => Told::Skipped,
         }
@@ -255,24 +237,17 @@ impl Setting {
     }
 
     // What stands in front of `window`, between two records; `last`: no more will come.
+    #[tactic(auto, unfolding(crate::specs::Step::front_of))]
     pub fn front(self, window: &[u8], last: bool) -> Front
         ensures { result ≡ front_of self window.now last }
     {
-        if window.len() == 0 {
-            if last {
-                return Front::End;
-            }
-            return Front::More;
+        if window.is_empty() {
+            return if last { Front::End } else { Front::More };
         }
         if window.len() < RECORD {
-            if last {
-                return Front::Cut;
-            }
-            return Front::More;
+            return if last { Front::Cut } else { Front::More };
         }
-        let format = self.format;
-        let order = format.order;
-        let captured = size(read32_by(order, window, 8));
+        let captured = read32_by(self.format.order, window, 8) as usize;
         if captured <= window.len() - RECORD {
             return self.record_in(window, captured);
         }
@@ -287,16 +262,14 @@ impl Setting {
 }
 
 // A record that is not skipped ends the search for a packet.
+#[tactic(auto, unfolding(crate::specs::Step::found_of))]
 fn found(told: Told, next: usize) -> Sought
     ensures { result ≡ found_of told next }
 {
     let Told::Packet(packet) = told else {
         return Sought::Nothing;
     };
-    Sought::Packet {
-        packet: packet,
-        next: next,
-    }
+    Sought::Packet { packet, next }
 }
 
 impl Setting {
@@ -335,19 +308,18 @@ impl Cursor {
     fn settle(self) -> Next
         ensures { result ≡ settled_by self.told self.left }
     {
-        let used = self.left;
-        let told = self.told;
-        match told {
+        match self.told {
             Told::Packet(packet) => Next::Packet {
-                packet: packet,
-                used: used,
+                packet,
+                used: self.left,
             },
-            Told::Skipped => Next::Skipped { used: used },
+            Told::Skipped => Next::Skipped { used: self.left },
             Told::Late => Next::Refused { number: 32 },
         }
     }
 
     // Some bytes of the record, or all that are left of it.
+    #[tactic(auto, unfolding(crate::specs::Step::passed_of))]
     fn pass(self, window: &[u8], last: bool) -> Next
         ensures { result ≡ passed_of self window.now last }
     {
@@ -357,30 +329,26 @@ impl Cursor {
         if last {
             return Next::Refused { number: 31 };
         }
-        let told = self.told;
         Next::More {
             cursor: Cursor {
                 left: self.left - window.len(),
-                told: told,
+                ..self
             },
             used: window.len(),
         }
     }
 
     // What the bytes say that come next, of which `window` shows the first; `last`: no more will come.
+    #[tactic(auto, unfolding(crate::specs::Step::next_of))]
     pub fn read(self, setting: Setting, window: &[u8], last: bool) -> Next
         ensures { result ≡ next_of setting self window.now last }
     {
         if self.left != 0 {
             return self.pass(window, last);
         }
-        let front = setting.front(window, last);
-        match front {
+        match setting.front(window, last) {
             Front::Record { told, size } => {
-                let cursor = Cursor {
-                    left: size,
-                    told: told,
-                };
+                let cursor = Cursor { left: size, told };
                 cursor.pass(window, last)
             }
             Front::End => Next::End,
@@ -394,27 +362,25 @@ impl Cursor {
 }
 
 // What was said behind so many bytes and skipped records.
+#[tactic(auto, unfolding(crate::specs::Step::behind_by))]
 fn behind(next: Next, used: usize, skipped: u64) -> Ahead
     requires { UsedFits next used }
     ensures { result ≡ behind_by used skipped next }
 {
     match next {
         Next::Packet { packet, used: more } => Ahead::Packet {
-            packet: packet,
-            skipped: skipped,
+            packet,
+            skipped,
             used: used + more,
         },
-        Next::Skipped { used: _ } => Ahead::End { skipped: skipped },
+        Next::Skipped { .. } => Ahead::End { skipped },
         Next::More { cursor, used: more } => Ahead::Wait {
-            cursor: cursor,
-            skipped: skipped,
+            cursor,
+            skipped,
             used: used + more,
         },
-        Next::End => Ahead::End { skipped: skipped },
-        Next::Refused { number } => Ahead::Refused {
-            number: number,
-            skipped: skipped,
-        },
+        Next::End => Ahead::End { skipped },
+        Next::Refused { number } => Ahead::Refused { number, skipped },
     }
 }
 
@@ -440,33 +406,27 @@ impl Cursor {
 
 impl Seen {
     // The number by which a record is refused, 0 where it is not.
+    #[tactic(auto, unfolding(crate::specs::Step::refusal_of))]
     fn refusal(self, told: Told) -> u8
         ensures { result ≡ refusal_of self told }
     {
         match told {
-            Told::Packet(packet) => {
-                let tally = self.tally;
-                let past = tally.past;
-                past.refusal(packet)
-            }
+            Told::Packet(packet) => self.tally.past.refusal(packet),
             Told::Skipped => 0,
             Told::Late => 32,
         }
     }
 
     // The answer where a record is refused: at its packet's place in the history, or at the record's own.
+    #[tactic(auto, unfolding(crate::specs::Step::refused_at))]
     fn refused(self, told: Told) -> Checked
         ensures { result ≡ refused_at self told }
     {
         match told {
-            Told::Packet(packet) => {
-                let tally = self.tally;
-                let past = tally.past;
-                Checked::Refused {
-                    number: past.refusal(packet),
-                    place: past.packets,
-                }
-            }
+            Told::Packet(packet) => Checked::Refused {
+                number: self.tally.past.refusal(packet),
+                place: self.tally.past.packets,
+            },
             Told::Skipped => Checked::Fine(self),
             Told::Late => Checked::Refused {
                 number: 32,
@@ -476,27 +436,28 @@ impl Seen {
     }
 
     // With one record more.
+    #[tactic(auto, using(crate::proofs::Checking::told_countable), unfolding(crate::specs::Step::seen_of))]
     fn with(self, told: Told) -> Seen
         requires { SeenRoom self × (refusal_of self told ≡ 0) }
         ensures { result ≡ seen_of self told }
     {
-        let tally = self.tally;
         match told {
             Told::Packet(packet) => Seen {
-                tally: tally.with(packet),
+                tally: self.tally.with(packet),
                 records: self.records + 1,
-                skipped: self.skipped,
+                ..self
             },
             Told::Skipped => Seen {
-                tally: tally,
                 records: self.records + 1,
                 skipped: self.skipped + 1,
+                ..self
             },
             Told::Late => self,
         }
     }
 
     // The answer where no record stands: at the end, or where the file is cut short.
+    #[tactic(auto, unfolding(crate::specs::Step::closing))]
     fn close(self, front: Front) -> Checked
         ensures { result ≡ closing self front }
     {
@@ -531,6 +492,7 @@ impl Seen {
 }
 
 // One pass over a whole capture that copies nothing and writes nothing: what came before its packets, and whether a marker did.
+#[tactic(auto, using(crate::proofs::Checking::opening), unfolding(crate::specs::Paper::checked_of))]
 pub fn check(past: Past, begun: bool, port: u16, offset: u32, s: &[u8]) -> Checked
     ensures { result ≡ checked_of port offset (seen_from past begun) s.now }
 {
@@ -540,8 +502,7 @@ pub fn check(past: Past, begun: bool, port: u16, offset: u32, s: &[u8]) -> Check
             place: 0,
         };
     }
-    let opened = open(s, true);
-    let Opened::Capture { format } = opened else {
+    let Opened::Capture { format } = open(s, true) else {
         return Checked::Refused {
             number: 30,
             place: 0,
@@ -549,17 +510,17 @@ pub fn check(past: Past, begun: bool, port: u16, offset: u32, s: &[u8]) -> Check
     };
     let seen = Seen {
         tally: Tally {
-            past: past,
-            begun: begun,
+            past,
+            begun,
             closed: 0,
         },
         records: 0,
         skipped: 0,
     };
     let setting = Setting {
-        format: format,
-        port: port,
-        offset: offset,
+        format,
+        port,
+        offset,
     };
     seen.check_records(setting, s)
 }

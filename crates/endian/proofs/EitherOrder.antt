@@ -1,14 +1,14 @@
 -- Bytes to a number and back, and both by halves, in either order. By turning: turned twice, bytes stand as they stood.
 use Rattle.std.specs.Prelude.{◌≡◌, ◌∷◌, ◌++◌}
-use Rattle.laws.specs.Kit.{refl, sym, ap, ◌∙◌, List, [], reverse, reverse-cons, reverse-append, reverse-reverse, ℕ, zero}
+use Rattle.laws.specs.Kit.{refl, sym, ap, ◌∙◌, List, [], reverse, reverse-cons, reverse-append, reverse-reverse, ℕ}
 use Rattle.std.specs.Prelude.{◌+◌, ◌^◌, ◌<◌}
-use Rattle.laws.specs.Kit.{suc, arith, length, take, drop, get_or, length-drop, length-reverse, take-add}
+use Rattle.laws.specs.Kit.{arith, length, take, drop, length-drop, length-reverse, take-add}
 use Rattle.laws.specs.Kit.{drop-drop, length-take-le}
 use Rattle.endian.specs.declared.Order.{Order}
 use Rattle.endian.specs.declared.Order.TheVariants.{Big, Little}
 use Rattle.endian.specs.Number.{number_of, bytes_of, Bytes, Room}
 use Rattle.endian.specs.Order.{turned, number_by, bytes_by, joined}
-use Rattle.endian.proofs.Width.{bytes_append, number_of_its_bytes, bytes_number, number_join, number_byte, bytes_all, bytes_take, bytes_drop}
+use Rattle.endian.proofs.Width.{bytes_append, number_of_its_bytes, bytes_number, number_join}
 
 pub turned_twice : (o : Order) (l : List ℕ) → turned o (turned o l) ≡ l
 turned_twice Big l = refl
@@ -35,17 +35,6 @@ bytes_back o bs h =
     let again = rw (length_turned o bs) at (bytes_number (turned o bs) (bytes_turned o bs h)) in
     ap (turned o) again ∙ turned_twice o bs
 
--- one byte has no order
-pub byte_by : (o : Order) (s : List ℕ) (at : ℕ) → number_by o 1 s at ≡ get_or s at 0
-byte_by o s at = ap number_of (one o s at) ∙ number_byte s at
-  where
-    one : (o : Order) (s : List ℕ) (at : ℕ) → turned o (take 1 (drop at s)) ≡ take 1 (drop at s)
-    one Big s at = refl
-    one Little [] zero = refl
-    one Little [] (suc at) = refl
-    one Little (b ∷ s) zero = refl
-    one Little (b ∷ s) (suc at) = one Little s at
-
 number_joined : (o : Order) (k : ℕ) (u v : List ℕ) → length u ≡ k → length v ≡ k
     → joined o k (number_of (turned o u)) (number_of (turned o v)) ≡ number_of (turned o (u ++ v))
 number_joined Big k u v hu hv = sym (number_join u v ∙ rw hv)
@@ -60,19 +49,3 @@ halves_by o k {named} {s} {at} told h e f =
     let long_u : length u ≡ k = length-take-le k _ (rw length-drop (omega (arith, h.inside))) in
     let long_v : length v ≡ k = length-take-le k _ (rw length-drop (omega (arith, h.inside))) in
     rw (e, f, told) (number_joined o k u v long_u long_v ∙ rw (take-add k k (drop at s), drop-drop k at s))
-
--- the number that bytes are the other way round, from the number that they are
-pub number_turned : (l : List ℕ) → Bytes l → number_of (reverse (bytes_of (length l) (number_of l))) ≡ number_of (reverse l)
-number_turned l h = ap (λ (m : List ℕ). number_of (reverse m)) (bytes_number l h)
-
--- four bytes that were read the highest first are the number of the little order when they are turned
-pub little_by : {named : Order} {s : List ℕ} {at x r : ℕ} → named ≡ Little → Room 4 s at → ((i : ℕ) → get_or s i 0 < 256)
-    → x ≡ number_by Big 4 s at → r ≡ number_of (reverse (bytes_of 4 x)) → r ≡ number_by named 4 s at
-little_by {named} {s} {at} told h b e f =
-    let l = take 4 (drop at s) in
-    let long : length l ≡ 4 = length-take-le 4 (drop at s) (omega (arith, h.inside, length-drop at s)) in
-    rw (f, e, told) (ap (λ (k : ℕ). number_of (reverse (bytes_of k (number_of l)))) (sym long)
-    ∙ number_turned l (bytes_take 4 (drop at s) (bytes_drop at s (bytes_all s b))))
-
-pub big_by : {named : Order} (s : List ℕ) (at : ℕ) {x : ℕ} → named ≡ Big → x ≡ number_by Big 4 s at → x ≡ number_by named 4 s at
-big_by s at told e = rw told e

@@ -111,16 +111,6 @@ pub halves_read : (j k : ℕ) {s : List ℕ} {at a b : ℕ} → Room (j + k) s a
     → a ≡ number_at j s at → b ≡ number_at k s (at + j) → a * 256 ^ k + b ≡ number_at (j + k) s at
 halves_read j k {s} {at} h e f = rw (e, f) (sym (number_halves j k s at h.inside))
 
--- four bytes, one after the other
-pub four_read : {s : List ℕ} {at a b c d : ℕ} → Room 4 s at → a ≡ get_or s at 0 → b ≡ get_or s (at + 1) 0 → c ≡ get_or s (at + 2) 0
-    → d ≡ get_or s (at + 3) 0 → ((a * 256 + b) * 256 + c) * 256 + d ≡ number_at 4 s at
-four_read {s} {at} h ea eb ec ed =
-    let byte = number_byte s in
-    let two = number_halves 1 1 s at (omega (arith, h.inside)) in
-    let three = number_halves 2 1 s at (omega (arith, h.inside)) in
-    let all = number_halves 3 1 s at (omega (arith, h.inside)) in
-    omega (arith, two, three, all, byte at, byte (at + 1), byte (at + 2), byte (at + 3), ea, eb, ec, ed)
-
 -- the two bytes of a number
 pub two_stored : (x : ℕ) (d : List ℕ) (at : ℕ) → set (set d at (x / 256)) (at + 1) (x % 256) ≡ sets d at (bytes_of 2 x)
 unfolding bytes_of

@@ -1,25 +1,13 @@
 -- The plain frame is handed on, with what is read behind the headers of IPv4 and UDP. By the list of conditions, whose places the tests fix.
-use Rattle.std.specs.Prelude.{◌≡◌, ◌&&◌, ◌+◌, ◌-◌, ◌%◌, ◌≤◌, ◌<◌}
-use Rattle.laws.specs.Kit.{refl, sym, true, false, List, ℕ, arith, eqb, le-leb, lt-leb}
-use Rattle.laws.specs.Every.{after, All}
+use Rattle.std.specs.Prelude.{◌≡◌, ◌+◌, ◌-◌, ◌≤◌}
+use Rattle.laws.specs.Kit.{refl, sym, true, List, ℕ, arith}
+use Rattle.laws.specs.Every.{All}
 use Rattle.laws.proofs.Every.{◌and◌, facts, of_facts}
 use Rattle.headers.specs.Paper.{byte_at, pair_at, ipv4, Internet, HandedOn, on_at}
-use Rattle.headers.specs.Step.{fragment, ip_at, ether_fits, plain_bytes, plain_fits, handed_of}
+use Rattle.headers.specs.Step.{ip_at, ether_fits, plain_bytes, plain_fits, handed_of}
 use Rattle.headers.proofs.Exactly.{ether_internet, handed_so}
 
 module _ (b : List ℕ) (n port : ℕ) where
-  pub plain_short : n < plain_bytes → false ≡ plain_fits b n port
-  unfolding plain_fits after
-  plain_short h = rw (lt-leb plain_bytes n h)
-
-  pub plain_there : plain_bytes ≤ n → {ip t f p : ℕ} → ip ≡ ip_at b → t ≡ pair_at b (ip - 2) → f ≡ pair_at b (ip + 6)
-      → p ≡ pair_at b (ip + 20 + 2)
-      → (eqb t ipv4 && eqb (byte_at b ip) 69 && eqb (f % fragment) 0 && eqb (byte_at b (ip + 9)) 17 && eqb p port
-      && eqb (byte_at b (ip + 20 + 8)) 128)
-      ≡ plain_fits b n port
-  unfolding plain_fits after
-  plain_there h e k l m = rw (le-leb plain_bytes n h, k, l, m, e)
-
   pub plain_room : plain_fits b n port ≡ true → plain_bytes ≤ n
   unfolding plain_fits
   plain_room e = facts _ e 0

@@ -40,112 +40,76 @@ const FIVE_WORDS: u8 = 0x45;
 
 const VERSION_ALONE: u8 = 0x80;
 
-fn byte(x: u8) -> usize
-    ensures { (result ≡ x) × (result < 256) }
-{
-    x as usize
-}
-
-fn pair(x: u16) -> usize
-    ensures { (result ≡ x) × (result < 65536) }
-{
-    x as usize
-}
-
 // Where the header of IPv4 is, if there is one: behind one tag, or behind the type.
 fn ip_at(b: &[u8]) -> usize
     requires { Room 14 b.now 0 }
     ensures { (result ≡ ip_at b.now) × (14 ≤ result) × (result ≤ 18) }
 {
-    if read16(b, 12) == TAG {
-        return 18;
-    }
-    14
+    if read16(b, 12) == TAG { 18 } else { 14 }
 }
 
 // The type stands in the two bytes before it.
+#[tactic(auto, unfolding(crate::specs::Step::ether_fits, laws::specs::Every::after))]
 fn ether_fits(b: &[u8], n: usize, ip: usize) -> bool
     requires { (Placed b.now n ip 18) × (14 ≤ ip) }
     ensures { result ≡ ether_fits b.now n ip }
 {
-    if n < ip {
-        return false;
-    }
-    read16(b, ip - 2) == IPV4
+    ip <= n && read16(b, ip - 2) == IPV4
 }
 
 //  ip         +6         +9         +20
 //  | 4, words | fragment | protocol |
+#[tactic(auto, unfolding(crate::specs::Step::ip_fits, laws::specs::Every::after))]
 fn ip_fits(b: &[u8], n: usize, ip: usize) -> bool
     requires { Placed b.now n ip 18 }
     ensures { result ≡ ip_fits b.now n ip }
 {
-    if n < ip + 20 {
-        return false;
-    }
-    if b[ip] / 16 != 4 {
-        return false;
-    }
-    if b[ip] % 16 < 5 {
-        return false;
-    }
-    if read16(b, ip + 6) % FRAGMENT != 0 {
-        return false;
-    }
-    b[ip + 9] == UDP
+    ip + 20 <= n
+        && b[ip] / 16 == 4
+        && 5 <= b[ip] % 16
+        && read16(b, ip + 6) % FRAGMENT == 0
+        && b[ip + 9] == UDP
 }
 
 fn udp_at(b: &[u8], ip: usize) -> usize
     requires { (Room 1 b.now ip) × (ip ≤ 18) }
     ensures { (result ≡ udp_at b.now ip) × (result ≤ 78) }
 {
-    ip + 4 * byte(b[ip] % 16)
+    ip + 4 * usize::from(b[ip] % 16)
 }
 
 //  udp      +2            +4
 //  | source | destination |
+#[tactic(auto, unfolding(crate::specs::Step::udp_fits, laws::specs::Every::after))]
 fn udp_fits(b: &[u8], n: usize, udp: usize, port: u16) -> bool
     requires { Placed b.now n udp 78 }
     ensures { result ≡ udp_fits b.now n udp port }
 {
-    if n < udp + 8 {
-        return false;
-    }
-    read16(b, udp + 2) == port
+    udp + 8 <= n && read16(b, udp + 2) == port
 }
 
 //  end      +2      +4
 //  |        | words |
+#[tactic(auto, unfolding(crate::specs::Step::extension_fits, laws::specs::Every::after))]
 fn extension_fits(b: &[u8], n: usize, end: usize) -> bool
     requires { Placed b.now n end 158 }
     ensures { result ≡ extension_fits b.now n end }
 {
-    if n < end + 4 {
-        return false;
-    }
-    end + 4 + 4 * pair(read16(b, end + 2)) <= n
+    end + 4 <= n && end + 4 + 4 * usize::from(read16(b, end + 2)) <= n
 }
 
 //  rtp                         +1       +4          +8
 //  | 2, extension, sources     | marker | timestamp |
+#[tactic(auto, unfolding(crate::specs::Step::rtp_fits, laws::specs::Every::after))]
 fn rtp_fits(b: &[u8], n: usize, rtp: usize) -> bool
     requires { Placed b.now n rtp 86 }
     ensures { result ≡ rtp_fits b.now n rtp }
 {
-    if n < rtp + RTP {
+    if n < rtp + RTP || b[rtp] / 64 != 2 {
         return false;
     }
-    if b[rtp] / 64 != 2 {
-        return false;
-    }
-    let end = rtp + 12 + 4 * byte(b[rtp] % 16);
-    if n < end {
-        return false;
-    }
-    if b[rtp] / 16 % 2 != 1 {
-        return true;
-    }
-    extension_fits(b, n, end)
+    let end = rtp + 12 + 4 * usize::from(b[rtp] % 16);
+    end <= n && (b[rtp] / 16 % 2 != 1 || extension_fits(b, n, end))
 }
 
 fn on_at(b: &[u8], rtp: usize) -> Handed
@@ -159,6 +123,7 @@ fn on_at(b: &[u8], rtp: usize) -> Handed
 }
 
 // The frame of most senders: a tag or none, no options, and nothing in RTP's header but its 12 bytes. Then one test of length is enough.
+#[tactic(auto, unfolding(crate::specs::Step::plain_fits, laws::specs::Every::after))]
 fn plain(b: &[u8], n: usize, port: u16) -> bool
     requires { Shown b.now n }
     ensures { result ≡ plain_fits b.now n port }
@@ -177,6 +142,7 @@ fn plain(b: &[u8], n: usize, port: u16) -> bool
 }
 
 // Any frame, header by header.
+#[tactic(auto, using(crate::proofs::Handing::any_laws))]
 fn hand_on_any(b: &[u8], n: usize, port: u16) -> Handed
     requires { Shown b.now n }
     ensures { result ≡ handed_of b.now n port }
@@ -185,17 +151,11 @@ fn hand_on_any(b: &[u8], n: usize, port: u16) -> Handed
         return Handed::Skipped;
     }
     let ip = ip_at(b);
-    if !ether_fits(b, n, ip) {
-        return Handed::Skipped;
-    }
-    if !ip_fits(b, n, ip) {
+    if !ether_fits(b, n, ip) || !ip_fits(b, n, ip) {
         return Handed::Skipped;
     }
     let udp = udp_at(b, ip);
-    if !udp_fits(b, n, udp, port) {
-        return Handed::Skipped;
-    }
-    if !rtp_fits(b, n, udp + 8) {
+    if !udp_fits(b, n, udp, port) || !rtp_fits(b, n, udp + 8) {
         return Handed::Skipped;
     }
     on_at(b, udp + 8)
@@ -203,6 +163,7 @@ fn hand_on_any(b: &[u8], n: usize, port: u16) -> Handed
 
 // What becomes of a frame of `n` captured bytes, of which `b` shows the first: all, or at least the 162 that can matter. The plain
 // frame is looked for first, since it has fewer tests.
+#[tactic(auto, using(crate::proofs::AtOnce::plain_room, crate::proofs::AtOnce::plain_handed))]
 pub fn hand_on_front(b: &[u8], n: usize, port: u16) -> Handed
     requires { Shown b.now n }
     ensures { result ≡ handed_of b.now n port }

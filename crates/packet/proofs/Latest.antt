@@ -11,12 +11,12 @@ use Rattle.packet.specs.declared.Past.{Past}
 use Rattle.packet.specs.declared.Packet.{Packet}
 use Rattle.packet.specs.declared.Run.{Run}
 use Rattle.packet.specs.Quick.{Ran}
-use Rattle.packet.specs.Paper.{OneLength, packets}
+use Rattle.packet.specs.Paper.{OneLength, lent, packets, packets_from}
 use Rattle.packet.specs.Step.{first_of, elapsed_of, next_of, scan_of}
 use Rattle.packet.specs.Quick.{start_of, takes_of, runs_of, ran_of, admits_of, closed_by}
 use Rattle.packet.proofs.Refusals.{accepted_0}
-use Rattle.packet.proofs.Turn.{scan_goes}
-use Rattle.packet.proofs.Lent.{packets_cons, packets_length}
+use Rattle.packet.proofs.Turn.{scan_goes, lengths_differ, lengths_same}
+use Rattle.packet.proofs.Lent.{packets_cons, packets_lent, packets_done, packets_length}
 use Rattle.packet.proofs.Declared.{begun_more}
 
 -- ---- one packet of a run
@@ -43,6 +43,21 @@ module _ (r : Run) {p : Packet} {l ps : List Packet} (c : l ≡ p ∷ ps) where
   pub run_breaks : takes_of r p ≡ false → ran_of r l ≡ None
   unfolding ran_of
   run_breaks e = rw (c, e)
+
+-- one turn of a run over three lent slices, and its end
+module _ (r : Run) (ts ss ms : List ℕ) (i : ℕ) where
+  pub run_turn : (p : Packet) → OneLength ts ss ms → i < length ts → p ≡ lent ts ss ms i → takes_of r p ≡ true
+      → ran_of r (packets_from i ts ss ms) ≡ ran_of (runs_of r p) (packets_from (i + 1) ts ss ms)
+  run_turn p same h e t = run_goes r (packets_lent same i e h) t
+
+  pub run_turn_breaks : (p : Packet) → OneLength ts ss ms → i < length ts → p ≡ lent ts ss ms i → takes_of r p ≡ false
+      → ran_of r (packets_from i ts ss ms) ≡ None
+  run_turn_breaks p same h e t = run_breaks r (packets_lent same i e h) t
+
+  pub run_done : length ts ≤ i → ran_of r (packets_from i ts ss ms) ≡ Some r
+  run_done h = run_ends r (packets_done ts ss ms i h)
+
+pub ruleset run_laws = (run_turn, run_turn_breaks, run_done)
 
 -- a run that went through took its first packet
 pub through : (r z : Run) (p : Packet) (ps : List Packet) → ran_of r (p ∷ ps) ≡ Some z → Taken r p × (ran_of (runs_of r p) ps ≡ Some z)
@@ -129,3 +144,5 @@ pub lent_scans : {ts ss ms : List ℕ} → OneLength ts ss ms → (past : Past) 
 lent_scans {ts} {ss} {ms} same past begun {z} some e a =
     run_scans past begun (packets_cons same 0 some) e
     (ap (λ (n : ℕ). admits_of past n (get_or ts 0 0) z.last) (packets_length ts ss ms same) ∙ a)
+
+pub ruleset lent_laws = (lengths_differ, lengths_same, lent_scans, start_marks)

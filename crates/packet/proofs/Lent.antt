@@ -1,7 +1,7 @@
 -- Three lent slices of one length as one list of packets: from place i on, and by place. By the lists.
 use Rattle.std.specs.Prelude.{◌≡◌, ◌∷◌, ◌+◌, ◌≤◌, ◌<◌}
 use Rattle.laws.specs.Kit.{refl, sym, ap, ◌∙◌, List, [], ℕ, zero, suc, arith, suc_inj, length, drop-cons}
-use Rattle.laws.specs.Kit.{drop-length}
+use Rattle.laws.specs.Kit.{drop-length, drop_of_length-le}
 use native.Mathlib.Numerals.{add-one}
 use Rattle.packet.specs.declared.Packet.{Packet}
 use Rattle.packet.specs.Paper.{packets, OneLength, lent, packets_from, at}
@@ -21,6 +21,11 @@ module _ {ts ss ms : List ℕ} (same : OneLength ts ss ms) (i : ℕ) where
   pub packets_none : length ts ≤ i → i ≤ length ts → packets_from i ts ss ms ≡ []
   unfolding packets
   packets_none h k = let e : i ≡ length ts = omega arith in rw (e, drop-length ts)
+
+-- and from there on none is left
+pub packets_done : (ts ss ms : List ℕ) (i : ℕ) → length ts ≤ i → packets_from i ts ss ms ≡ []
+unfolding packets
+packets_done ts ss ms i h = rw (drop_of_length-le ts h)
 
 -- one packet fewer in each
 fewer : {t s m : ℕ} {ts ss ms : List ℕ} → OneLength (t ∷ ts) (s ∷ ss) (m ∷ ms) → OneLength ts ss ms

@@ -1,17 +1,23 @@
 -- One packet of a scan: where the scan goes after it, what an answer of the scan says of it, and what there is room for.
 -- By the test on its refusal.
-use Rattle.std.specs.Prelude.{◌≡◌, ◌&&◌, ◌||◌, ◌∷◌, ◌+◌, ◌≤◌, Err, Ok}
-use Rattle.laws.specs.Kit.{refl, sym, ap, subst, ◌∙◌, Bool, true, false, or-false, List, [], ℕ, arith}
+use Rattle.std.specs.Prelude.{◌≡◌, ◌&&◌, ◌||◌, ◌∷◌, ◌+◌, ◌≤◌, ◌<◌, Result, Err, Ok}
+use Rattle.laws.specs.Kit.{refl, sym, ap, subst, ◌∙◌, Bool, true, false, or-false, or-true, List, [], ℕ, arith}
 use Rattle.laws.specs.Kit.{add-zero, eqb, length, eq-eqb, ne_eqb, eqb-true, eqb-false}
 use Rattle.laws.specs.Choose.{pick}
 use Rattle.laws.proofs.Choose.{pick_either}
 use Rattle.packet.specs.declared.Past.{Past}
 use Rattle.refusal.specs.Told.{Numbered}
+use Rattle.refusal.specs.declared.Refusal.{Refusal}
+use Rattle.refusal.specs.Refusal.{number}
+use Rattle.refusal.specs.Told.{number_in}
+use Rattle.refusal.proofs.Telling.{number_some}
 use Rattle.packet.specs.declared.Tally.{Tally}
 use Rattle.packet.specs.Paper.{Scanned}
 use Rattle.packet.specs.declared.Packet.{Packet}
-use Rattle.packet.specs.Paper.{marked, packets, OneLength}
-use Rattle.packet.specs.Step.{number_of, next_of, closes, tallied, scan_of, unequal, scanned_of, Ready, scanned_number}
+use Rattle.packet.specs.Paper.{marked, packets, OneLength, lent, packets_from}
+use Rattle.packet.specs.Step.{number_of, next_of, closes, tallied, Countable, scan_of, unequal, scanned_of, Ready, scanned_number}
+use Rattle.packet.proofs.Refusals.{accepted}
+use Rattle.packet.proofs.Lent.{packets_lent, packets_done}
 
 pub fine_refused : (n : ℕ) (r : Numbered) → Ok n ≡ Err r → ⊥
 fine_refused n r e = let z : ◌≡◌ {A = ℕ} 0 1 = cc in omega arith
@@ -20,19 +26,16 @@ pub scan_ends : (past : Past) (begun : Bool) (closed : ℕ) {l : List Packet} �
 unfolding scan_of
 scan_ends past begun closed e = rw e
 
--- the tally with one packet more: no marker, the first marker, a marker that closes a frame
+-- the tally with one packet more, by its marker
 module _ (y : Tally) (p : Packet) {past : Past} (e : past ≡ next_of y.past p.time) where
   pub tally_passes : (p.marker ≡ 1 → ⊥) → record { past = past; begun = y.begun; closed = y.closed } ≡ tallied y p
   unfolding tallied
   tally_passes n = simp (e, ne_eqb p.marker 1 n, or-false, add-zero)
 
-  pub tally_closes : p.marker ≡ 1 → y.begun ≡ true → record { past = past; begun = true; closed = y.closed + 1 } ≡ tallied y p
+  pub tally_marked : p.marker ≡ 1 → {n : ℕ} → n ≡ pick y.begun 1 0
+      → record { past = past; begun = true; closed = y.closed + n } ≡ tallied y p
   unfolding tallied
-  tally_closes m b = rw (e, eq-eqb p.marker 1 m, b)
-
-  pub tally_begins : p.marker ≡ 1 → y.begun ≡ false → record { past = past; begun = true; closed = y.closed } ≡ tallied y p
-  unfolding tallied
-  tally_begins m b = rw (e, eq-eqb p.marker 1 m, b, add-zero)
+  tally_marked m {n} f = simp (e, f, eq-eqb p.marker 1 m, or-true)
 
 -- no more frames close than packets come
 pub tally_keeps : (y : Tally) (p : Packet) → y.closed ≤ y.past.packets → (tallied y p).closed ≤ (tallied y p).past.packets
@@ -66,6 +69,28 @@ pub scan_tallied : (y : Tally) {p : Packet} {l ps : List Packet} → l ≡ p ∷
     → scan_of (tallied y p).past (tallied y p).begun (tallied y p).closed ps ≡ scan_of y.past y.begun y.closed l
 unfolding tallied
 scan_tallied y c e = sym (scan_goes y.past y.begun y.closed c e)
+
+-- one turn of the scan of three lent slices, by the packet's number, and the end
+module _ (y : Tally) (ts ss ms : List ℕ) (i : ℕ) where
+  pub scan_turn : (p : Packet) → OneLength ts ss ms → i < length ts → p ≡ lent ts ss ms i → 0 ≡ number_of y.past p
+      → scan_of y.past y.begun y.closed (packets_from i ts ss ms)
+      ≡ scan_of (tallied y p).past (tallied y p).begun (tallied y p).closed (packets_from (i + 1) ts ss ms)
+  scan_turn p same h e n = sym (scan_tallied y (packets_lent same i e h) (sym n))
+
+  pub scan_turn_stops : (p : Packet) (r : Refusal) → OneLength ts ss ms → i < length ts → p ≡ lent ts ss ms i
+      → number r ≡ number_of y.past p
+      → scan_of y.past y.begun y.closed (packets_from i ts ss ms) ≡ Err (record { number = number r; place = y.past.packets })
+  scan_turn_stops p r same h e n =
+      rw n (scan_stops y.past y.begun y.closed (packets_lent same i e h) (λ z. number_some r (n ∙ z)))
+
+  pub scan_done : length ts ≤ i → scan_of y.past y.begun y.closed (packets_from i ts ss ms) ≡ Ok y.closed
+  scan_done h = scan_ends y.past y.begun y.closed (packets_done ts ss ms i h)
+
+-- a packet that is accepted may be counted
+pub countable : (y : Tally) (p : Packet) → 0 ≡ number_of y.past p → y.closed ≤ y.past.packets → Countable y
+countable y p n h = record { few = (accepted y.past p.time p.marker (sym n)).few; no_more = h }
+
+pub ruleset scan_laws = (scan_turn, scan_turn_stops, scan_done, countable, tally_keeps)
 
 pub fine_ready : (s : Scanned) (n room : ℕ) → s ≡ Ok n → n ≤ room → Ready s room
 fine_ready s n room e h = rw e h

@@ -73,10 +73,7 @@ impl Past {
     fn first_with(self, t: u64) -> u64
         ensures { result ≡ first_of self t }
     {
-        if self.packets == 0 {
-            return t;
-        }
-        self.first
+        if self.packets == 0 { t } else { self.first }
     }
 
     // Nanoseconds from the first packet to one at `t`: 0 for a past no history has, whose first is after `t`.
@@ -91,13 +88,11 @@ impl Past {
         requires { self.last ≤ t }
         ensures { result ≡ since_of self t }
     {
-        if self.packets == 0 {
-            return 0;
-        }
-        t - self.last
+        if self.packets == 0 { 0 } else { t - self.last }
     }
 
     // Whether each number is in its range: docs/STATE.md.
+    #[tactic(auto, unfolding(laws::specs::Every::after))]
     pub fn in_range(self) -> bool
         ensures { result ≡ every (ranges self) }
     {
@@ -110,6 +105,7 @@ impl Past {
     }
 
     // Whether a packet is accepted; else the first of 11 to 14 that holds of it (N7).
+    #[tactic(auto, unfolding(crate::specs::Step::refusal_of))]
     pub fn admit(self, p: Packet) -> Result<(), Refusal>
         ensures { number_in result ≡ number_of self p }
     {
@@ -134,10 +130,9 @@ impl Past {
         requires { self.packets < 1000000000 }
         ensures { result ≡ next_of self t }
     {
-        let first = self.first_with(t);
         Past {
             packets: self.packets + 1,
-            first: first,
+            first: self.first_with(t),
             last: t,
         }
     }
@@ -157,13 +152,14 @@ impl Past {
     pub fn admits(self, count: u64, first: u64, last: u64) -> bool
         ensures { result ≡ admits_of self count first last }
     {
-        (count <= 1000000000u64.saturating_sub(self.packets))
+        (count <= 1000000000_u64.saturating_sub(self.packets))
             & (last.saturating_sub(self.first_with(first)) <= 600000000000)
     }
 
     // Three lent slices after these packets: how many frames close, or the first refusal of 10 to 14 with its place in the history.
     // `begun`: a marker came before. Mostly nothing is refused, and a run sees that with fewer tests; where it does not, the careful
     // scan tells what is refused.
+    #[tactic(auto, using(crate::proofs::Latest::lent_laws))]
     pub fn scan(
         self,
         begun: bool,
@@ -212,7 +208,7 @@ impl Run {
     {
         Run {
             last: p.time,
-            marks: self.marks + p.marker as usize,
+            marks: self.marks + usize::from(p.marker),
         }
     }
 
@@ -224,6 +220,7 @@ impl Run {
     }
 
     // Over three slices of one length; none where 11 or 12 refuses a packet.
+    #[tactic(auto, using(crate::proofs::Latest::run_laws))]
     fn over(self, arrivals: &[u64], stamps: &[u32], markers: &[u8]) -> Option<Run>
         requires { OneLength arrivals.now stamps.now markers.now × (self.marks ≤ 1) }
         ensures { result ≡ ran_of self (packets arrivals.now stamps.now markers.now) }
@@ -258,16 +255,20 @@ impl Tally {
         requires { Countable self }
         ensures { result ≡ tallied self p }
     {
-        let marked = p.marker == 1;
-        let closes = marked & self.begun;
+        let past = self.past.next(p.time);
+        if p.marker != 1 {
+            return Tally { past, ..self };
+        }
+        let closes = self.begun;
         Tally {
-            past: self.past.next(p.time),
-            begun: self.begun | marked,
+            past,
+            begun: true,
             closed: self.closed + usize::from(closes),
         }
     }
 
     // The scan of three slices of one length.
+    #[tactic(auto, using(crate::proofs::Turn::scan_laws))]
     fn scan(self, arrivals: &[u64], stamps: &[u32], markers: &[u8]) -> Result<usize, Refused>
         requires { OneLength arrivals.now stamps.now markers.now × (self.closed ≤ self.past.packets) }
         ensures { told result ≡ scan_of self.past self.begun self.closed
@@ -276,11 +277,10 @@ impl Tally {
         let mut tally = self;
         for i in 0..arrivals.len() {
             let p = lent_packet(arrivals, stamps, markers, i);
-            let past = tally.past;
-            if let Err(refusal) = past.admit(p) {
+            if let Err(refusal) = tally.past.admit(p) {
                 return Err(Refused {
                     refusal,
-                    place: past.packets,
+                    place: tally.past.packets,
                 });
             }
             tally = tally.with(p);

@@ -1,10 +1,9 @@
--- One number is two bytes, stored one after the other.
-use Rattle.laws.specs.Kit.{arith, length-set}
-use Rattle.endian.proofs.Width.{two_stored}
+-- The bytes of the number are stored where a slice of them stands.
+use Rattle.laws.specs.Kit.{◌∙◌}
+use Rattle.endian.proofs.Bytes.{two_bytes, put_part}
 use Rattle.endian.proofs.write16.Goals as goal
 
-pub bounds-d-at-2 : goal.bounds-d-at-2
-bounds-d-at-2 c = simp length-set (omega arith)
-
 pub returns : goal.returns
-returns c = two_stored _ _ _
+returns c =
+    put_part 2 c.args.x c.args.d.now c.args.at c.requires
+    (c.copy_from_slice.ensures.after ∙ c.to_be_bytes.ensures ∙ two_bytes c.args.x c.ranges.x.fits)

@@ -1,7 +1,9 @@
--- Turned, and stored with the lowest byte first: the highest stands first.
-use Rattle.laws.specs.Kit.{arith}
-use Rattle.endian.proofs.Turning.{four_stored}
+-- The bytes of the number are stored where a slice of them stands.
+use Rattle.laws.specs.Kit.{◌∙◌}
+use Rattle.endian.proofs.Bytes.{four_bytes, put_part}
 use Rattle.endian.proofs.write32.Goals as goal
 
 pub returns : goal.returns
-returns c = four_stored _ _ (omega arith) c.turned.ensures (cc)
+returns c =
+    put_part 4 c.args.x c.args.d.now c.args.at c.requires
+    (c.copy_from_slice.ensures.after ∙ c.to_be_bytes.ensures ∙ four_bytes c.args.x c.ranges.x.fits)

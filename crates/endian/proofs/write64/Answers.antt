@@ -1,8 +1,9 @@
--- Turned, and stored by halves with the lowest byte first: the highest stands first.
-use Rattle.laws.specs.Kit.{arith}
-use Rattle.endian.proofs.Turning.{eight_stored}
+-- The bytes of the number are stored where a slice of them stands.
+use Rattle.laws.specs.Kit.{◌∙◌}
+use Rattle.endian.proofs.Bytes.{eight_bytes, put_part}
 use Rattle.endian.proofs.write64.Goals as goal
 
 pub returns : goal.returns
 returns c =
-    eight_stored _ _ (omega arith) (omega arith) c.turned64-y.ensures (cc)
+    put_part 8 c.args.x c.args.d.now c.args.at c.requires
+    (c.copy_from_slice.ensures.after ∙ c.to_be_bytes.ensures ∙ eight_bytes c.args.x c.ranges.x.fits)

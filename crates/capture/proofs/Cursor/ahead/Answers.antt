@@ -2,7 +2,7 @@
 use Rattle.std.specs.Prelude.{◌≡◌, ◌+◌, ◌≤◌, ◌<◌}
 use Rattle.laws.specs.Kit.{refl, sym, subst, ◌∙◌, List, ℕ, arith, length, drop, length-drop}
 use Rattle.capture.specs.Step.{next_of, ahead_of}
-use Rattle.capture.proofs.Ways.{rest_all}
+use Rattle.std.proofs.lemmas.List.{take_rest}
 use Rattle.capture.proofs.Looking.{Within, turn_within, ahead_stops, ahead_goes, used_fits}
 use borrow.Enum.Refused.{opened}
 use Rattle.capture.proofs.Cursor.ahead.Goals as goal
@@ -18,11 +18,11 @@ rest-at-In-Skipped-2 c = drop c.loop-more.used c.args.window.now
 -- what was read is what stands ahead of the rest of the window
 here : (c : After-read-next)
     → next_of c.args.setting c.loop-more.cursor (rest c) c.args.last ≡ c.read-next.result
-here c = sym (c.read-next.ensures ∙ rw (rest_all c.args.window.now c.loop-more.used))
+here c = sym (c.read-next.ensures ∙ rw (take_rest c.args.window.now c.loop-more.used))
 
 here-at-In-Skipped-2 : (c : In-Skipped)
     → next_of c.args.setting c.loop-more.cursor (rest-at-In-Skipped-2 c) c.args.last ≡ c.read-next.result
-here-at-In-Skipped-2 c = sym (c.read-next.ensures ∙ rw (rest_all c.args.window.now c.loop-more.used))
+here-at-In-Skipped-2 c = sym (c.read-next.ensures ∙ rw (take_rest c.args.window.now c.loop-more.used))
 
 -- and uses no more than that
 fits : (c : After-read-next) → Within (rest c) c.read-next.result

@@ -2,7 +2,7 @@
 use Rattle.std.specs.Prelude.{◌≡◌}
 use Rattle.laws.specs.Kit.{true, sym, refl, ◌∙◌, arith, drop}
 use Rattle.capture.specs.Step.{front_of}
-use Rattle.capture.proofs.Ways.{rest_all}
+use Rattle.std.proofs.lemmas.List.{take_rest}
 use Rattle.capture.proofs.Checking.{check_stops, loop_room, size_within, loop_refused, loop_next}
 use borrow.Enum.Refused.{opened}
 use Rattle.capture.proofs.Seen.check_records.Goals as goal
@@ -14,7 +14,7 @@ here : (c : After-front-front)
     c.front-front.result ≡ front_of c.args.setting (drop at.at c.args.s.now) true
 here c =
     let at = c.loop-told in
-    c.front-front.ensures ∙ rw (rest_all c.args.s.now at.at)
+    c.front-front.ensures ∙ rw (take_rest c.args.s.now at.at)
 
 pub loop-told-init : goal.loop-told-init
 loop-told-init c =

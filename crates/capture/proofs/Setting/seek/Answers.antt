@@ -2,7 +2,7 @@
 use Rattle.std.specs.Prelude.{◌≡◌}
 use Rattle.laws.specs.Kit.{true, refl, sym, ◌∙◌, arith, drop}
 use Rattle.capture.specs.Step.{front_of}
-use Rattle.capture.proofs.Ways.{rest_all}
+use Rattle.std.proofs.lemmas.List.{take_rest}
 use Rattle.capture.proofs.Seeking.{seek_end, seek_stops, found_within, seek_found, seek_goes}
 use borrow.Enum.Refused.{opened}
 use Rattle.capture.proofs.Setting.seek.Goals as goal
@@ -14,7 +14,7 @@ here : (c : After-front-front)
     c.front-front.result ≡ front_of c.args.self (drop at.at c.args.s.now) true
 here c =
     let at = c.loop-at in
-    c.front-front.ensures ∙ rw (rest_all c.args.s.now at.at)
+    c.front-front.ensures ∙ rw (take_rest c.args.s.now at.at)
 
 pub loop-at-init : goal.loop-at-init
 loop-at-init c = refl

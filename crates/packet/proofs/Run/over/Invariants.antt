@@ -1,15 +1,12 @@
 -- A run over three slices of one length. The invariant: the run over what is left, from where it is, is the run over the whole.
 -- Each turn is a law of one packet; no more markers came than packets and one before them, so their number fits.
-use Rattle.std.specs.Prelude.{◌+◌, ◌-◌, ◌≤◌, ◌≡◌}
-use Rattle.laws.specs.Kit.{length}
+use Rattle.std.specs.Prelude.{◌+◌, ◌≤◌, ◌≡◌}
 use Rattle.packet.specs.Paper.{packets, packets_from}
 use Rattle.packet.specs.Quick.{ran_of}
 use Rattle.packet.proofs.Run.over.Given as goal
 
 abbrev pub invariant-loop-i : goal.invariant-loop-i
-invariant-loop-i l =
-    (ran_of l.run (packets_from l.i l.arrivals l.stamps l.markers) ≡ ran_of l.initial.run (packets l.arrivals l.stamps l.markers)) ×
-    (l.i ≤ length l.arrivals) × (l.run.marks ≤ l.i + 1)
-
-abbrev pub decreases-loop-i : goal.decreases-loop-i
-decreases-loop-i l = length l.arrivals - l.i
+invariant-loop-i l = record {
+  rest : ran_of l.run (packets_from l.i l.arrivals l.stamps l.markers) ≡ ran_of l.fn.self (packets l.arrivals l.stamps l.markers);
+  marks : l.run.marks ≤ l.i + 1;
+}
