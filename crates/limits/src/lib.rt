@@ -82,22 +82,14 @@ impl Profile {
     pub fn has_buffer(self) -> bool
         ensures { result ≡ has_buffer self }
     {
-        match self {
-            Profile::Video => true,
-            Profile::Compressed => false,
-            Profile::Interlaced => true,
-        }
+        !matches!(self, Profile::Compressed)
     }
 
     // Whether a default TRO may stand: it has to be given for fields.
     fn has_default(self) -> bool
         ensures { result ≡ has_default self }
     {
-        match self {
-            Profile::Video => true,
-            Profile::Compressed => true,
-            Profile::Interlaced => false,
-        }
+        !matches!(self, Profile::Interlaced)
     }
 
     // The kind of its parameter record, which stands for it wherever a profile is told.
@@ -116,8 +108,7 @@ impl Profile {
         ensures { result ≡ periods self }
     {
         match self {
-            Profile::Video => 1,
-            Profile::Compressed => 1,
+            Profile::Video | Profile::Compressed => 1,
             Profile::Interlaced => 2,
         }
     }
@@ -131,18 +122,15 @@ impl Profile {
 }
 
 // The one place that tells which kinds stand for a profile.
+#[tactic(auto, unfolding(crate::specs::Paper::is_profile))]
 pub fn is_profile(kind: u8) -> bool
     ensures { result ≡ is_profile kind }
 {
-    match kind {
-        1 => true,
-        3 => true,
-        4 => true,
-        _ => false,
-    }
+    matches!(kind, 1 | 3 | 4)
 }
 
 // The profile that a kind stands for. One that stands for none is refused before it is asked, and goes with video.
+#[tactic(auto, unfolding(crate::specs::Paper::profile_of))]
 pub fn profile_of(kind: u8) -> Profile
     ensures { result ≡ profile_of kind }
 {
@@ -154,6 +142,7 @@ pub fn profile_of(kind: u8) -> Profile
 }
 
 // A profile that is told by its kind has no number of its own: an unknown kind is 22.
+#[tactic(auto, unfolding(crate::specs::Paper::profile_refusal))]
 pub fn profile_refusal(kind: u8) -> u8
     ensures { result ≡ profile_refusal kind }
 {
@@ -161,6 +150,7 @@ pub fn profile_refusal(kind: u8) -> u8
 }
 
 // The frame length in grains; a code that set-up refuses has none, and gets 0.
+#[tactic(auto, unfolding(crate::specs::Paper::rate_of, crate::specs::Paper::frame_length))]
 pub fn frame_length(rate: u8) -> u64
     ensures { result ≡ frame_length rate }
 {
@@ -179,6 +169,7 @@ pub fn frame_length(rate: u8) -> u64
 
 // The one place that tells what a class number means on a schedule; 0 is the strict class of the schedule. A record keeps 0 as
 // written, and one of a file of version 1 is read as 3 before it comes here.
+#[tactic(auto, unfolding(crate::specs::Paper::class_of))]
 pub fn class_of(class: u8, schedule: u8) -> Class
     ensures { result ≡ class_of class schedule }
 {
@@ -191,30 +182,32 @@ pub fn class_of(class: u8, schedule: u8) -> Class
     }
 }
 
+#[tactic(auto, unfolding(crate::specs::Paper::strict_on))]
 fn strict_on(schedule: u8) -> Class
     ensures { result ≡ strict_on schedule }
 {
-    if schedule == GAPPED {
-        return Class::Narrow;
+    match schedule {
+        GAPPED => Class::Narrow,
+        _ => Class::NarrowLinear,
     }
-    Class::NarrowLinear
 }
 
 impl Parameters {
     // The first of them, in document 01's order, that is refused of a profile; 0 where none is.
+    #[tactic(auto, unfolding(crate::specs::Paper::set_up_refusal, crate::specs::Paper::first_no))]
     pub fn refusal(self, profile: Profile) -> u8
         ensures { result ≡ set_up_refusal profile self }
     {
-        if !is_within(1, 8, self.rate as u32) {
+        if !(1..=8).contains(&self.rate) {
             return 1;
         }
-        if !is_within(0, 1, self.schedule as u32) {
+        if !(0..=1).contains(&self.schedule) {
             return 2;
         }
         if !class_fits(class_of(self.class, self.schedule), self.schedule) {
             return 3;
         }
-        if !is_within(1, 65535, self.height as u32) {
+        if !(1..=65535).contains(&self.height) {
             return 4;
         }
         if !packets_fit(profile, self.n) {
@@ -232,6 +225,7 @@ impl Parameters {
 
 impl Parameters {
     // What set-up refuses: 1 to 7 of these, and then 8 of the edition that it is told beside them; 0 where it refuses nothing.
+    #[tactic(auto, unfolding(crate::specs::Paper::set_up_in))]
     pub fn refusal_in(self, profile: Profile, edition: u32) -> u8
         ensures { result ≡ set_up_in profile self edition }
     {
@@ -241,16 +235,11 @@ impl Parameters {
     }
 }
 
+#[tactic(auto, unfolding(crate::specs::Paper::edition_refusal))]
 fn edition_refusal(edition: u32) -> u8
     ensures { result ≡ edition_refusal edition }
 {
-    if is_within(1, 2, edition) { 0 } else { 8 }
-}
-
-fn is_within(low: u32, high: u32, x: u32) -> bool
-    ensures { result ≡ within low high x }
-{
-    low <= x && x <= high
+    if (1..=2).contains(&edition) { 0 } else { 8 }
 }
 
 fn class_fits(class: Class, schedule: u8) -> bool
@@ -267,34 +256,34 @@ fn class_fits(class: Class, schedule: u8) -> bool
 fn maxudp_known(maxudp: u16) -> bool
     ensures { result ≡ maxudp_known maxudp }
 {
-    match maxudp {
-        1460 | 8960 => true,
-        _ => false,
-    }
+    matches!(maxudp, 1460 | 8960)
 }
 
 // The packets of a frame, n: where it has two fields, each has half of them.
+#[tactic(auto, unfolding(crate::specs::Paper::packets_fit))]
 fn packets_fit(profile: Profile, n: u32) -> bool
     ensures { result ≡ packets_fit profile n }
 {
-    is_within(1, 20000, n) && (n as u64) % profile.periods() == 0
+    (1..=20000).contains(&n) && u64::from(n) % profile.periods() == 0
 }
 
 // A TRO lies below one period: its grains in all periods of a frame are below the frame's, so that nothing is divided.
+#[tactic(auto, unfolding(crate::specs::Paper::tro_fits))]
 fn tro_fits(profile: Profile, frame: u64, tro: u32) -> bool
     ensures { result ≡ tro_fits profile frame tro }
 {
-    (profile.has_default() & (tro == DEFAULT_TRO))
-        | (profile.periods() * (MICROSECOND * (tro as u64)) < frame)
+    (profile.has_default() && tro == DEFAULT_TRO)
+        || profile.periods() * (MICROSECOND * u64::from(tro)) < frame
 }
 
 // TRO in grains. The bound keeps 43·F within 64 bits: 2^32 grains are 159 ms, the longest frame 42 ms.
+#[tactic(auto, unfolding(crate::specs::Paper::tro_grains, crate::specs::Paper::default_tro))]
 pub fn tro_grains(frame: u64, height: u16, tro: u32) -> u64
     requires { frame < 4294967296 }
     ensures { result ≡ tro_grains frame height tro }
 {
     if tro != DEFAULT_TRO {
-        return MICROSECOND * (tro as u64);
+        return MICROSECOND * u64::from(tro);
     }
     let tall = 1080 <= height;
     if tall {
@@ -315,16 +304,18 @@ pub fn read_num(schedule: u8, frame: u64) -> u64
 pub fn read_den(schedule: u8, n: u32) -> u64
     ensures { result ≡ read_den schedule n }
 {
-    active_den(schedule) * (n as u64)
+    active_den(schedule) * u64::from(n)
 }
 
 // R, the share of a frame in which its packets are read, as a numerator and a denominator.
+#[tactic(auto, unfolding(crate::specs::Paper::active_ratio))]
 fn active_num(schedule: u8) -> u64
     ensures { result ≡ (active_ratio schedule).num }
 {
     if schedule == GAPPED { 24 } else { 1 }
 }
 
+#[tactic(auto, unfolding(crate::specs::Paper::active_ratio))]
 fn active_den(schedule: u8) -> u64
     ensures { result ≡ (active_ratio schedule).den }
 {
@@ -332,24 +323,25 @@ fn active_den(schedule: u8) -> u64
 }
 
 // C_MAX: a bucket that ever holds more has failed. R is 1 where document 01's formula has none.
+#[tactic(auto, unfolding(crate::specs::Paper::c_max, crate::specs::Paper::active_ratio))]
 pub fn c_max(class: Class, schedule: u8, frame: u64, n: u32) -> u64
     ensures { result ≡ c_max class schedule frame n }
 {
     match class {
-        Class::Narrow => laws::greater(4, int_over(n, 43200, schedule, frame)),
-        Class::NarrowLinear => laws::greater(4, int_over(n, 43200, LINEAR, frame)),
-        Class::Wide => laws::greater(16, int_over(n, 21600, LINEAR, frame)),
+        Class::Narrow => int_over(n, 43200, schedule, frame).max(4),
+        Class::NarrowLinear => int_over(n, 43200, LINEAR, frame).max(4),
+        Class::Wide => int_over(n, 21600, LINEAR, frame).max(16),
         Class::Unknown => 0,
     }
 }
 
 // VRX_FULL: a receiver's buffer that ever holds more has failed.
+#[tactic(auto, unfolding(crate::specs::Paper::vrx_full))]
 pub fn vrx_full(class: Class, maxudp: u16, frame: u64, n: u32) -> u64
     ensures { result ≡ vrx_full class maxudp frame n }
 {
     match class {
-        Class::Narrow => full(12000, maxudp, n, 27000, frame),
-        Class::NarrowLinear => full(12000, maxudp, n, 27000, frame),
+        Class::Narrow | Class::NarrowLinear => full(12000, maxudp, n, 27000, frame),
         Class::Wide => full(1080000, maxudp, n, 300, frame),
         Class::Unknown => 0,
     }
@@ -360,10 +352,7 @@ fn full(bytes: u64, maxudp: u16, n: u32, k: u64, frame: u64) -> u64
     requires { Divides k }
     ensures { result ≡ max (int (whole bytes ÷ whole maxudp)) (int (whole n ÷ (whole k · seconds frame))) }
 {
-    laws::greater(
-        quotient(bytes, maxudp as u64),
-        int_over(n, k, LINEAR, frame),
-    )
+    quotient(bytes, u64::from(maxudp)).max(int_over(n, k, LINEAR, frame))
 }
 
 // INT(n/(k·R·T)). A second is divided by k first, with nothing left over, and then by one divisor
@@ -372,7 +361,7 @@ fn int_over(n: u32, k: u64, schedule: u8, frame: u64) -> u64
     requires { Divides k }
     ensures { result ≡ int (whole n ÷ (whole k · active_ratio schedule · seconds frame)) }
 {
-    let all = (n as u64) * (SECOND / k) * active_den(schedule);
+    let all = u64::from(n) * (SECOND / k) * active_den(schedule);
     quotient(quotient(all, active_num(schedule)), frame)
 }
 
@@ -380,5 +369,5 @@ fn int_over(n: u32, k: u64, schedule: u8, frame: u64) -> u64
 fn quotient(a: u64, b: u64) -> u64
     ensures { result ≡ a / b }
 {
-    if b == 0 { 0 } else { a / b }
+    a.checked_div(b).unwrap_or(0)
 }

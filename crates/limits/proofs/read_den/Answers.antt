@@ -6,7 +6,4 @@ use Rattle.limits.proofs.read_den.Goals as goal
 pub overflow_mul-result : goal.overflow_mul-result
 overflow_mul-result c =
     let start = c.args in
-    rw c.active_den.ensures (omega (arith, mul-le-mul_right start.n (den_small start.schedule)))
-
-pub returns : goal.returns
-returns c = cc
+    rw c.active_den.ensures (omega (arith, c.from.ensures, mul-le-mul_right c.from.result (den_small start.schedule)))

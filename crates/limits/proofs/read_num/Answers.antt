@@ -7,6 +7,3 @@ pub overflow_mul-result : goal.overflow_mul-result
 overflow_mul-result c =
     let start = c.args in
     rw c.active_num.ensures (omega (arith, mul-le-mul_right start.frame (num_small start.schedule)))
-
-pub returns : goal.returns
-returns c = cc

@@ -1,12 +1,8 @@
 -- Given, default for a tall picture, default for a low one: each is a share of the frame as a fraction.
-use Rattle.laws.specs.Kit.{eq-eqb, ne_eqb, le-leb, lt-leb, arith}
+use Rattle.laws.specs.Kit.{eq-eqb, le-leb, lt-leb, arith}
 use Rattle.limits.specs.Paper.{tro_grains, default_tro}
 use Rattle.limits.proofs.Laws.{share}
 use Rattle.limits.proofs.tro_grains.Goals as goal
-
-pub returns-then-tro-ne-DEFAULT_TRO : goal.returns-then-tro-ne-DEFAULT_TRO
-unfolding tro_grains
-returns-then-tro-ne-DEFAULT_TRO c = simp (ne_eqb _ _ c.if-tro-ne-DEFAULT_TRO.true)
 
 pub returns-then-tall : goal.returns-then-tall
 unfolding tro_grains default_tro
