@@ -55,24 +55,9 @@ kind_back kind h = go (profile_kinds kind h)
 pub by_kind : (kind : ℕ) → (is_profile kind ≡ true) ↔ ((p : Profile) × (kind ≡ profile_kind p) × (profile_of kind ≡ p))
 by_kind kind = (λ h. (profile_of kind, sym (kind_back kind h), refl), λ x. ap is_profile x.1 ∙ is_chosen x.0)
 
--- the tests of the code
-pub is_known : (kind : ℕ) → Known kind → true ≡ is_profile kind
-unfolding is_profile
-is_known kind (inl e) = rw e
-is_known kind (inr (inl e)) = rw e
-is_known kind (inr (inr e)) = rw e
-
 pub no_other : (kind : ℕ) → (kind ≡ 1 → ⊥) → (kind ≡ 3 → ⊥) → (kind ≡ 4 → ⊥) → false ≡ is_profile kind
 unfolding is_profile
 no_other kind a b c = rw (ne_eqb kind 1 a, ne_eqb kind 3 b, ne_eqb kind 4 c)
-
-pub third : (kind : ℕ) → kind ≡ 3 → Compressed ≡ profile_of kind
-unfolding profile_of
-third kind e = rw e
-
-pub fourth : (kind : ℕ) → kind ≡ 4 → Interlaced ≡ profile_of kind
-unfolding profile_of
-fourth kind e = rw e
 
 pub neither_of : (kind : ℕ) → (kind ≡ 3 → ⊥) → (kind ≡ 4 → ⊥) → Video ≡ profile_of kind
 unfolding profile_of

@@ -277,7 +277,7 @@ fn tro_fits(profile: Profile, frame: u64, tro: u32) -> bool
 }
 
 // TRO in grains. The bound keeps 43·F within 64 bits: 2^32 grains are 159 ms, the longest frame 42 ms.
-#[tactic(auto, unfolding(crate::specs::Paper::tro_grains, crate::specs::Paper::default_tro))]
+#[tactic(auto, unfolding(crate::specs::Paper::tro_grains, crate::specs::Paper::default_tro), using(crate::proofs::Laws::share))]
 pub fn tro_grains(frame: u64, height: u16, tro: u32) -> u64
     requires { frame < 4294967296 }
     ensures { result ≡ tro_grains frame height tro }
@@ -294,6 +294,7 @@ pub fn tro_grains(frame: u64, height: u16, tro: u32) -> u64
 }
 
 // The reads of a frame lie R·F/n = read_num/read_den grains apart: dividing would lose the fraction.
+#[tactic(auto, using(crate::proofs::Laws::num_small, crate::proofs::Laws::few_times))]
 pub fn read_num(schedule: u8, frame: u64) -> u64
     requires { frame < 4294967296 }
     ensures { result ≡ read_num schedule frame }
@@ -301,6 +302,7 @@ pub fn read_num(schedule: u8, frame: u64) -> u64
     active_num(schedule) * frame
 }
 
+#[tactic(auto, using(crate::proofs::Laws::den_small, crate::proofs::Laws::few_times))]
 pub fn read_den(schedule: u8, n: u32) -> u64
     ensures { result ≡ read_den schedule n }
 {
@@ -348,6 +350,7 @@ pub fn vrx_full(class: Class, maxudp: u16, frame: u64, n: u32) -> u64
 }
 
 // MAX(INT(bytes/MAXUDP), INT(n/(k·T)))
+#[tactic(auto, using(crate::proofs::Laws::ratio, crate::proofs::Laws::linear_limit))]
 fn full(bytes: u64, maxudp: u16, n: u32, k: u64, frame: u64) -> u64
     requires { Divides k }
     ensures { result ≡ max (int (whole bytes ÷ whole maxudp)) (int (whole n ÷ (whole k · seconds frame))) }
@@ -357,6 +360,7 @@ fn full(bytes: u64, maxudp: u16, n: u32, k: u64, frame: u64) -> u64
 
 // INT(n/(k·R·T)). A second is divided by k first, with nothing left over, and then by one divisor
 // at a time: the whole number is the same, and no product leaves 64 bits, whatever the frame.
+#[tactic(auto, using(crate::proofs::Laws::all_small, crate::proofs::Laws::limit))]
 fn int_over(n: u32, k: u64, schedule: u8, frame: u64) -> u64
     requires { Divides k }
     ensures { result ≡ int (whole n ÷ (whole k · active_ratio schedule · seconds frame)) }
