@@ -198,16 +198,16 @@ impl Parameters {
     pub fn refusal(self, profile: Profile) -> u8
         ensures { result ≡ set_up_refusal profile self }
     {
-        if !(1..=8).contains(&self.rate) {
+        if !matches!(self.rate, 1..=8) {
             return 1;
         }
-        if !(0..=1).contains(&self.schedule) {
+        if !matches!(self.schedule, 0..=1) {
             return 2;
         }
         if !class_fits(class_of(self.class, self.schedule), self.schedule) {
             return 3;
         }
-        if !(1..=65535).contains(&self.height) {
+        if !matches!(self.height, 1..=65535) {
             return 4;
         }
         if !packets_fit(profile, self.n) {
@@ -239,7 +239,7 @@ impl Parameters {
 fn edition_refusal(edition: u32) -> u8
     ensures { result ≡ edition_refusal edition }
 {
-    if (1..=2).contains(&edition) { 0 } else { 8 }
+    if matches!(edition, 1..=2) { 0 } else { 8 }
 }
 
 fn class_fits(class: Class, schedule: u8) -> bool
@@ -264,7 +264,7 @@ fn maxudp_known(maxudp: u16) -> bool
 fn packets_fit(profile: Profile, n: u32) -> bool
     ensures { result ≡ packets_fit profile n }
 {
-    (1..=20000).contains(&n) && u64::from(n) % profile.periods() == 0
+    matches!(n, 1..=20000) && u64::from(n) % profile.periods() == 0
 }
 
 // A TRO lies below one period: its grains in all periods of a frame are below the frame's, so that nothing is divided.
