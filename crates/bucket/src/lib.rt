@@ -88,34 +88,28 @@ impl Bucket {
     }
 
     // Whether each number is in its range, after `packets` packets: docs/STATE.md.
+    #[tactic(auto, unfolding(laws::specs::Every::after))]
     pub fn in_range(self, packets: u64) -> bool
         ensures { result ≡ every (ranges self packets) }
     {
-        let answer = self.network;
         (self.level <= packets)
             & (self.start <= packets)
             & (self.peak <= packets)
-            & (answer.first() <= packets)
-            & (answer.last() <= packets)
+            & (self.network.first() <= packets)
+            & (self.network.last() <= packets)
     }
 
     // The packet at `place` arrives, with `drains` drain instants since the packet before it.
+    #[tactic(auto, unfolding(crate::specs::Step::step_of))]
     pub fn step(self, place: u64, drains: u64, limit: u64) -> Bucket
         requires { (self.level ≤ place) × (place < 1000000000) }
         ensures { result ≡ step_of self place drains limit }
     {
-        let network = self.network;
-        let left = remaining(self.level, drains);
+        // Drains that find nothing take nothing and are not saved up.
+        let left = self.level.saturating_sub(drains);
         let start = began(self.level, drains, place, self.start);
-        arrived(left + 1, start, self.peak, network, place, limit)
+        arrived(left + 1, start, self.peak, self.network, place, limit)
     }
-}
-
-// The level less the drains; drains that find nothing take nothing and are not saved up.
-fn remaining(level: u64, drains: u64) -> u64
-    ensures { result ≡ level - drains }
-{
-    if level < drains { 0 } else { level - drains }
 }
 
 // Where nothing is left, the run that the level names begins with this packet: of two starts with one
@@ -140,12 +134,11 @@ fn arrived(level: u64, start: u64, peak: u64, network: Network, place: u64, limi
             network: answer,
         };
     }
-    let answer = network.anew();
     Bucket {
         level,
         start,
         peak,
-        network: answer,
+        network: network.anew(),
     }
 }
 

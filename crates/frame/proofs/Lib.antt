@@ -12,3 +12,4 @@ pub mod BufferOfFrames
 pub mod Editions
 pub mod Ranges
 pub mod RowsFit
+pub mod Laying

@@ -129,6 +129,7 @@ impl Frame {
     }
 
     // The first packet sets the frame's times, and the wait for read 0 from one period before the frame's start.
+    #[tactic(auto, unfolding(crate::specs::Step::opened_of))]
     fn opened(mut self, plan: Plan, t: u64, stamp: u32) -> Frame
         requires { Planned plan }
         ensures { result ≡ opened_of plan self t stamp }
@@ -161,41 +162,41 @@ impl Frame {
 
     // One packet more, in a frame whose times are set, with the reads before it and the wait for the next. It lacks packets or it
     // has a level above 0, never both; the first that lacks is the first late one.
-    fn counted(self, stamp: u32, reads: Reads) -> Frame
+    #[tactic(auto, unfolding(crate::specs::Step::counted_of))]
+    fn counted(mut self, stamp: u32, reads: Reads) -> Frame
         requires { self.held < 1000000000 }
         ensures { result ≡ counted_of self stamp reads }
     {
         let place = self.held;
         let held = place + 1;
         let count = reads.count;
-        let mut f = self;
-        f.differs = self.differing(stamp);
-        f.reads = count;
-        f.wait = reads.wait;
-        f.held = held;
+        self.differs = self.differing(stamp);
+        self.reads = count;
+        self.wait = reads.wait;
+        self.held = held;
         if count <= place {
-            f.top = laws::greater(f.top, held - count);
-            return f;
+            self.top = self.top.max(held - count);
+            return self;
         }
-        f.late = first_hit(f.deficit == 0, place, f.late);
-        f.deficit = laws::greater(f.deficit, count - place);
-        f
+        self.late = first_hit(self.deficit == 0, place, self.late);
+        self.deficit = self.deficit.max(count - place);
+        self
     }
 
     // One packet more, in a frame whose times are set, where the buffer is not judged: nothing of reads is kept.
-    fn ticked(self, stamp: u32) -> Frame
+    #[tactic(auto, unfolding(crate::specs::Step::ticked_of))]
+    fn ticked(mut self, stamp: u32) -> Frame
         requires { self.held < 1000000000 }
         ensures { result ≡ ticked_of self stamp }
     {
-        let mut f = self;
-        f.differs = self.differing(stamp);
-        f.held = self.held + 1;
-        f.reads = 0;
-        f.wait = 0;
-        f.top = 0;
-        f.deficit = 0;
-        f.late = 0;
-        f
+        self.differs = self.differing(stamp);
+        self.held += 1;
+        self.reads = 0;
+        self.wait = 0;
+        self.top = 0;
+        self.deficit = 0;
+        self.late = 0;
+        self
     }
 
     // One packet more, `gone` grains after the one before. What goes by is taken off the wait, so that nothing is long.
@@ -215,6 +216,7 @@ impl Frame {
     }
 
     // 1 short, 2 long, 3 stamp, 0 whole: tried in this order.
+    #[tactic(auto, using(crate::proofs::FrameKinds::kind_short, crate::proofs::FrameKinds::kind_long, crate::proofs::FrameKinds::kind_stamp, crate::proofs::FrameKinds::kind_whole))]
     pub fn kind(self, n: u64) -> u64
         ensures { result ≡ kind_of self n }
     {
@@ -274,6 +276,7 @@ impl Frame {
 
     // Nothing, where the buffer is not judged. A broken frame fails by being broken, or is not judged; of a whole one under goes first.
     // In one function: an answer that another one hands on takes along the bytes between its tag and its numbers.
+    #[tactic(auto, unfolding(crate::specs::Step::answer_of))]
     pub fn answer(self, plan: Plan, number: u64) -> Buffer
         ensures { result ≡ answer_of plan number self }
     {
@@ -339,8 +342,7 @@ impl Plan {
         requires { Planned self × NextAsks first t }
         ensures { result ≡ next_read_of self first t }
     {
-        let empty = Frame::empty();
-        let f = empty.opened(self, first, 0);
+        let f = Frame::empty().opened(self, first, 0);
         let gone = f.phase + grain::GRAINS_PER_NANOSECOND * (t - first);
         let by = gone * self.reads.den;
         let reads = grain::reads_on(f.reads, f.wait, self.packets, self.reads.num, by);
@@ -362,7 +364,7 @@ fn broken_answer(edition: u32, number: u64, kind: u64) -> Buffer
     if broken_fails(edition) {
         return Buffer::Broken(BrokenFrame {
             frame: number,
-            kind: kind,
+            kind,
         });
     }
     Buffer::None
@@ -413,12 +415,7 @@ impl Row {
         requires { at + row_width ≤ length rows.old }
         ensures { rows.new ≡ sets rows.old at (numbers_of self) }
     {
-        let numbers = self.numbers();
-        let mut k = 0;
-        while k < ROW {
-            rows[at + k] = numbers[k];
-            k += 1;
-        }
+        rows[at..at + ROW].copy_from_slice(&self.numbers());
     }
 }
 
@@ -441,10 +438,8 @@ impl Buffer {
         ensures { result ≡ buffer_frame self }
     {
         match self {
-            Buffer::None => 0,
-            Buffer::Pass => 0,
-            Buffer::Under(p) => p.frame,
-            Buffer::Over(p) => p.frame,
+            Buffer::None | Buffer::Pass => 0,
+            Buffer::Under(p) | Buffer::Over(p) => p.frame,
             Buffer::Broken(b) => b.frame,
         }
     }
@@ -453,10 +448,8 @@ impl Buffer {
         ensures { result ≡ buffer_place self }
     {
         match self {
-            Buffer::None => 0,
-            Buffer::Pass => 0,
-            Buffer::Under(p) => p.place,
-            Buffer::Over(p) => p.place,
+            Buffer::None | Buffer::Pass => 0,
+            Buffer::Under(p) | Buffer::Over(p) => p.place,
             Buffer::Broken(b) => b.kind,
         }
     }
@@ -464,25 +457,13 @@ impl Buffer {
     pub fn has_failed(self) -> bool
         ensures { result ≡ has_failed self }
     {
-        match self {
-            Buffer::None => false,
-            Buffer::Pass => false,
-            Buffer::Under(_) => true,
-            Buffer::Over(_) => true,
-            Buffer::Broken(_) => true,
-        }
+        matches!(self, Buffer::Under(_) | Buffer::Over(_) | Buffer::Broken(_))
     }
 
     pub fn is_none(self) -> bool
         ensures { result ≡ is_none self }
     {
-        match self {
-            Buffer::None => true,
-            Buffer::Pass => false,
-            Buffer::Under(_) => false,
-            Buffer::Over(_) => false,
-            Buffer::Broken(_) => false,
-        }
+        matches!(self, Buffer::None)
     }
 
     // The same answer, put together anew, as the bucket does with its own: no byte between tag and numbers is copied.
@@ -499,6 +480,7 @@ impl Buffer {
     }
 
     // The answer so far, and then the next frame's: the first that fails decides.
+    #[tactic(auto, unfolding(crate::specs::Step::joined))]
     pub fn then(self, next: Buffer) -> Buffer
         ensures { result ≡ joined self next }
     {
@@ -527,6 +509,7 @@ impl Frames {
     }
 
     // Whether each number is in its range, by the first and the last arrival and how many packets came: docs/STATE.md.
+    #[tactic(auto, unfolding(laws::specs::Every::after))]
     pub fn in_range(self, plan: Plan, first: u64, last: u64, packets: u64) -> bool
         requires { Planned plan }
         ensures { result ≡ every (ranges plan self first last packets) }
@@ -536,7 +519,6 @@ impl Frames {
         let answer = self.buffer;
         let lead_in = !self.begun;
         let none = !(0 < open.held);
-        let edition = plan.edition;
         let most = plan.most(open.held);
         let numbers = (self.closed <= packets)
             & (lead_in | (0 < packets))
@@ -558,7 +540,7 @@ impl Frames {
         let place = answer.place();
         numbers
             & (number <= most.number)
-            & (whole | broken_fails(edition))
+            & (whole | broken_fails(plan.edition))
             & (named <= packets)
             & (!whole | (place <= packets))
             & (whole | (0 < place))
@@ -566,14 +548,13 @@ impl Frames {
     }
 
     // A packet arrives: it is in the open frame, or in the lead-in and in none.
+    #[tactic(auto, unfolding(crate::specs::Step::arrive_of))]
     pub fn arrive(mut self, plan: Plan, gone: u64, t: u64, stamp: u32) -> Frames
         requires { Planned plan × (self.begun ≡ true → PushAsks plan self.current gone) }
         ensures { result ≡ arrive_of plan self gone t stamp }
     {
         if self.begun {
-            let frame = self.current;
-            let next = frame.push(plan, gone, t, stamp);
-            self.current = next;
+            self.current = self.current.push(plan, gone, t, stamp);
         }
         self
     }
@@ -584,34 +565,31 @@ impl Frames {
         requires { Planned plan × FramesRowAsks plan self packets }
         ensures { result ≡ closed_row plan self packets }
     {
-        let frame = self.current;
-        frame.row(plan, self.closed, self.marked, packets - frame.held)
+        let began = packets - self.current.held;
+        self.current.row(plan, self.closed, self.marked, began)
     }
 
     // The packet that arrived at t is a marker: it ends the lead-in, or closes the open frame.
+    #[tactic(auto, unfolding(crate::specs::Step::close_of))]
     pub fn close(self, plan: Plan, t: u64) -> Frames
         requires { self.closed ≤ 1000000000 }
         ensures { result ≡ close_of plan self t }
     {
-        let so_far = self.buffer;
         if self.begun {
-            let frame = self.current;
-            let answer = frame.answer(plan, self.closed);
-            let buffer = so_far.then(answer);
+            let answer = self.current.answer(plan, self.closed);
             return Frames {
                 begun: true,
                 closed: self.closed + 1,
                 marked: t,
                 current: Frame::empty(),
-                buffer,
+                buffer: self.buffer.then(answer),
             };
         }
         Frames {
             begun: true,
-            closed: self.closed,
             marked: t,
             current: Frame::empty(),
-            buffer: so_far,
+            ..self
         }
     }
 }

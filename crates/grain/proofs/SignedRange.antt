@@ -1,33 +1,15 @@
 -- Signed 64-bit numbers that hold a difference of naturals: that it fits, and that it is read back as it was.
 use Rattle.std.specs.Prelude.{◌-◌, ◌^◌, ◌≤◌, ◌<◌, ◌≡◌}
-use Rattle.laws.specs.Kit.{ℕ, zero, suc, refl, sym, ap, ◌∙◌, subst, arith, zero-add, true, false, lt-ltb, le-ltb}
+use Rattle.laws.specs.Kit.{ℕ, suc, sym, ap, ◌∙◌, subst, arith, true, false, le-ltb}
 use Rattle.std.specs.Prelude.{◌-ℤ◌}
 use Rattle.laws.specs.Kit.{leb-false, T, le_z, non_neg, mag, ℤ, pos, negsuc, sub_ℕ, nat_abs}
 use mir.Syntax.{w64}
 use mir.Val.{Fits, SFits, to_z, of_z}
-use mir.Facts.{to_z_pos, to_z-of_z, sfits_to_z, Fits-of_z}
+use mir.Facts.{to_z-of_z, sfits_to_z, Fits-of_z}
 use Rattle.laws.specs.Differ.{Differ}
-
-pub below_zero : (a b : ℕ) → a < b → sub_ℕ a b ≡ negsuc (b - suc a)
-below_zero a b h = simp (lt-ltb a b h)
 
 pub not_below : (a b : ℕ) → b ≤ a → sub_ℕ a b ≡ pos (a - b)
 not_below a b h = simp (le-ltb a b h)
-
--- −1 less d
-module _ (d : ℕ) (h : d < 2 ^ 63) where
-  minus_one_less : negsuc 0 -ℤ to_z w64 d ≡ negsuc d
-  minus_one_less = ap (λ (y : ℤ). negsuc 0 -ℤ y) (to_z_pos w64 h) ∙ go d
-    where
-      go : (d : ℕ) → negsuc 0 -ℤ pos d ≡ negsuc d
-      go zero = refl
-      go (suc d) = ap (λ (n : ℕ). negsuc (suc n)) (zero-add d)
-
-  pub negative_fits : SFits w64 (negsuc 0 -ℤ to_z w64 d)
-  negative_fits = rw minus_one_less (record { sfits = h })
-
-  pub negative_is : to_z w64 (of_z w64 (negsuc 0 -ℤ to_z w64 d)) ≡ negsuc d
-  negative_is = ap (λ (z : ℤ). to_z w64 (of_z w64 z)) minus_one_less ∙ to_z-of_z {w = w64} {z = negsuc d} (record { sfits = h })
 
 -- a difference of two numbers below 2^63 fits
 pub differ_fits : (z : ℤ) (a b : ℕ) → Differ z a b → a < 2 ^ 63 → b < 2 ^ 63 → SFits w64 z
@@ -45,8 +27,6 @@ module _ (a b : ℤ) (ha : SFits w64 a) (hb : SFits w64 b) where
   pub less_is : SFits w64 (a -ℤ b) → to_z w64 (of_z w64 (to_z w64 (of_z w64 a) -ℤ to_z w64 (of_z w64 b))) ≡ a -ℤ b
   less_is h = ap (λ (z : ℤ). to_z w64 (of_z w64 z)) both_back ∙ to_z-of_z h
 
--- ---- two's complement bits
-
 -- a number that was read back from its bits fits as it did
 pub back_fits : {x : ℤ} → SFits w64 x → SFits w64 (to_z w64 (of_z w64 x))
 back_fits f = sfits_to_z (Fits-of_z f)
@@ -55,10 +35,6 @@ back_fits f = sfits_to_z (Fits-of_z f)
 pub plain_cast : (z : ℤ) → SFits w64 z → le_z (pos 0) z ≡ true → T (non_neg z) × Fits w64 (nat_abs z)
 plain_cast (pos n) f h = (tt, record { fits = omega (arith, f.sfits) })
 plain_cast (negsuc n) f h = let z : ◌≡◌ {A = ℕ} 0 1 = cc in absurd (omega arith)
-
-pub plain_bits : (z : ℤ) → le_z (pos 0) z ≡ true → nat_abs z ≡ of_z w64 z
-plain_bits (pos n) h = refl
-plain_bits (negsuc n) h = let z : ◌≡◌ {A = ℕ} 0 1 = cc in absurd (omega arith)
 
 -- of one below 0, −1 less it is what is left of the bits up to all ones
 flipped : (z : ℤ) → le_z (pos 0) z ≡ false → negsuc 0 -ℤ z ≡ pos (mag z)
@@ -77,7 +53,3 @@ module _ (z : ℤ) (f : SFits w64 z) (h : le_z (pos 0) z ≡ false) where
 
   pub flip_size : nat_abs (to_z w64 (of_z w64 (negsuc 0 -ℤ z))) ≡ mag z
   flip_size = ap nat_abs flip_back
-
-pub flip_bits : (z : ℤ) → SFits w64 z → le_z (pos 0) z ≡ false → 18446744073709551615 - mag z ≡ of_z w64 z
-flip_bits (pos n) f h = absurd (omega (arith, leb-false 0 n h))
-flip_bits (negsuc n) f h = omega (arith, f.sfits)

@@ -27,7 +27,8 @@ pub struct Spacing {
     pub den: u64,
 }
 
-// What is left of 27·t when whole m's are taken away. t is divided first: 27 times its rest is below 27·m and fits.
+// What is left of 27·t when whole m's are taken away. t is divided first: 27 times its rest is below 27·m and fits. In 128 bits the
+// remainder would call a function of the host.
 pub fn rest27(t: u64, m: u64) -> u64
     requires { (nanosecond ≤ m) × (m ≤ 576460752303423488) }
     ensures { result ≡ grains t % m }
@@ -60,7 +61,7 @@ pub fn since_encoded(t: u64, stamp: u32) -> u64
     ensures { result ≡ since_encoded (grains t) stamp % wrap }
 {
     let past = rest27(t, WRAP);
-    let ticks = GRAINS_PER_TICK * (stamp as u64);
+    let ticks = GRAINS_PER_TICK * u64::from(stamp);
     if ticks <= past {
         past - ticks
     } else {
@@ -81,24 +82,14 @@ pub fn difference(a: u64, b: u64) -> i64
     requires { (a < b + 9223372036854775808) × (b ≤ a + 9223372036854775808) }
     ensures { result ≡ sub_ℕ a b }
 {
-    if b <= a {
-        (a - b) as i64
-    } else {
-        let below = b - a - 1;
-        -1 - (below as i64)
-    }
+    a.wrapping_sub(b).cast_signed()
 }
 
 // The two's complement bits of x: x itself, or 2^64 more where it is below 0.
 pub fn bits(x: i64) -> u64
     ensures { result ≡ of_z w64 x }
 {
-    if 0 <= x {
-        x as u64
-    } else {
-        let below = (-1 - x) as u64;
-        18446744073709551615 - below
-    }
+    x.cast_unsigned()
 }
 
 // x in whole num's, and what is left.
@@ -167,7 +158,7 @@ fn carried_on(count: u64, wait: u64, n: u64, num: u64, gone: u64) -> Kept
 {
     if count == 0 && gone <= wait {
         return Kept {
-            count: count,
+            count,
             wait: wait - gone,
         };
     }
@@ -176,14 +167,14 @@ fn carried_on(count: u64, wait: u64, n: u64, num: u64, gone: u64) -> Kept
         let once = taken(second - gone, num);
         let twice = taken(once.rest, num);
         return Kept {
-            count: laws::lesser(n, count + (2 - once.whole - twice.whole)),
+            count: n.min(count + (2 - once.whole - twice.whole)),
             wait: twice.rest,
         };
     }
     let over = gone - wait;
     let passed = (over + (num - 1)) / num;
     Kept {
-        count: laws::lesser(n, count + passed),
+        count: n.min(count + passed),
         wait: passed * num - over,
     }
 }

@@ -3,7 +3,6 @@
 use Rattle.std.specs.Prelude.{◌≡◌, ◌↔◌, ◌∷◌, ◌+◌, ◌≤◌, ◌<◌}
 use Rattle.laws.specs.Kit.{sym, ◌∙◌, Bool, true, List, [], ℕ, suc, arith, length, eqb, leb, le-leb, leb-true}
 use Rattle.laws.specs.Kit.{ℕ_discrete}
-use Rattle.laws.specs.Choose.{or_else}
 use Rattle.laws.proofs.Choose.{pick_either, neither, second, before}
 use Rattle.laws.proofs.Every.{and_left, and_right}
 use Rattle.limits.specs.declared.Parameters.{Parameters}
@@ -58,11 +57,6 @@ module _ (profile : Profile) (p : Parameters) (edition : ℕ) where
   pub in_edition : set_up_refusal profile p ≡ 0 → set_up_in profile p edition ≡ edition_refusal edition
   unfolding set_up_in
   in_edition e = second (set_up_refusal profile p) (edition_refusal edition) e
-
-  -- both numbers as the code finds them
-  pub in_both : {a b : ℕ} → a ≡ set_up_refusal profile p → b ≡ edition_refusal edition → or_else a b ≡ set_up_in profile p edition
-  unfolding set_up_in
-  in_both e f = rw (e, f)
 
   -- N2: set-up refuses by 1 to 8
   pub at_most_8 : set_up_in profile p edition ≤ 8

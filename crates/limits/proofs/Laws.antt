@@ -1,20 +1,13 @@
--- What the answers cite: codes past the end of a table, a division that leaves nothing over, and the one law behind every limit, that
+-- What the code is proved by: codes past the end of a table, a division that leaves nothing over, and the one law behind every limit, that
 -- dividing by one number after another is dividing by their product, and that a common factor of both sides of a fraction falls out.
 use Rattle.std.specs.Prelude.{◌≡◌, ◌∷◌, ◌*◌, ◌/◌, ◌%◌, ◌≤◌, ◌<◌}
-use Rattle.laws.specs.Kit.{refl, sym, ap, ◌∙◌, Bool, true, false, not, List, [], ℕ, zero, suc, arith}
+use Rattle.laws.specs.Kit.{sym, ap, ◌∙◌, ℕ, zero, suc, arith}
 use Rattle.laws.specs.Kit.{mul-one, one-mul, mul_comm, mul_assoc, mul_left_comm, mul-le-mul, div-div-eq-div-mul, mul-div-mul_left}
 use Rattle.laws.specs.Kit.{div-add-mod', div-le_of_le-mul, get_or-eq_default}
-use Rattle.laws.proofs.Choose.{false_true}
 use Rattle.limits.specs.Fraction.{whole, ◌·◌, ◌÷◌, int}
-use Rattle.limits.specs.Paper.{second, rates, no_rate, rate_of, length_at, frame_length, active_ratio, seconds, strict_on, classes, class_of}
-use Rattle.limits.specs.Paper.{c_max, vrx_full, class_fits, first_no}
+use Rattle.limits.specs.Paper.{second, rates, no_rate, rate_of, length_at, frame_length, active_ratio, seconds, classes, class_of}
 use Rattle.limits.specs.Steps.{Divides}
-use Rattle.limits.specs.declared.Class.{Class}
-use Rattle.limits.specs.declared.Class.TheVariants.{Narrow, NarrowLinear, Unknown}
-
--- a number from k up that is not k is from k + 1 up
-pub above : {k x : ℕ} → k ≤ x → (x ≡ k → ⊥) → suc k ≤ x
-above h other = omega arith
+use Rattle.limits.specs.declared.Class.TheVariants.{Unknown}
 
 pub past_rates : (rate : ℕ) → 9 ≤ rate → 0 ≡ frame_length rate
 unfolding rate_of frame_length
@@ -23,21 +16,6 @@ past_rates rate h = sym (ap length_at (get_or-eq_default (no_rate ∷ rates) no_
 pub past_classes : (class schedule : ℕ) → 4 ≤ class → Unknown ≡ class_of class schedule
 unfolding class_of
 past_classes class schedule h = sym (get_or-eq_default (classes schedule) Unknown h)
-
--- 0 on either schedule
-pub strict_gapped : (schedule : ℕ) → schedule ≡ 0 → Narrow ≡ strict_on schedule
-unfolding strict_on
-strict_gapped schedule e = sym (ap strict_on e)
-
-pub strict_linear : (schedule : ℕ) → (schedule ≡ 0 → ⊥) → NarrowLinear ≡ strict_on schedule
-unfolding strict_on
-strict_linear zero other = absurd (other refl)
-strict_linear (suc schedule) other = refl
-
-pub not_gapped : (schedule : ℕ) → (schedule ≡ 0 → ⊥) → whole 1 ≡ active_ratio schedule
-unfolding active_ratio
-not_gapped zero other = absurd (other refl)
-not_gapped (suc schedule) other = refl
 
 pub num_small : (schedule : ℕ) → (active_ratio schedule).num ≤ 24
 unfolding active_ratio
@@ -48,6 +26,10 @@ pub den_small : (schedule : ℕ) → (active_ratio schedule).den ≤ 25
 unfolding active_ratio
 den_small zero = omega arith
 den_small (suc schedule) = omega arith
+
+-- a product is at most that of the most that one side may be
+pub few_times : (k m x : ℕ) → k ≤ m → k * x ≤ m * x
+few_times k m x h = mul-le-mul h (omega arith)
 
 module _ (n a b k p F : ℕ) where
   -- both sides of the fraction hold k; without it they are what the code divides
@@ -101,36 +83,3 @@ module _ (n k schedule : ℕ) (h : n < 4294967296) (d : Divides k) where
 
   pub all_small : n * (second / k) * (active_ratio schedule).den ≤ 4294967295 * 90000000 * 25
   all_small = mul-le-mul product_small (den_small schedule)
-
--- A list of questions is asked one after another: one answered yes goes on to the next, one answered no gives its number.
--- The code's answers build this, question by question, from the branches that it took.
-pub data First : ℕ → List Bool → ℕ → Type 0 where
-  passes : {k : ℕ} → First k [] 0
-  goes_on : {k r : ℕ} {t : Bool} {more : List Bool} → not t ≡ false → First (suc k) more r → First k (t ∷ more) r
-  stops : {k : ℕ} {t : Bool} {more : List Bool} → not t ≡ true → First k (t ∷ more) k
-
--- the same of a question that the code asks by a function of its own
-pub asked : {k r : ℕ} {a t : Bool} {more : List Bool} → a ≡ t → not a ≡ false → First (suc k) more r → First k (t ∷ more) r
-asked e f more = goes_on (ap not (sym e) ∙ f) more
-
-pub refused : {k : ℕ} {a t : Bool} {more : List Bool} → a ≡ t → not a ≡ true → First k (t ∷ more) k
-refused e f = stops (ap not (sym e) ∙ f)
-
-pub first : {k r : ℕ} {l : List Bool} → First k l r → r ≡ first_no k l
-unfolding first_no
-first passes = refl
-first (goes_on {t = true} e f) = first f
-first (goes_on {t = false} e f) = absurd (false_true (sym e))
-first (stops {t = true} e) = absurd (false_true e)
-first (stops {t = false} e) = refl
-
--- A branch told which class it is: what holds of the class told holds of it.
-module _ {class told : Class} (t : class ≡ told) where
-  pub c_max_told : (schedule F n : ℕ) {r : ℕ} → r ≡ c_max told schedule F n → r ≡ c_max class schedule F n
-  c_max_told schedule F n h = rw t h
-
-  pub vrx_full_told : (maxudp F n : ℕ) {r : ℕ} → r ≡ vrx_full told maxudp F n → r ≡ vrx_full class maxudp F n
-  vrx_full_told maxudp F n h = rw t h
-
-  pub class_fits_told : (schedule : ℕ) {r : Bool} → r ≡ class_fits told schedule → r ≡ class_fits class schedule
-  class_fits_told schedule h = rw t h

@@ -12,7 +12,7 @@ ghost use Rattle.limits.specs.Fraction.{whole, ◌·◌, ◌÷◌, int};
 ghost use Rattle.limits.specs.Steps.{Divides};
 ghost use Rattle.limits.specs.Paper.{frame_length, active_ratio, seconds, strict_on, class_of, c_max, vrx_full, tro_grains, read_num, read_den};
 ghost use Rattle.limits.specs.Paper.{within, class_fits, maxudp_known, packets_fit, tro_fits, set_up_refusal, edition_refusal, set_up_in};
-ghost use Rattle.limits.specs.Paper.{has_buffer, periods, per_period, has_default, profile_kind, is_profile, profile_of, profile_in};
+ghost use Rattle.limits.specs.Paper.{has_buffer, periods, per_period, has_default, profile_kind, profile_of, profile_in};
 ghost use Rattle.refusal.specs.Told.{number_in, by_number};
 
 use refusal::Refusal;
@@ -85,22 +85,14 @@ impl Profile {
     pub fn has_buffer(self) -> bool
         ensures { result ≡ has_buffer self }
     {
-        match self {
-            Profile::Video => true,
-            Profile::Compressed => false,
-            Profile::Interlaced => true,
-        }
+        !matches!(self, Profile::Compressed)
     }
 
     // Whether a default TRO may stand: it has to be given for fields.
     fn has_default(self) -> bool
         ensures { result ≡ has_default self }
     {
-        match self {
-            Profile::Video => true,
-            Profile::Compressed => true,
-            Profile::Interlaced => false,
-        }
+        !matches!(self, Profile::Interlaced)
     }
 
     // The kind of its parameter record, which stands for it wherever a profile is told.
@@ -119,8 +111,7 @@ impl Profile {
         ensures { result ≡ periods self }
     {
         match self {
-            Profile::Video => 1,
-            Profile::Compressed => 1,
+            Profile::Video | Profile::Compressed => 1,
             Profile::Interlaced => 2,
         }
     }
@@ -140,6 +131,7 @@ impl TryFrom<u8> for Profile {
 
     ghost try_from_gives = { λ kind r. by_number r ≡ profile_in kind };
 
+    #[tactic(auto, unfolding(crate::specs::Paper::is_profile, crate::specs::Paper::profile_of))]
     fn try_from(kind: u8) -> Result<Profile, Refusal> {
         match kind {
             1 => Ok(Profile::Video),
@@ -151,6 +143,7 @@ impl TryFrom<u8> for Profile {
 }
 
 // The profile that a kind stands for. One that stands for none is refused before it is asked, and goes with video.
+#[tactic(auto, using(crate::proofs::Profiles::or_video))]
 pub fn profile_of(kind: u8) -> Profile
     ensures { result ≡ profile_of kind }
 {
@@ -158,6 +151,7 @@ pub fn profile_of(kind: u8) -> Profile
 }
 
 // The frame length in grains; a code that set-up refuses has none, and gets 0.
+#[tactic(auto, unfolding(crate::specs::Paper::rate_of, crate::specs::Paper::frame_length))]
 pub fn frame_length(rate: u8) -> u64
     ensures { result ≡ frame_length rate }
 {
@@ -176,6 +170,7 @@ pub fn frame_length(rate: u8) -> u64
 
 // The one place that tells what a class number means on a schedule; 0 is the strict class of the schedule. A record keeps 0 as
 // written, and one of a file of version 1 is read as 3 before it comes here.
+#[tactic(auto, unfolding(crate::specs::Paper::class_of))]
 pub fn class_of(class: u8, schedule: u8) -> Class
     ensures { result ≡ class_of class schedule }
 {
@@ -188,30 +183,32 @@ pub fn class_of(class: u8, schedule: u8) -> Class
     }
 }
 
+#[tactic(auto, unfolding(crate::specs::Paper::strict_on))]
 fn strict_on(schedule: u8) -> Class
     ensures { result ≡ strict_on schedule }
 {
-    if schedule == GAPPED {
-        return Class::Narrow;
+    match schedule {
+        GAPPED => Class::Narrow,
+        _ => Class::NarrowLinear,
     }
-    Class::NarrowLinear
 }
 
 impl Parameters {
     // Whether set-up accepts these of a profile; else the first of 1 to 7, in their order, that is wrong (N2).
+    #[tactic(auto, unfolding(crate::specs::Paper::set_up_refusal, crate::specs::Paper::first_no))]
     pub fn check(self, profile: Profile) -> Result<(), Refusal>
         ensures { number_in result ≡ set_up_refusal profile self }
     {
-        if !is_within(1, 8, self.rate as u32) {
+        if !matches!(self.rate, 1..=8) {
             return Err(Refusal::Rate);
         }
-        if !is_within(0, 1, self.schedule as u32) {
+        if !matches!(self.schedule, 0..=1) {
             return Err(Refusal::Schedule);
         }
         if !class_fits(class_of(self.class, self.schedule), self.schedule) {
             return Err(Refusal::Class);
         }
-        if !is_within(1, 65535, self.height as u32) {
+        if !matches!(self.height, 1..=65535) {
             return Err(Refusal::Height);
         }
         if !packets_fit(profile, self.n) {
@@ -227,6 +224,7 @@ impl Parameters {
     }
 
     // The same, and then 8 of the edition that set-up is told beside them.
+    #[tactic(auto, unfolding(crate::specs::Paper::set_up_in), using(refusal::proofs::Asking::number_in_both))]
     pub fn check_in(self, profile: Profile, edition: u32) -> Result<(), Refusal>
         ensures { number_in result ≡ set_up_in profile self edition }
     {
@@ -236,20 +234,15 @@ impl Parameters {
     }
 }
 
+#[tactic(auto, unfolding(crate::specs::Paper::edition_refusal))]
 fn check_edition(edition: u32) -> Result<(), Refusal>
     ensures { number_in result ≡ edition_refusal edition }
 {
-    if is_within(1, 2, edition) {
+    if matches!(edition, 1..=2) {
         Ok(())
     } else {
         Err(Refusal::Edition)
     }
-}
-
-fn is_within(low: u32, high: u32, x: u32) -> bool
-    ensures { result ≡ within low high x }
-{
-    low <= x && x <= high
 }
 
 fn class_fits(class: Class, schedule: u8) -> bool
@@ -266,34 +259,34 @@ fn class_fits(class: Class, schedule: u8) -> bool
 fn maxudp_known(maxudp: u16) -> bool
     ensures { result ≡ maxudp_known maxudp }
 {
-    match maxudp {
-        1460 | 8960 => true,
-        _ => false,
-    }
+    matches!(maxudp, 1460 | 8960)
 }
 
 // The packets of a frame, n: where it has two fields, each has half of them.
+#[tactic(auto, unfolding(crate::specs::Paper::packets_fit))]
 fn packets_fit(profile: Profile, n: u32) -> bool
     ensures { result ≡ packets_fit profile n }
 {
-    is_within(1, 20000, n) && (n as u64) % profile.periods() == 0
+    matches!(n, 1..=20000) && u64::from(n) % profile.periods() == 0
 }
 
 // A TRO lies below one period: its grains in all periods of a frame are below the frame's, so that nothing is divided.
+#[tactic(auto, unfolding(crate::specs::Paper::tro_fits))]
 fn tro_fits(profile: Profile, frame: u64, tro: u32) -> bool
     ensures { result ≡ tro_fits profile frame tro }
 {
-    (profile.has_default() & (tro == DEFAULT_TRO))
-        | (profile.periods() * (MICROSECOND * (tro as u64)) < frame)
+    (profile.has_default() && tro == DEFAULT_TRO)
+        || profile.periods() * (MICROSECOND * u64::from(tro)) < frame
 }
 
 // TRO in grains. The bound keeps 43·F within 64 bits: 2^32 grains are 159 ms, the longest frame 42 ms.
+#[tactic(auto, unfolding(crate::specs::Paper::tro_grains, crate::specs::Paper::default_tro), using(crate::proofs::Laws::share))]
 pub fn tro_grains(frame: u64, height: u16, tro: u32) -> u64
     requires { frame < 4294967296 }
     ensures { result ≡ tro_grains frame height tro }
 {
     if tro != DEFAULT_TRO {
-        return MICROSECOND * (tro as u64);
+        return MICROSECOND * u64::from(tro);
     }
     let tall = 1080 <= height;
     if tall {
@@ -304,6 +297,7 @@ pub fn tro_grains(frame: u64, height: u16, tro: u32) -> u64
 }
 
 // The reads of a frame lie R·F/n = read_num/read_den grains apart: dividing would lose the fraction.
+#[tactic(auto, using(crate::proofs::Laws::num_small, crate::proofs::Laws::few_times))]
 pub fn read_num(schedule: u8, frame: u64) -> u64
     requires { frame < 4294967296 }
     ensures { result ≡ read_num schedule frame }
@@ -311,19 +305,22 @@ pub fn read_num(schedule: u8, frame: u64) -> u64
     active_num(schedule) * frame
 }
 
+#[tactic(auto, using(crate::proofs::Laws::den_small, crate::proofs::Laws::few_times))]
 pub fn read_den(schedule: u8, n: u32) -> u64
     ensures { result ≡ read_den schedule n }
 {
-    active_den(schedule) * (n as u64)
+    active_den(schedule) * u64::from(n)
 }
 
 // R, the share of a frame in which its packets are read, as a numerator and a denominator.
+#[tactic(auto, unfolding(crate::specs::Paper::active_ratio))]
 fn active_num(schedule: u8) -> u64
     ensures { result ≡ (active_ratio schedule).num }
 {
     if schedule == GAPPED { 24 } else { 1 }
 }
 
+#[tactic(auto, unfolding(crate::specs::Paper::active_ratio))]
 fn active_den(schedule: u8) -> u64
     ensures { result ≡ (active_ratio schedule).den }
 {
@@ -331,47 +328,47 @@ fn active_den(schedule: u8) -> u64
 }
 
 // C_MAX: a bucket that ever holds more has failed. R is 1 where document 01's formula has none.
+#[tactic(auto, unfolding(crate::specs::Paper::c_max, crate::specs::Paper::active_ratio))]
 pub fn c_max(class: Class, schedule: u8, frame: u64, n: u32) -> u64
     ensures { result ≡ c_max class schedule frame n }
 {
     match class {
-        Class::Narrow => laws::greater(4, int_over(n, 43200, schedule, frame)),
-        Class::NarrowLinear => laws::greater(4, int_over(n, 43200, LINEAR, frame)),
-        Class::Wide => laws::greater(16, int_over(n, 21600, LINEAR, frame)),
+        Class::Narrow => int_over(n, 43200, schedule, frame).max(4),
+        Class::NarrowLinear => int_over(n, 43200, LINEAR, frame).max(4),
+        Class::Wide => int_over(n, 21600, LINEAR, frame).max(16),
         Class::Unknown => 0,
     }
 }
 
 // VRX_FULL: a receiver's buffer that ever holds more has failed.
+#[tactic(auto, unfolding(crate::specs::Paper::vrx_full))]
 pub fn vrx_full(class: Class, maxudp: u16, frame: u64, n: u32) -> u64
     ensures { result ≡ vrx_full class maxudp frame n }
 {
     match class {
-        Class::Narrow => full(12000, maxudp, n, 27000, frame),
-        Class::NarrowLinear => full(12000, maxudp, n, 27000, frame),
+        Class::Narrow | Class::NarrowLinear => full(12000, maxudp, n, 27000, frame),
         Class::Wide => full(1080000, maxudp, n, 300, frame),
         Class::Unknown => 0,
     }
 }
 
 // MAX(INT(bytes/MAXUDP), INT(n/(k·T)))
+#[tactic(auto, using(crate::proofs::Laws::ratio, crate::proofs::Laws::linear_limit))]
 fn full(bytes: u64, maxudp: u16, n: u32, k: u64, frame: u64) -> u64
     requires { Divides k }
     ensures { result ≡ max (int (whole bytes ÷ whole maxudp)) (int (whole n ÷ (whole k · seconds frame))) }
 {
-    laws::greater(
-        quotient(bytes, maxudp as u64),
-        int_over(n, k, LINEAR, frame),
-    )
+    quotient(bytes, u64::from(maxudp)).max(int_over(n, k, LINEAR, frame))
 }
 
 // INT(n/(k·R·T)). A second is divided by k first, with nothing left over, and then by one divisor
 // at a time: the whole number is the same, and no product leaves 64 bits, whatever the frame.
+#[tactic(auto, using(crate::proofs::Laws::all_small, crate::proofs::Laws::limit))]
 fn int_over(n: u32, k: u64, schedule: u8, frame: u64) -> u64
     requires { Divides k }
     ensures { result ≡ int (whole n ÷ (whole k · active_ratio schedule · seconds frame)) }
 {
-    let all = (n as u64) * (SECOND / k) * active_den(schedule);
+    let all = u64::from(n) * (SECOND / k) * active_den(schedule);
     quotient(quotient(all, active_num(schedule)), frame)
 }
 
@@ -379,5 +376,5 @@ fn int_over(n: u32, k: u64, schedule: u8, frame: u64) -> u64
 fn quotient(a: u64, b: u64) -> u64
     ensures { result ≡ a / b }
 {
-    if b == 0 { 0 } else { a / b }
+    a.checked_div(b).unwrap_or(0)
 }

@@ -19,7 +19,7 @@ overflow_sub-once-then-gone-second c = omega (arith, (twice_off c.taken-once.ens
 pub returns-then-gone-second : goal.returns-then-gone-second
 returns-then-gone-second c =
     reads_near _ _ _ _ _ _ _ _ c.requires.apart c.if-gone-second.true
-    (twice_off c.taken-once.ensures c.taken-twice.ensures) (omega (arith, c.lesser.ensures))
+    (twice_off c.taken-once.ensures c.taken-twice.ensures) (omega (arith, c.min.ensures))
 
 pub overflow_add-count-2 : goal.overflow_add-count-2
 overflow_add-count-2 c = let a = c.args in omega (arith, up_small (a.gone - a.wait) a.num c.requires.apart)
@@ -34,5 +34,5 @@ pub returns : goal.returns
 returns c =
     let a = c.args in
     let low = up_low (a.gone - a.wait) a.num c.requires.apart in
-    reads_are _ _ _ _ _ _ c.requires.apart _ _ (up_high (a.gone - a.wait) a.num c.requires.apart) low c.lesser-2.ensures
+    reads_are _ _ _ _ _ _ c.requires.apart _ _ (up_high (a.gone - a.wait) a.num c.requires.apart) low c.min-2.ensures
     (omega (arith, low))

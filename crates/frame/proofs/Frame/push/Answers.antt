@@ -17,19 +17,5 @@ reads_on-reads-requires c = rw c.gone_by.ensures (reach_fits _ _ c.opened-f.ensu
 pub counted-counted-requires : goal.counted-counted-requires
 counted-counted-requires c = (opened_timed _ _ c.opened-f.ensures c.requires.0 c.requires.1).few
 
-pub returns-then-plan : goal.returns-then-plan
-returns-then-plan c = let a = c.args in
-    c.counted-counted.ensures
-    ∙ ap (counted_of _ a.stamp) (c.reads_on-reads.ensures
-    ∙ ap (λ (x : ℕ). reads_onward c.opened-f.result.reads c.opened-f.result.wait a.plan.packets a.plan.reads.num
-    (x * a.plan.reads.den)) c.gone_by.ensures)
-    ∙ ap (λ (f : Frame). counted_of f a.stamp (reads_of a.plan f a.gone)) c.opened-f.ensures
-    ∙ push_judged a.plan a.self a.gone a.t a.stamp c.if-plan.true
-
 pub ticked-requires : goal.ticked-requires
 ticked-requires c = (opened_timed _ _ c.opened-f.ensures c.requires.0 c.requires.1).few
-
-pub returns : goal.returns
-returns c = let a = c.args in
-    c.ticked.ensures ∙ ap (λ (f : Frame). ticked_of f a.stamp) c.opened-f.ensures
-    ∙ push_unjudged a.plan a.self a.gone a.t a.stamp c.if-plan.false

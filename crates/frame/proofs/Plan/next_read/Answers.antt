@@ -4,21 +4,15 @@ use Rattle.grain.specs.declared.Reads.{Reads}
 use Rattle.frame.proofs.NextReads.{opened_gone, opened_fits, opened_next}
 use Rattle.frame.proofs.Plan.next_read.Goals as goal
 
-pub overflow_sub-gone : goal.overflow_sub-gone
-overflow_sub-gone c = omega (arith, c.requires.1.order)
-
-pub overflow_mul-gone : goal.overflow_mul-gone
-overflow_mul-gone c = record { fits = omega (arith, c.requires.1.near) }
-
 pub overflow_add-gone : goal.overflow_add-gone
-overflow_add-gone c = omega (arith, opened_gone _ _ _ c.requires.0 c.requires.1 c.empty-empty.ensures c.opened-f.ensures)
+overflow_add-gone c = omega (arith, opened_gone _ _ _ c.requires.0 c.requires.1 c.empty.ensures c.opened-f.ensures)
 
 pub overflow_mul-by : goal.overflow_mul-by
-overflow_mul-by c = record { fits = omega (arith, (opened_fits _ _ _ c.requires.0 c.requires.1 c.empty-empty.ensures c.opened-f.ensures).goes) }
+overflow_mul-by c = record { fits = omega (arith, (opened_fits _ _ _ c.requires.0 c.requires.1 c.empty.ensures c.opened-f.ensures).goes) }
 
 pub reads_on-reads-requires : goal.reads_on-reads-requires
-reads_on-reads-requires c = opened_fits _ _ _ c.requires.0 c.requires.1 c.empty-empty.ensures c.opened-f.ensures
+reads_on-reads-requires c = opened_fits _ _ _ c.requires.0 c.requires.1 c.empty.ensures c.opened-f.ensures
 
 pub returns : goal.returns
 returns c = ap (λ (r : Reads). r.next) c.reads_on-reads.ensures
-    ∙ opened_next _ _ _ c.requires.0 c.requires.1 c.empty-empty.ensures c.opened-f.ensures
+    ∙ opened_next _ _ _ c.requires.0 c.requires.1 c.empty.ensures c.opened-f.ensures

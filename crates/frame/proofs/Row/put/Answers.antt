@@ -1,24 +1,12 @@
--- What is left of the row's numbers, laid from the next place on, gives the end; each turn lays one.
-use Rattle.laws.proofs.Lay.{sets_turn, sets_done}
-use Rattle.laws.specs.Kit.{pos, add-zero, refl, ap, ◌∙◌, arith, length, length-set}
-use mir.Syntax.{w64}
-use mir.Facts.{to_z-of_z}
+-- The row's numbers are copied into a part of the rows.
+use Rattle.std.specs.Prelude.{◌≡◌, ◌+◌, ◌-◌}
+use Rattle.laws.specs.Kit.{refl, arith, ◌∙◌}
+use Rattle.frame.specs.Step.{numbers_of}
+use Rattle.frame.proofs.Laying.{copied_part}
 use Rattle.frame.proofs.Row.put.Goals as goal
 
-pub loop-k-init : goal.loop-k-init
-loop-k-init c = (rw add-zero, omega arith, refl, ap length c.numbers-numbers.ensures)
-
-pub loop-k-preserved : goal.loop-k-preserved
-loop-k-preserved c = let l = c.loop-k in
-    let all = c.numbers-numbers.result in (
-      rw (to_z-of_z {w = w64} (record { sfits = c.rows-1.given }))
-          (sets_turn _ l.k all l.rows (pos 0) (omega (arith, l.invariant.3)) ∙ l.invariant.0),
-      omega arith,
-      simp length-set l.invariant.2,
-      l.invariant.3,
-    )
-
 pub returns : goal.returns
-returns c = let l = c.loop-k in
-    let all = c.numbers-numbers.result in
-    sets_done _ l.k all l.rows (omega (arith, l.invariant.3)) l.invariant.0 ∙ rw c.numbers-numbers.ensures
+returns c =
+    let ys : c.copy_from_slice.new.self ≡ numbers_of c.args.self = c.copy_from_slice.ensures.after ∙ c.numbers.ensures in
+    let whole : c.args.at + 11 - c.args.at ≡ 11 = omega arith in
+    rw (ys, whole) (copied_part c.args.at 11 c.args.rows.now (numbers_of c.args.self) refl c.requires)
