@@ -1,7 +1,9 @@
 -- No refusal has the number 0, and two that have one number are one: so an answer that is told by its number is one answer. By the table
 -- read backwards: each number names one refusal or none.
-use Rattle.std.specs.Prelude.{◌≡◌, ◌∷◌, ℕ, List, [], Option, Some, None, Result, Ok, Err, get_or, refl}
-use Rattle.std.proofs.Common.{ap, sym, ◌∙◌}
+use Rattle.std.specs.Prelude.{◌≡◌, ◌∷◌, ℕ, List, [], Option, Some, None, Result, Ok, Err, get_or, length, refl}
+use Rattle.std.specs.Prelude.{◌≤◌, ◌<◌, ◌+◌, ◌-◌, zero, suc}
+use Rattle.std.proofs.Common.{ap, sym, ◌∙◌, arith}
+use Rattle.std.proofs.Math.ListN.{get_or-eq_default}
 use Rattle.std.specs.Prelude.{true, false}
 use Rattle.std.specs.Result.{is_err}
 use Rattle.refusal.specs.declared.Refusal.{Refusal}
@@ -9,19 +11,8 @@ use Rattle.refusal.specs.declared.Refused.{Refused}
 use Rattle.refusal.specs.declared.Refusal.TheVariants.{Rate, Schedule, Class, Height, FramePackets, MaxUdp, Tro, Edition, State, Lengths}
 use Rattle.refusal.specs.declared.Refusal.TheVariants.{Marker, Earlier, Late, Packets, Room, Figure, Version, Cut, Kind, Misplaced}
 use Rattle.refusal.specs.declared.Refusal.TheVariants.{FileRoom, Header, CutCapture, SubSecond, Offset}
-use Rattle.refusal.specs.Refusal.{number}
+use Rattle.refusal.specs.Refusal.{number, named, table}
 use Rattle.refusal.specs.Told.{Numbered, number_in, by_number, numbered, told}
-
-abbrev table : List (Option Refusal)
-table =
-    None ∷ Some Rate ∷ Some Schedule ∷ Some Class ∷ Some Height ∷ Some FramePackets ∷ Some MaxUdp ∷ Some Tro ∷
-    Some Edition ∷ Some State ∷ Some Lengths ∷ Some Marker ∷ Some Earlier ∷ Some Late ∷ Some Packets ∷ Some Room ∷
-    Some Figure ∷ None ∷ None ∷ None ∷ Some Version ∷ Some Cut ∷ Some Kind ∷ Some Misplaced ∷
-    Some FileRoom ∷ None ∷ None ∷ None ∷ None ∷ None ∷ Some Header ∷ Some CutCapture ∷
-    Some SubSecond ∷ Some Offset ∷ []
-
-abbrev named : ℕ → Option Refusal
-named n = get_or table n None
 
 named_back : (r : Refusal) → named (number r) ≡ Some r
 named_back Rate = refl
@@ -86,3 +77,35 @@ number_of_err (Err r) e n = number_some r n
 pub number_of_ok : {A : Type 0} → (a : Result A Refusal) → is_err a ≡ false → number_in a ≡ 0
 number_of_ok (Ok x) e = refl
 number_of_ok (Err r) e = absurd (cc)
+
+-- the numbers that name nothing: two gaps, and those past the end of the table
+in_gap : (start n : ℕ) → ((k : ℕ) → k < n → named (start + k) ≡ None) → (code : ℕ) → start ≤ code → code < start + n → named code ≡ None
+in_gap start n f code h k =
+    let at : named (start + (code - start)) ≡ None = f (code - start) (omega arith) in
+    let same : start + (code - start) ≡ code = omega arith in
+    rw same at at
+
+pub from_17 : (code : ℕ) → 17 ≤ code → code ≤ 19 → named code ≡ None
+from_17 code h k = in_gap 17 3 each code h (omega arith)
+  where
+    each : (k : ℕ) → k < 3 → named (17 + k) ≡ None
+    each zero l = refl
+    each (suc zero) l = refl
+    each (suc (suc zero)) l = refl
+    each (suc (suc (suc k))) l = absurd (omega arith)
+
+pub from_25 : (code : ℕ) → 25 ≤ code → code ≤ 29 → named code ≡ None
+from_25 code h k = in_gap 25 5 each code h (omega arith)
+  where
+    each : (k : ℕ) → k < 5 → named (25 + k) ≡ None
+    each zero l = refl
+    each (suc zero) l = refl
+    each (suc (suc zero)) l = refl
+    each (suc (suc (suc zero))) l = refl
+    each (suc (suc (suc (suc zero)))) l = refl
+    each (suc (suc (suc (suc (suc k))))) l = absurd (omega arith)
+
+pub from_34 : (code : ℕ) → 34 ≤ code → named code ≡ None
+from_34 code h = get_or-eq_default table None h
+
+pub ruleset unused = (from_17, from_25, from_34)

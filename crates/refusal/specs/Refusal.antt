@@ -1,5 +1,6 @@
 -- The table of refusals (N1): the number of each.
-use Rattle.std.specs.Prelude.{ℕ}
+use Rattle.std.specs.Prelude.{◌∷◌, ℕ, List, [], Option, Some, None, Result, Ok, Err, get_or}
+use Rattle.refusal.specs.declared.UnknownNumber.{UnknownNumber}
 use Rattle.refusal.specs.declared.Refusal.{Refusal}
 use Rattle.refusal.specs.declared.Refusal.TheVariants.{Rate, Schedule, Class, Height, FramePackets, MaxUdp, Tro, Edition, State, Lengths}
 use Rattle.refusal.specs.declared.Refusal.TheVariants.{Marker, Earlier, Late, Packets, Room, Figure, Version, Cut, Kind, Misplaced}
@@ -32,3 +33,24 @@ number Header = 30
 number CutCapture = 31
 number SubSecond = 32
 number Offset = 33
+
+-- N1: the table read backwards: what each number from 0 on names, if anything
+abbrev pub table : List (Option Refusal)
+table =
+    None ∷ Some Rate ∷ Some Schedule ∷ Some Class ∷ Some Height ∷ Some FramePackets ∷ Some MaxUdp ∷ Some Tro ∷
+    Some Edition ∷ Some State ∷ Some Lengths ∷ Some Marker ∷ Some Earlier ∷ Some Late ∷ Some Packets ∷ Some Room ∷
+    Some Figure ∷ None ∷ None ∷ None ∷ Some Version ∷ Some Cut ∷ Some Kind ∷ Some Misplaced ∷
+    Some FileRoom ∷ None ∷ None ∷ None ∷ None ∷ None ∷ Some Header ∷ Some CutCapture ∷
+    Some SubSecond ∷ Some Offset ∷ []
+
+-- a number past its end names nothing
+abbrev pub named : ℕ → Option Refusal
+named n = get_or table n None
+
+-- the refusal that a number names, or the number itself
+abbrev pub named_by : ℕ → Result Refusal UnknownNumber
+named_by code = of_named (named code)
+  where
+    of_named : Option Refusal → Result Refusal UnknownNumber
+    of_named (Some r) = Ok r
+    of_named None = Err (record { 0 = code })

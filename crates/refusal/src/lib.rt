@@ -4,7 +4,7 @@
 #![tactic(auto)]
 
 ghost use Rattle.std.specs.Prelude.{◌≡◌};
-ghost use Rattle.refusal.specs.Refusal.{number};
+ghost use Rattle.refusal.specs.Refusal.{number, named_by};
 
 use std::error::Error;
 use std::fmt;
@@ -98,6 +98,59 @@ impl Refusal {
         }
     }
 }
+
+/// A number that no refusal has.
+#[derive(Clone, Copy, Debug, PartialEq, Eq)]
+pub struct UnknownNumber(pub u8);
+
+impl TryFrom<u8> for Refusal {
+    type Error = UnknownNumber;
+
+    ghost try_from_gives = { λ code r. r ≡ named_by code };
+
+    #[tactic(auto, using(crate::proofs::Telling::unused))]
+    fn try_from(code: u8) -> Result<Refusal, UnknownNumber> {
+        match code {
+            0 => Err(UnknownNumber(code)),
+            1 => Ok(Refusal::Rate),
+            2 => Ok(Refusal::Schedule),
+            3 => Ok(Refusal::Class),
+            4 => Ok(Refusal::Height),
+            5 => Ok(Refusal::FramePackets),
+            6 => Ok(Refusal::MaxUdp),
+            7 => Ok(Refusal::Tro),
+            8 => Ok(Refusal::Edition),
+            9 => Ok(Refusal::State),
+            10 => Ok(Refusal::Lengths),
+            11 => Ok(Refusal::Marker),
+            12 => Ok(Refusal::Earlier),
+            13 => Ok(Refusal::Late),
+            14 => Ok(Refusal::Packets),
+            15 => Ok(Refusal::Room),
+            16 => Ok(Refusal::Figure),
+            17..=19 => Err(UnknownNumber(code)),
+            20 => Ok(Refusal::Version),
+            21 => Ok(Refusal::Cut),
+            22 => Ok(Refusal::Kind),
+            23 => Ok(Refusal::Misplaced),
+            24 => Ok(Refusal::FileRoom),
+            25..=29 => Err(UnknownNumber(code)),
+            30 => Ok(Refusal::Header),
+            31 => Ok(Refusal::CutCapture),
+            32 => Ok(Refusal::SubSecond),
+            33 => Ok(Refusal::Offset),
+            34..=255 => Err(UnknownNumber(code)),
+        }
+    }
+}
+
+impl fmt::Display for UnknownNumber {
+    fn fmt<W: fmt::Write>(&self, f: &mut fmt::Formatter<W>) -> fmt::Result {
+        write!(f, "no refusal has the number {}", self.0)
+    }
+}
+
+impl Error for UnknownNumber {}
 
 impl fmt::Display for Refusal {
     fn fmt<W: fmt::Write>(&self, f: &mut fmt::Formatter<W>) -> fmt::Result {
