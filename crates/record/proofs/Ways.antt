@@ -4,6 +4,7 @@ use Rattle.laws.specs.Kit.{refl, sym, ap, subst, ◌∙◌, ⊎_elim, Bool, true
 use Rattle.laws.specs.Kit.{arith, ltb, eqb, length}
 use Rattle.laws.specs.Kit.{take, drop, length-drop, drop_of_length-le, take_all, drop-length, eq-eqb, ne_eqb, eqb-true, eqb-false}
 use Rattle.laws.specs.Kit.{ltb-false}
+use Rattle.std.proofs.lemmas.List.{drop-take, take-take, get_or-take}
 use Rattle.laws.specs.Choose.{pick}
 use Rattle.laws.proofs.Choose.{pick_either}
 use Rattle.record.specs.declared.Framed.{Framed}
@@ -11,7 +12,7 @@ use Rattle.record.specs.declared.Framed.TheVariants as framed
 use Rattle.record.specs.declared.Head.TheVariants as head
 use Rattle.record.specs.declared.Next.TheVariants as next
 use Rattle.record.specs.Paper.{packet_bytes, head_bytes, version_known, version_of, version_fits, first_class, class_in, body_length}
-use Rattle.record.specs.Paper.{is_parameters, kind_length, parameters_at}
+use Rattle.record.specs.Paper.{is_parameters, kind_length, parameters_at, packet_at}
 use Rattle.record.specs.Step.{cursor, after, packet_of, scrap_of, framed_of, Whole, first_of, head_by, head_piece, whole_of, next_by, next_piece}
 use Rattle.record.proofs.Format.{framed_short}
 
@@ -167,3 +168,8 @@ rest_all s at = take_all (length s - at) (drop at s) (rw length-drop (omega arit
 
 pub rest_none : (s : List ℕ) (at : ℕ) → length s < at → take (length s - length s) (drop (length s) s) ≡ drop at s
 rest_none s at h = rest_all s (length s) ∙ drop-length s ∙ sym (drop_of_length-le s {i = at} (omega arith))
+
+-- a packet is read from its own bytes alone
+pub packet_alone : (l : List ℕ) → packet_at (take packet_bytes l) ≡ packet_at l
+packet_alone l =
+    rw (drop-take 3 13 l, take-take 8 13 (drop 3 l) (omega arith), drop-take 11 5 l, take-take 4 5 (drop 11 l) (omega arith), get_or-take 16 l 15 0 (omega arith))

@@ -1,8 +1,9 @@
 -- The packets of a file, measured one by one: what is left of the file, from the state and the bytes so far, gives what the whole gives.
 -- It is the measurement's one loop (timing's Running) with rows as bytes; a packet that is read (Here) is the first of what is left.
-use Rattle.std.specs.Prelude.{◌≡◌, ◌∷◌, ◌+◌, ◌-◌, ◌≤◌, ◌<◌}
+use Rattle.std.specs.Prelude.{◌≡◌, ◌∷◌, ◌++◌, ◌+◌, ◌≤◌, ◌<◌}
 use Rattle.laws.specs.Kit.{refl, sym, ap, subst, ◌∙◌, true, false, List, ℕ, arith, length, take, drop}
-use Rattle.laws.specs.Kit.{length-drop, drop-drop}
+use Rattle.laws.specs.Kit.{inl, inr, min, drop-length, drop_of_length-le, length-append, length-drop, drop-drop, take_at, drop_at}
+use Rattle.std.proofs.lemmas.Bool.{cases_lt}
 use Rattle.laws.proofs.Choose.{neither}
 use Rattle.packet.specs.declared.Packet.{Packet}
 use Rattle.packet.specs.Step.{nothing, next_of}
@@ -18,12 +19,36 @@ use Rattle.timing.proofs.Scanning.{scan_runs}
 use Rattle.timing.proofs.Running.{step_past}
 use Rattle.timing.proofs.Running as R
 use Rattle.record.specs.Paper.{packet_bytes, head_bytes, packet_at, done, Packets, packet_refusal, packets_in}
-use Rattle.record.proofs.Ways.{rest_all}
+use Rattle.record.proofs.Ways.{packet_alone}
 use Rattle.record.proofs.Reading.{packet_here, packets_end, packets_go, packets_accepted}
 use Rattle.record.proofs.ReadWrite.{packets_scan}
 use Rattle.report.specs.Paper.{row_bytes, summary_bytes}
 use Rattle.report.specs.Step.{packets_of, MeasureAsks, MeasureGives}
 use Rattle.report.proofs.Bytes.{as_bytes}
+
+-- ---- what stands behind the head, and a record that is cut off the front of what is left
+
+-- nothing, in a file that is shorter
+pub behind_head : (file : List ℕ) → drop (min head_bytes (length file)) file ≡ drop head_bytes file
+behind_head file = elim (cases_lt (length file) head_bytes) [
+  | inl h ↦ let m : min head_bytes (length file) ≡ length file = omega arith in
+      rw m (drop-length file ∙ sym (drop_of_length-le file {i = head_bytes} (omega arith)))
+  | inr h ↦ let m : min head_bytes (length file) ≡ head_bytes = omega arith in rw m
+]
+
+module _ (file bytes behind : List ℕ) (from : ℕ) {left : List ℕ} (is : left ≡ drop from file) (cut : left ≡ bytes ++ behind)
+    (long : length bytes ≡ packet_bytes) where
+  joined : drop from file ≡ bytes ++ behind
+  joined = sym is ∙ cut
+
+  pub cut_some : from < length file
+  cut_some = omega (arith, long, length-drop from file, ap length joined, length-append bytes behind)
+
+  pub cut_read : packet_at bytes ≡ packet_at (drop from file)
+  cut_read = sym (ap packet_at (ap (take packet_bytes) joined ∙ take_at bytes behind packet_bytes long)) ∙ packet_alone (drop from file)
+
+  pub cut_behind : behind ≡ drop (from + packet_bytes) file
+  cut_behind = sym (drop_at bytes behind packet_bytes long) ∙ ap (drop packet_bytes) (sym joined) ∙ drop-drop packet_bytes from file
 
 -- ---- the loop
 
@@ -56,26 +81,22 @@ loop_begins x file out m er es = rw (er, es) (record {
 
 module _ {x : StreamNumbers} {file out₀ : List ℕ} {rules : Rules} {s : State} {from at : ℕ} {out : List ℕ} where
   module _ (k : Loop x file out₀ rules s from at out) where
-    -- a packet is read in what is left, as the code lends it
+    -- a packet is read in what is left
     pub record Here (q : Packet) : Type 0 where
       pub some : from < length file
-      pub read : q ≡ packet_at (take (length file - from) (drop from file))
+      pub read : q ≡ packet_at (drop from file)
 
     module _ (some : from < length file) where
       fine : packet_refusal s.past (drop from file) ≡ 0
       fine = packets_accepted s.past from (drop from file) (omega (arith, length-drop from file, some)) k.ends
 
-      pub sixteen : from + packet_bytes ≤ length file
-      sixteen =
-          let here = packet_here (drop from file) (neither _ _ fine).0 in
-          omega (arith, here.sixteen, length-drop from file)
+      sixteen : packet_bytes ≤ length (drop from file)
+      sixteen = (packet_here (drop from file) (neither _ _ fine).0).sixteen
 
-      pub there : packet_bytes ≤ length (take (length file - from) (drop from file))
-      there = rw (rest_all file from) (omega (arith, sixteen, length-drop from file))
-
-    -- nothing is left
-    pub loop_ends : length file ≤ from → MeasureGives x file out₀ s out
-    loop_ends h =
+    -- what is left is too short for a record: nothing is
+    pub loop_ends : length (drop from file) < packet_bytes → MeasureGives x file out₀ s out
+    loop_ends short =
+        let h : length file ≤ from = elim (cases_lt from (length file)) [ inl some ↦ absurd (omega (arith, short, sixteen some)) | inr all ↦ all ] in
         let none = packets_end s.past from (drop from file) (omega (arith, length-drop from file)) in
         let ran = R.loop_ends as_bytes (ap (λ (r : Packets). r.accepted) none) k.loop in
         subst (λ (q : Rules). RunGives row_bytes q (fresh_of x) (packets_of file) summary_bytes out₀ s out) k.rules_are ran
@@ -86,7 +107,7 @@ module _ {x : StreamNumbers} {file out₀ : List ℕ} {rules : Rules} {s : State
     next = packets_in (next_of s.past q.time) (from + packet_bytes) (drop packet_bytes (drop from file))
 
     goes : rest file s from ≡ record { accepted = q ∷ next.accepted; ending = next.ending }
-    goes = rw (h.read ∙ ap packet_at (rest_all file from)) (packets_go s.past from (drop from file) (fine k h.some))
+    goes = rw h.read (packets_go s.past from (drop from file) (fine k h.some))
 
     these : (rest file s from).accepted ≡ q ∷ next.accepted
     these = ap (λ (r : Packets). r.accepted) goes

@@ -145,16 +145,15 @@ fn measure(numbers: StreamNumbers, file: &[u8], out: &mut [u8]) -> State
         limit: made.limit,
     };
     let mut s = numbers.fresh();
-    let mut from = record::HEAD_BYTES;
     let mut at = SUMMARY_BYTES;
-    while from < file.len() {
-        let p = record::packet_at(&file[from..]);
+    let records = &file[record::HEAD_BYTES.min(file.len())..];
+    for bytes in records.chunks_exact(record::PACKET_BYTES) {
+        let p = record::packet_at(bytes);
         s = s.arrive(rules, p.time, p.stamp);
         if p.marker == 1 {
             at = put_closed(s, rules, out, at);
             s = s.mark(rules, p.time);
         }
-        from += record::PACKET_BYTES;
     }
     s
 }

@@ -32,15 +32,6 @@ module _ (c : Then-count-ne0) where
   inside : at + packet_bytes * c.records_left-count.result ≤ length file
   inside = omega (arith, fills, length-drop at file)
 
-pub run_packets-ran-requires : goal.run_packets-ran-requires
-run_packets-ran-requires c = inside c
-
-pub slice_bounds-packet_at-count : goal.slice_bounds-packet_at-count
-slice_bounds-packet_at-count c = omega (arith, inside (goal.at.slice_bounds-packet_at-count c).Then-count-ne0)
-
-pub packet_at-first-requires : goal.packet_at-first-requires
-packet_at-first-requires c = record { inside = rw (rest_all _ _) (room (goal.at.packet_at-first-requires c).Then-count-ne0) }
-
 pub returns-then-admits : goal.returns-then-admits
 returns-then-admits c =
     let through = sym c.run_packets-ran.ensures ∙ c.in-Through.is in

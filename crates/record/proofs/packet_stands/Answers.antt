@@ -4,6 +4,3 @@ use Rattle.record.proofs.packet_stands.Goals as goal
 
 pub returns-then-window-lt-PACKET_BYTES : goal.returns-then-window-lt-PACKET_BYTES
 returns-then-window-lt-PACKET_BYTES c = no_room _ c.if-window-lt-PACKET_BYTES.true
-
-pub returns : goal.returns
-returns c = c.packet_fits.ensures

@@ -7,9 +7,6 @@ use Rattle.record.proofs.Walking.{stops, goes, refuses, next_at, next_within}
 use borrow.Enum.Refused.{opened}
 use Rattle.record.proofs.walk_packets.Goals as goal
 
-pub loop-packet-init : goal.loop-packet-init
-loop-packet-init c = (rw c.none-tally.ensures, rw c.none-tally.ensures (omega arith))
-
 pub returns-in_default : goal.returns-in_default
 returns-in_default c =
     let at = c.loop-packet in

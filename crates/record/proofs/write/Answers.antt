@@ -3,9 +3,6 @@ use Rattle.laws.specs.Kit.{sym, ◌∙◌, arith}
 use Rattle.record.proofs.Writing.{same_slices, was_written, leaves_all, writes_file}
 use Rattle.record.proofs.write.Goals as goal
 
-pub returns-in_default : goal.returns-in_default
-returns-in_default c = leaves_all _ _ _ _ _ c.would_write-answer.ensures c.in_default.is
-
 pub write_head-requires : goal.write_head-requires
 write_head-requires c =
     let was = was_written _ _ _ _ _ _ (sym c.in-Done.is ∙ c.would_write-answer.ensures) in

@@ -35,39 +35,5 @@ long162 : (c : After-write32-arg-2-1)
     → length c.write16-2.new.d ≡ length (lent-at-After-write16-2 c)
 long162 c = (simp length-sets at (ap length c.write16-2.ensures)) ∙ long32-at-After-write16-2 c
 
-pub bounds-out-1 : goal.bounds-out-1
-bounds-out-1 c = simp length-set (omega arith)
-
-pub bounds-out-2 : goal.bounds-out-2
-bounds-out-2 c = simp length-set (omega arith)
-
-pub bounds-out-3 : goal.bounds-out-3
-bounds-out-3 c = simp length-set (omega arith)
-
-pub bounds-out-4 : goal.bounds-out-4
-bounds-out-4 c = simp length-set (omega arith)
-
-pub bounds-out-5 : goal.bounds-out-5
-bounds-out-5 c = simp length-set (omega arith)
-
-pub bounds-out-6 : goal.bounds-out-6
-bounds-out-6 c = simp length-set (omega arith)
-
-pub write16-requires : goal.write16-requires
-write16-requires c = record { inside = simp length-set (omega arith) }
-
-pub write32-requires : goal.write32-requires
-write32-requires c = record { inside = omega (arith, long16 c) }
-
-pub write16-requires-2 : goal.write16-requires-2
-write16-requires-2 c = record { inside = omega (arith, long32 c) }
-
-pub write32-requires-2 : goal.write32-requires-2
-write32-requires-2 c = record { inside = omega (arith, long162 c) }
-
-pub shape_of-out : goal.shape_of-out
-shape_of-out c =
-    (simp length-sets at (ap length c.write32-2.ensures)) ∙ long162 (goal.at.shape_of-out c).After-write32-arg-2-1
-
 pub returns : goal.returns
 returns c = cc (head_stored _ _ _ _)

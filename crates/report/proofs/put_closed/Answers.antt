@@ -6,17 +6,9 @@ use Rattle.timing.proofs.Laying.{row_fits, puts_one, puts_none}
 use Rattle.report.proofs.Bytes.{as_bytes, row_length}
 use Rattle.report.proofs.put_closed.Goals as goal
 
-pub row-requires : goal.row-requires
-row-requires c = (c.requires.makes.planned, c.requires.makes.made c.if-s.true)
-
 pub put_row-requires : goal.put_row-requires
 put_row-requires c =
     rw c.row.ensures (row_fits as_bytes c.args.rules c.args.s c.if-s.true c.requires)
-
-pub overflow_add-result : goal.overflow_add-result
-overflow_add-result c =
-    let fits = row_fits as_bytes c.args.rules c.args.s c.if-s.true c.requires in
-    omega (arith, fits, row_length (closed_row c.args.rules c.args.s))
 
 pub returns-then-s : goal.returns-then-s
 returns-then-s c =

@@ -10,15 +10,6 @@ returns-then-number-ne0 c =
 pub returns-then-out-lt4 : goal.returns-then-out-lt4
 returns-then-out-lt4 c = rw (sym c.stated-asked.ensures) (limits_short _ _ (sym c.refusal-number.ensures ∙ c.if-number-ne0.false) c.if-out-lt4.true)
 
-pub bounds-out-1 : goal.bounds-out-1
-bounds-out-1 c = simp length-set (omega arith)
-
-pub bounds-out-2 : goal.bounds-out-2
-bounds-out-2 c = simp length-set (omega arith)
-
-pub bounds-out-3 : goal.bounds-out-3
-bounds-out-3 c = simp length-set (omega arith)
-
 pub returns : goal.returns
 returns c =
     rw (sym c.stated-asked.ensures)

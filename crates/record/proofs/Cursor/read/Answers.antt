@@ -5,11 +5,6 @@ use Rattle.record.proofs.Ways.{rest_all, rest_none}
 use Rattle.record.proofs.Standing.{stands, stands_packet}
 use Rattle.record.proofs.Cursor.read.Goals as goal
 
-pub returns-then-s-at : goal.returns-then-s-at
-returns-then-s-at c =
-    let a = c.args in
-    c.read_any.ensures ∙ ap (λ (l : List ℕ). next_piece a.self.at l true) (rest_none a.s.now a.self.at (omega arith))
-
 pub packet_of-requires : goal.packet_of-requires
 packet_of-requires c =
     let there = stands _ (sym c.packet_stands.ensures ∙ c.if-packet_stands.true) in
@@ -21,6 +16,3 @@ returns-then-packet_stands c =
     c.packet_of.ensures
     ∙ rw c.after_packet.ensures (stands_packet _ _ true there)
     ∙ ap (λ (l : List ℕ). next_piece c.args.self.at l true) (rest_all c.args.s.now c.args.self.at)
-
-pub returns : goal.returns
-returns c = c.read_any-2.ensures ∙ rw (rest_all _ _)
