@@ -7,10 +7,6 @@ use Rattle.report.proofs.Bytes.{as_bytes}
 use Rattle.film.proofs.Filming.{film_begins, film_ends}
 use Rattle.film.proofs.film_packets.Goals as goal
 
-pub loop-packet-init : goal.loop-packet-init
-loop-packet-init c =
-    loop_begins as_bytes _ (film_begins c.rules-made.ensures c.fresh-s.ensures c.requires)
-
 pub returns-in_default : goal.returns-in_default
 returns-in_default c =
     film_ends c.rules-made.ensures c.fresh-s.ensures
