@@ -34,6 +34,7 @@ enum Weighed {
 }
 
 // Set-up, then one pass that checks the capture and counts its frames. It writes nothing.
+#[tactic(auto, unfolding(crate::specs::Paper::capture_checked))]
 fn check_capture(stated: Stated, port: u16, offset: u32, capture: &[u8]) -> Checked
     ensures { result ≡ capture_checked stated port offset capture.now }
 {
@@ -45,6 +46,7 @@ fn check_capture(stated: Stated, port: u16, offset: u32, capture: &[u8]) -> Chec
 }
 
 // The same, then the room. The first packet of a capture has place 0.
+#[tactic(auto, using(crate::proofs::Filming::weighing))]
 fn weigh(stated: Stated, port: u16, offset: u32, capture: &[u8], room: usize) -> Weighed
     ensures { result ≡ weighed_of stated port offset capture.now room }
 {
@@ -164,6 +166,7 @@ pub extern "C" fn vtiming_capture(
 
 // The twin: where that refusal is, for so many lent bytes.
 #[unsafe(no_mangle)]
+#[tactic(auto, using(crate::proofs::Filming::weighed_answer_lem))]
 pub extern "C" fn vtiming_capture_place(
     capture: &[u8],
     port: u16,
@@ -203,6 +206,7 @@ pub extern "C" fn vtiming_capture_place(
 
 // How many lent bytes are enough for a capture's report, whatever the edition; 0 for one that is refused.
 #[unsafe(no_mangle)]
+#[tactic(auto, using(crate::proofs::Filming::room_laws))]
 pub extern "C" fn vtiming_capture_room(
     capture: &[u8],
     port: u16,

@@ -2,9 +2,9 @@
 -- law of it, and the packet that was sought is the first of what is left (capture's Seeking).
 use Rattle.laws.specs.Kit.{sym, ◌∙◌, arith}
 use Rattle.capture.proofs.Seeking.{sought_cons, sought_none}
-use Rattle.timing.proofs.Running.{loop_begins, loop_next, loop_ends, loop_arrives, loop_lays, loop_closed, turn_marked, turn_plain}
+use Rattle.timing.proofs.Running.{loop_next, loop_ends, loop_arrives, loop_lays, loop_closed, turn_marked, turn_plain}
 use Rattle.report.proofs.Bytes.{as_bytes}
-use Rattle.film.proofs.Filming.{film_begins, film_ends}
+use Rattle.film.proofs.Filming.{film_ends}
 use Rattle.film.proofs.film_packets.Goals as goal
 
 pub returns-in_default : goal.returns-in_default
