@@ -10,7 +10,6 @@ use Rattle.laws.proofs.Lay.{sets_join}
 use Rattle.laws.proofs.Count.{count_le}
 use Rattle.endian.specs.Number.{bytes_of}
 use Rattle.endian.proofs.Width.{length_bytes}
-use Rattle.packet.specs.declared.Past.{Past}
 use Rattle.packet.specs.declared.Packet.{Packet}
 use Rattle.packet.specs.Paper.{closes_at}
 use Rattle.packet.specs.Step.{nothing}
@@ -19,7 +18,6 @@ use Rattle.frame.specs.Step.{row_width}
 use Rattle.capture.specs.declared.Seen.{Seen}
 use Rattle.capture.specs.declared.Checked.{Checked}
 use Rattle.capture.specs.declared.Checked.TheVariants.{Fine, Refused}
-use Rattle.capture.specs.Paper.{seen_from, checked_of}
 use Rattle.intake.specs.Paper.{records_of, packets_of, skipped_of}
 use Rattle.intake.proofs.Reading.{Read, checked_read, records_read, skipped_read}
 use Rattle.timing.specs.declared.StreamNumbers.{StreamNumbers}
@@ -47,17 +45,6 @@ module _ (t : Stated) (port offset : ℕ) (b : List ℕ) where
   -- the stream that is stated
   abbrev x : StreamNumbers
   x = stated_of t
-
-  -- ---- the check
-
-  pub check_set_up : {n : ℕ} → n ≡ stated_refusal t → (n ≡ 0 → ⊥) → Refused n 0 ≡ capture_checked t port offset b
-  unfolding capture_checked
-  check_set_up {n} e m = rw (← e, ne_eqb n 0 m)
-
-  pub check_then : stated_refusal t ≡ 0 → {past : Past} {r : Checked} → past ≡ nothing → r ≡ checked_of port offset (seen_from past false) b
-      → r ≡ capture_checked t port offset b
-  unfolding capture_checked
-  check_then e p f = rw (eq-eqb (stated_refusal t) 0 e) (rw p at f)
 
   -- a capture that is fine
   pub record Filmed (y : Seen) : Type 0 where
@@ -309,3 +296,7 @@ pub film_none : {x : StreamNumbers} {s : State} (l : List Packet) (at : ℕ) (ou
     → RunGives row_bytes (rules_of x) (fresh_of x) l at out s out
 unfolding fold rows_after numbers in_bytes
 film_none l at out es e = rw (es, e) (record { state_is = refl; rows_are = refl })
+
+pub ruleset weighing = (weighed_refused, weighed_fine, weighed_15)
+
+pub ruleset room_laws = (room_refused, room_fine, few_closed)

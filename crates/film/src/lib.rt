@@ -34,28 +34,25 @@ enum Weighed {
 }
 
 // Set-up, then one pass that checks the capture and counts its frames. It writes nothing.
+#[tactic(auto, unfolding(crate::specs::Paper::capture_checked))]
 fn check_capture(stated: Stated, port: u16, offset: u32, capture: &[u8]) -> Checked
     ensures { result ≡ capture_checked stated port offset capture.now }
 {
     let number = stated.refusal();
     if number != 0 {
-        return Checked::Refused {
-            number: number,
-            place: 0,
-        };
+        return Checked::Refused { number, place: 0 };
     }
     capture::check(Past::none(), false, port, offset, capture)
 }
 
 // The same, then the room. The first packet of a capture has place 0.
+#[tactic(auto, using(crate::proofs::Filming::weighing))]
 fn weigh(stated: Stated, port: u16, offset: u32, capture: &[u8], room: usize) -> Weighed
     ensures { result ≡ weighed_of stated port offset capture.now room }
 {
-    let checked = check_capture(stated, port, offset, capture);
-    match checked {
+    match check_capture(stated, port, offset, capture) {
         Checked::Fine(seen) => {
-            let tally = seen.tally;
-            if report::fits(ELEVEN, tally.closed as u64, room) {
+            if report::fits(ELEVEN, seen.tally.closed as u64, room) {
                 return Weighed::Fine {
                     records: seen.records,
                     skipped: seen.skipped,
@@ -66,10 +63,7 @@ fn weigh(stated: Stated, port: u16, offset: u32, capture: &[u8], room: usize) ->
                 place: 0,
             }
         }
-        Checked::Refused { number, place } => Weighed::Refused {
-            number: number,
-            place: place,
-        },
+        Checked::Refused { number, place } => Weighed::Refused { number, place },
     }
 }
 
@@ -92,8 +86,7 @@ fn film_packets(numbers: StreamNumbers, setting: Setting, capture: &[u8], out: &
     let mut from = HEADER;
     let mut at = ELEVEN_BYTES;
     loop {
-        let sought = setting.seek(capture, from);
-        let Sought::Packet { packet, next } = sought else {
+        let Sought::Packet { packet, next } = setting.seek(capture, from) else {
             return s;
         };
         s = s.arrive(rules, packet.time, packet.stamp);
@@ -110,16 +103,15 @@ fn film(numbers: StreamNumbers, port: u16, offset: u32, capture: &[u8], out: &mu
     requires { FilmAsks numbers port offset capture.now (length out.old) }
     ensures { FilmGives numbers port offset capture.now out.old result out.new }
 {
-    let opened = capture::open(capture, true);
-    let Opened::Capture { format } = opened else {
+    let Opened::Capture { format } = capture::open(capture, true) else {
         return numbers.fresh();
     };
     film_packets(
         numbers,
         Setting {
-            format: format,
-            port: port,
-            offset: offset,
+            format,
+            port,
+            offset,
         },
         capture,
         out,
@@ -147,36 +139,34 @@ pub extern "C" fn vtiming_capture(
     ensures { CaptureGives (record { kind = profile; parameters = given rate schedule class height n maxudp tro; edition = edition })
         port offset capture.now out.old result out.new }
 {
-    let told = Parameters {
-        rate,
-        schedule,
-        class,
-        height,
-        n,
-        maxudp,
-        tro,
-    };
     let stated = Stated {
         kind: profile,
-        parameters: told,
-        edition: edition,
+        parameters: Parameters {
+            rate,
+            schedule,
+            class,
+            height,
+            n,
+            maxudp,
+            tro,
+        },
+        edition,
     };
-    let weighed = weigh(stated, port, offset, capture, out.len());
-    match weighed {
+    match weigh(stated, port, offset, capture, out.len()) {
         Weighed::Fine { records, skipped } => {
-            let numbers = stated.numbers();
-            let s = film(numbers, port, offset, capture, out);
+            let s = film(stated.numbers(), port, offset, capture, out);
             report::put_summary(s, out);
             write64(out, SUMMARY_BYTES, records);
             write64(out, SUMMARY_BYTES + NUMBER, skipped);
             0
         }
-        Weighed::Refused { number, place: _ } => number as u32,
+        Weighed::Refused { number, .. } => u32::from(number),
     }
 }
 
 // The twin: where that refusal is, for so many lent bytes.
 #[unsafe(no_mangle)]
+#[tactic(auto, using(crate::proofs::Filming::weighed_answer_lem))]
 pub extern "C" fn vtiming_capture_place(
     capture: &[u8],
     port: u16,
@@ -195,32 +185,28 @@ pub extern "C" fn vtiming_capture_place(
     ensures { result ≡ (capture_answer (record { kind = profile; parameters = given rate schedule class height n maxudp tro; edition = edition })
         port offset capture.now room).offset }
 {
-    let told = Parameters {
-        rate,
-        schedule,
-        class,
-        height,
-        n,
-        maxudp,
-        tro,
-    };
     let stated = Stated {
         kind: profile,
-        parameters: told,
-        edition: edition,
+        parameters: Parameters {
+            rate,
+            schedule,
+            class,
+            height,
+            n,
+            maxudp,
+            tro,
+        },
+        edition,
     };
-    let weighed = weigh(stated, port, offset, capture, room);
-    match weighed {
-        Weighed::Fine {
-            records: _,
-            skipped: _,
-        } => 0,
-        Weighed::Refused { number: _, place } => place,
+    match weigh(stated, port, offset, capture, room) {
+        Weighed::Fine { .. } => 0,
+        Weighed::Refused { place, .. } => place,
     }
 }
 
 // How many lent bytes are enough for a capture's report, whatever the edition; 0 for one that is refused.
 #[unsafe(no_mangle)]
+#[tactic(auto, using(crate::proofs::Filming::room_laws))]
 pub extern "C" fn vtiming_capture_room(
     capture: &[u8],
     port: u16,
@@ -237,29 +223,23 @@ pub extern "C" fn vtiming_capture_room(
     ensures { result ≡ capture_room (first_stated profile (given rate schedule class height n maxudp tro)) port offset
         capture.now }
 {
-    let told = Parameters {
-        rate,
-        schedule,
-        class,
-        height,
-        n,
-        maxudp,
-        tro,
-    };
     let plain = Stated {
         kind: profile,
-        parameters: told,
+        parameters: Parameters {
+            rate,
+            schedule,
+            class,
+            height,
+            n,
+            maxudp,
+            tro,
+        },
         edition: FIRST_EDITION,
     };
-    let checked = check_capture(plain, port, offset, capture);
-    match checked {
+    match check_capture(plain, port, offset, capture) {
         Checked::Fine(seen) => {
-            let tally = seen.tally;
-            NUMBER as u64 * (ELEVEN as u64 + tally.closed as u64 * frame::ROW as u64)
+            NUMBER as u64 * (ELEVEN as u64 + seen.tally.closed as u64 * frame::ROW as u64)
         }
-        Checked::Refused {
-            number: _,
-            place: _,
-        } => 0,
+        Checked::Refused { .. } => 0,
     }
 }

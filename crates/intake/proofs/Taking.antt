@@ -78,3 +78,5 @@ module _ (s : State) (rows : List ℤ) (port offset : ℕ) (b : List ℕ) where
             let o = is {q = accepted_as s rows (packets_of port offset b) (skipped_of port offset b)}
             (sym (rw (le-leb (y.tally.closed * row_width) (length rows) (enough l))) ∙ room_for_lem) in
             record { answer_is = rw (r.state_is, counted.1, skips) o.answer_is; rows_are = r.rows_are ∙ o.rows_are }
+
+pub ruleset refusals = (taken_9, taken_refused, taken_15)

@@ -44,8 +44,7 @@ fn run_packets(
     let mut from = HEADER;
     let mut at = 0;
     loop {
-        let sought = setting.seek(bytes, from);
-        let Sought::Packet { packet, next } = sought else {
+        let Sought::Packet { packet, next } = setting.seek(bytes, from) else {
             return s;
         };
         s = s.arrive(rules, packet.time, packet.stamp);
@@ -62,17 +61,16 @@ fn run(state: State, rules: Rules, port: u16, offset: u32, bytes: &[u8], rows: &
     requires { RunAsks numbers rules state (packets_of port offset bytes.now) 0 (length rows.old) }
     ensures { RunGives numbers rules state (packets_of port offset bytes.now) 0 rows.old result rows.new }
 {
-    let opened = capture::open(bytes, true);
-    let Opened::Capture { format } = opened else {
+    let Opened::Capture { format } = capture::open(bytes, true) else {
         return state;
     };
     run_packets(
         state,
         rules,
         Setting {
-            format: format,
-            port: port,
-            offset: offset,
+            format,
+            port,
+            offset,
         },
         bytes,
         rows,
@@ -82,6 +80,7 @@ fn run(state: State, rules: Rules, port: u16, offset: u32, bytes: &[u8], rows: &
 // A capture's packets to `port`, `offset` seconds added to the capture's clock. Refused, by 9, 33, 30, then record by record 31, 32 and 12
 // to 14, then 15, it accepts none of them, and state and rows are as they were. Accepted, a row is written for each frame closed, from
 // the start of `rows` on, and the rest of `rows` stays.
+#[tactic(auto, using(crate::proofs::Taking::refusals))]
 pub fn feed(state: State, port: u16, offset: u32, bytes: &[u8], rows: &mut [i64]) -> Taken
     ensures { TakeGives (capture_of state rows.old port offset bytes.now) result rows.new }
 {
@@ -89,23 +88,19 @@ pub fn feed(state: State, port: u16, offset: u32, bytes: &[u8], rows: &mut [i64]
         return Taken::Refused {
             number: 9,
             place: 0,
-            state: state,
+            state,
         };
     }
-    let past = state.past;
-    let checked = capture::check(past, state.frames.begun, port, offset, bytes);
-    match checked {
+    match capture::check(state.past, state.frames.begun, port, offset, bytes) {
         Checked::Fine(seen) => {
-            let tally = seen.tally;
-            if rows.len() / frame::ROW < tally.closed {
+            if rows.len() / frame::ROW < seen.tally.closed {
                 return Taken::Refused {
                     number: 15,
-                    place: past.packets,
-                    state: state,
+                    place: state.past.packets,
+                    state,
                 };
             }
-            let numbers = state.numbers;
-            let next = run(state, numbers.rules(), port, offset, bytes, rows);
+            let next = run(state, state.numbers.rules(), port, offset, bytes, rows);
             Taken::Accepted {
                 state: next,
                 packets: seen.records - seen.skipped,
@@ -113,9 +108,9 @@ pub fn feed(state: State, port: u16, offset: u32, bytes: &[u8], rows: &mut [i64]
             }
         }
         Checked::Refused { number, place } => Taken::Refused {
-            number: number,
-            place: place,
-            state: state,
+            number,
+            place,
+            state,
         },
     }
 }

@@ -1,16 +1,13 @@
 -- The header, then the packets behind it; where it is unknown there are none.
 use Rattle.capture.proofs.Checking.{header_known, header_unknown}
 use Rattle.intake.proofs.Reading.{packets_known, packets_unknown, runs_none, asks_same, gives_same}
-use borrow.Enum.Refused.{opened}
 use Rattle.intake.proofs.run.Goals as goal
 
 pub returns-in_default : goal.returns-in_default
-returns-in_default c = runs_none _ _ _ _ (packets_unknown _ _ _ (header_unknown _ c.open-opened.ensures (opened c.in_default.in_default-own.keys2)))
+returns-in_default c = runs_none _ _ _ _ (packets_unknown _ _ _ (header_unknown _ c.open.ensures c.in_default.not-Capture))
 
 pub run_packets-requires : goal.run_packets-requires
-run_packets-requires c =
-    asks_same (packets_known _ _ _ (header_known _ c.open-opened.ensures c.in-Capture.is)) c.requires
+run_packets-requires c = asks_same (packets_known _ _ _ (header_known _ c.open.ensures c.in-Capture.is)) c.requires
 
 pub returns : goal.returns
-returns c =
-    gives_same (packets_known _ _ _ (header_known _ c.open-opened.ensures c.in-Capture.is)) c.run_packets.ensures
+returns c = gives_same (packets_known _ _ _ (header_known _ c.open.ensures c.in-Capture.is)) c.run_packets.ensures

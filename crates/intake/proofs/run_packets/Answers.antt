@@ -16,14 +16,14 @@ first : (k : In-Packet)
     (handed_in a.setting (drop k.loop-packet.from a.bytes.now)
     ≡ k.in-Packet.packet ∷ handed_in a.setting (drop next a.bytes.now))
     × (k.loop-packet.from < next) × (next ≤ length a.bytes.now)
-first k = sought_cons _ _ _ (sym k.seek-sought.ensures ∙ k.in-Packet.is)
+first k = sought_cons _ _ _ (sym k.seek.ensures ∙ k.in-Packet.is)
 
 pub loop-packet-init : goal.loop-packet-init
 loop-packet-init c = loop_begins as_numbers _ c.requires
 
 pub returns-in_default : goal.returns-in_default
 returns-in_default c =
-    loop_ends as_numbers (sought_none _ _ _ (sym c.seek-sought.ensures ∙ c.in_default.is)) c.loop-packet.invariant
+    loop_ends as_numbers (sought_none _ _ _ (sym c.seek.ensures ∙ c.in_default.is)) c.loop-packet.invariant
 
 pub arrive-s-requires : goal.arrive-s-requires
 arrive-s-requires c =
