@@ -11,9 +11,9 @@ run-self-requires c =
     let i = c.in_range in
     let a = c.args in
     let e = sym i.ensures ∙ not-false i.result c.if-not-in_range.false-raw in (
-      one_length a.self a.rows.now a.arrivals.now a.stamps.now a.markers.now e c.scan-scanned.ensures
+      one_length a.self a.rows.now a.arrivals.now a.stamps.now a.markers.now e c.scan.ensures
           c.in-Fine.is,
-      runs a.self a.rows.now a.arrivals.now a.stamps.now a.markers.now e c.scan-scanned.ensures
+      runs a.self a.rows.now a.arrivals.now a.stamps.now a.markers.now e c.scan.ensures
           c.in-Fine.is c.rules-rules.ensures c.if-rows-closed.false,
     )
 
@@ -21,17 +21,17 @@ pub returns-else-rows-closed : goal.returns-else-rows-closed
 returns-else-rows-closed c =
     let i = c.in_range in
     let e = sym i.ensures ∙ not-false i.result c.if-not-in_range.false-raw in
-    fed _ _ _ _ _ e c.scan-scanned.ensures c.in-Fine.is c.rules-rules.ensures c.if-rows-closed.false
+    fed _ _ _ _ _ e c.scan.ensures c.in-Fine.is c.rules-rules.ensures c.if-rows-closed.false
     c.run-self.ensures
 
 pub returns-then-rows-closed : goal.returns-then-rows-closed
 returns-then-rows-closed c =
     let i = c.in_range in
-    fed_15 _ _ _ _ _ (sym i.ensures ∙ not-false i.result c.if-not-in_range.false-raw) c.scan-scanned.ensures c.in-Fine.is
+    fed_15 _ _ _ _ _ (sym i.ensures ∙ not-false i.result c.if-not-in_range.false-raw) c.scan.ensures c.in-Fine.is
     c.if-rows-closed.true
 
 pub returns-in-Refused : goal.returns-in-Refused
 returns-in-Refused c =
     let i = c.in_range in
-    fed_refused _ _ _ _ _ (sym i.ensures ∙ not-false i.result c.if-not-in_range.false-raw) c.scan-scanned.ensures
+    fed_refused _ _ _ _ _ (sym i.ensures ∙ not-false i.result c.if-not-in_range.false-raw) c.scan.ensures
     c.in-Refused.is
