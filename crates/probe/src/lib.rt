@@ -221,6 +221,7 @@ fn state_in(words: &[u64]) -> State
 
 // The state whose words stand in front. They are read, written again and compared, so that each range of a field, each flag and
 // each answer is tested in one place.
+#[tactic(auto, using(crate::proofs::RoundTrip::too_few, crate::proofs::RoundTrip::held_known, crate::proofs::RoundTrip::held_nothing, crate::proofs::Alike::by_place))]
 fn read(words: &[u64]) -> Held
     ensures { result ≡ state_held_by (take state_words words.now) }
 {
@@ -230,11 +231,8 @@ fn read(words: &[u64]) -> Held
     let front = &words[..WORDS];
     let s = state_in(front);
     let again = words_of(s);
-    if again[..] == front[..] {
-        Held::Known(s)
-    } else {
-        Held::Nothing
-    }
+    let alike = again[..] == front[..];
+    if alike { Held::Known(s) } else { Held::Nothing }
 }
 
 // Numbers in front of a lent slice; what stands behind them stays.
