@@ -29,6 +29,7 @@ pub struct Spacing {
 
 // What is left of 27·t when whole m's are taken away. t is divided first: 27 times its rest is below 27·m and fits. In 128 bits the
 // remainder would call a function of the host.
+#[tactic(auto, using(crate::proofs::WideDivision::remainder))]
 pub fn rest27(t: u64, m: u64) -> u64
     requires { (nanosecond ≤ m) × (m ≤ 576460752303423488) }
     ensures { result ≡ grains t % m }
@@ -39,6 +40,7 @@ pub fn rest27(t: u64, m: u64) -> u64
 
 // 27·t less the frame start that lies nearest, and one frame more, so that it is never below 0: where in
 // the two frames around that start the time lies.
+#[tactic(auto, using(crate::proofs::Rounding::phase_rest))]
 pub fn frame_phase(t: u64, frame: u64) -> u64
     requires { (nanosecond ≤ frame) × (frame ≤ 576460752303423488) }
     ensures { result ≡ phase (grains t) frame }
@@ -57,6 +59,7 @@ pub fn phase_of_rest(past: u64, period: u64) -> u64
 }
 
 // How far 27·t lies after the last time that its timestamp encodes. Those times lie a wrap apart.
+#[tactic(auto, using(crate::proofs::EncodedTime::rest_after))]
 pub fn since_encoded(t: u64, stamp: u32) -> u64
     ensures { result ≡ since_encoded (grains t) stamp % wrap }
 {
@@ -70,6 +73,7 @@ pub fn since_encoded(t: u64, stamp: u32) -> u64
 }
 
 // VL: 27·t less the nearest of the times that its timestamp encodes.
+#[tactic(auto, using(crate::proofs::EncodedTime::turn_small, crate::proofs::EncodedTime::turn_is))]
 pub fn video_latency(t: u64, stamp: u32) -> i64
     ensures { result ≡ latency (grains t) stamp }
 {
@@ -101,6 +105,7 @@ pub struct Division {
 
 // One num taken off x, where it is in it. It is compiled without a branch: from packet to packet nobody can tell whether an instant comes by,
 // and a processor that guesses wrong loses more than both ways cost.
+#[tactic(auto, unfolding(crate::specs::Carry::taken_of))]
 fn taken(x: u64, num: u64) -> Division
     ensures { result ≡ taken_of x num }
 {
@@ -181,6 +186,7 @@ fn carried_on(count: u64, wait: u64, n: u64, num: u64, gone: u64) -> Kept
 
 // The one rule about reads: how many are over, and how long it is until the next, when `gone` has gone by. A read at that very instant is
 // not over: it is the next, at 0.
+#[tactic(auto, using(crate::proofs::Carried::reads_left, crate::proofs::Carried::reads_over))]
 pub fn reads_on(count: u64, wait: u64, n: u64, num: u64, gone: u64) -> Reads
     requires { ReadsAsks count wait n num gone }
     ensures { result ≡ reads_onward count wait n num gone }

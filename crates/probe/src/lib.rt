@@ -42,20 +42,12 @@ fn told(number: u8, place: u64) -> Answer
     Answer { number, place }
 }
 
-fn flag(b: bool) -> u64
-    ensures { result ≡ flag_of b }
-{
-    if b { 1 } else { 0 }
-}
-
 // Document 01's numbers for the network answer and for the buffer answer.
 fn verdict_words(s: State) -> [u64; 6]
     ensures { result ≡ verdict_words s }
 {
-    let bucket = s.bucket;
-    let network = bucket.network;
-    let frames = s.frames;
-    let buffer = frames.buffer;
+    let network = s.bucket.network;
+    let buffer = s.frames.buffer;
     [
         network.number(),
         network.first(),
@@ -67,24 +59,23 @@ fn verdict_words(s: State) -> [u64; 6]
 }
 
 // A state's words, in the order of docs/STATE.md.
+#[tactic(auto, unfolding(crate::specs::Words::words_of))]
 fn words_of(s: State) -> [u64; WORDS]
     ensures { result ≡ words_of s }
 {
     let verdict = verdict_words(s);
     let numbers = s.numbers;
     let told = numbers.parameters;
-    let profile = numbers.profile;
-    let kind = profile.kind();
     [
-        told.rate as u64,
-        told.schedule as u64,
-        told.class as u64,
-        told.height as u64,
-        told.n as u64,
-        told.maxudp as u64,
-        told.tro as u64,
-        numbers.edition as u64,
-        kind as u64,
+        u64::from(told.rate),
+        u64::from(told.schedule),
+        u64::from(told.class),
+        u64::from(told.height),
+        u64::from(told.n),
+        u64::from(told.maxudp),
+        u64::from(told.tro),
+        u64::from(numbers.edition),
+        u64::from(numbers.profile.kind()),
         s.past.packets,
         s.past.first,
         s.past.last,
@@ -96,11 +87,11 @@ fn words_of(s: State) -> [u64; WORDS]
         verdict[2],
         s.rest,
         s.frames.closed,
-        flag(s.frames.begun),
+        u64::from(s.frames.begun),
         s.frames.marked,
         s.frames.current.held,
         s.frames.current.first,
-        s.frames.current.stamp as u64,
+        u64::from(s.frames.current.stamp),
         s.frames.current.phase,
         s.frames.current.reads,
         s.frames.current.wait,
@@ -209,6 +200,7 @@ fn frames_in(words: &[u64]) -> Frames
 }
 
 // What so many words are read as, whatever they are; `read` says whether they are a state's.
+#[tactic(auto, unfolding(crate::specs::Words::state_in))]
 fn state_in(words: &[u64]) -> State
     requires { state_words ≤ length words.now }
     ensures { result ≡ state_in words.now }
@@ -227,58 +219,36 @@ fn state_in(words: &[u64]) -> State
     }
 }
 
-fn same(a: &[u64], b: &[u64]) -> bool
-    ensures { result ≡ same_of a.now b.now }
-{
-    if a.len() != b.len() {
-        return false;
-    }
-    let mut k = 0;
-    while k < a.len() {
-        let differ = a[k] != b[k];
-        if differ {
-            return false;
-        }
-        k += 1;
-    }
-    true
-}
-
 // The state whose words stand in front. They are read, written again and compared, so that each range of a field, each flag and
 // each answer is tested in one place.
+#[tactic(auto, using(crate::proofs::RoundTrip::too_few, crate::proofs::RoundTrip::held_known, crate::proofs::RoundTrip::held_nothing, crate::proofs::Alike::by_place))]
 fn read(words: &[u64]) -> Held
     ensures { result ≡ state_held_by (take state_words words.now) }
 {
     if words.len() < WORDS {
         return Held::Nothing;
     }
-    let front = &words[0..WORDS];
+    let front = &words[..WORDS];
     let s = state_in(front);
     let again = words_of(s);
-    if same(&again, front) {
-        return Held::Known(s);
-    }
-    Held::Nothing
+    let alike = again[..] == front[..];
+    if alike { Held::Known(s) } else { Held::Nothing }
 }
 
 // Numbers in front of a lent slice; what stands behind them stays.
+#[tactic(auto, using(laws::proofs::Lay::sets_front))]
 fn lay(from: &[u64], to: &mut [u64])
     requires { length from.now ≤ length to.old }
     ensures { to.new ≡ sets to.old 0 from.now }
 {
-    let mut k = 0;
-    while k < from.len() {
-        to[k] = from[k];
-        k += 1;
-    }
+    to[..from.len()].copy_from_slice(from);
 }
 
 fn lay_words(s: State, words: &mut [u64])
     requires { state_words ≤ length words.old }
     ensures { words.new ≡ sets words.old 0 (words_of s) }
 {
-    let all = words_of(s);
-    lay(&all, words);
+    lay(&words_of(s), words);
 }
 
 // The counts, the peak and the verdict of a state. The state of an accepted call is in range, so that there is a verdict.
@@ -286,13 +256,9 @@ fn summarise(s: State, out: &mut [u64])
     requires { (9 ≤ length out.old) × (in_range s ≡ true) }
     ensures { out.new ≡ sets out.old 0 (summary_of s) }
 {
-    let past = s.past;
-    let frames = s.frames;
-    let bucket = s.bucket;
-    let judged = s.verdict();
-    match judged {
-        Judged::Given(v) => {
-            let nine = v.summary(past.packets, frames.closed, bucket.peak);
+    match s.verdict() {
+        Judged::Given(verdict) => {
+            let nine = verdict.summary(s.past.packets, s.frames.closed, s.bucket.peak);
             lay(&nine, out);
         }
         Judged::Refused(_) => {}
@@ -310,20 +276,17 @@ fn ask(
 ) -> Answer
     ensures { result ≡ asked_of words.now arrivals.now stamps.now markers.now room space }
 {
-    let held = read(words);
-    let Held::Known(s) = held else {
+    let Held::Known(s) = read(words) else {
         return told(9, 0);
     };
     if !s.in_range() {
         return told(9, 0);
     }
-    let past = s.past;
-    let scanned = past.scan(s.frames.begun, arrivals, stamps, markers);
-    match scanned {
+    match s.past.scan(s.frames.begun, arrivals, stamps, markers) {
         Scanned::Fine(closed) => {
             let few = space < SUMMARY;
             if room / frame::ROW < closed || few {
-                return told(15, past.packets);
+                return told(15, s.past.packets);
             }
             told(0, 0)
         }
@@ -361,17 +324,16 @@ pub extern "C" fn vtiming_set_up(
     let stated = Stated {
         kind: profile,
         parameters: told,
-        edition: edition,
+        edition,
     };
     let number = stated.refusal();
     if number != 0 {
-        return number as u32;
+        return u32::from(number);
     }
     if state.len() < WORDS {
         return 15;
     }
-    let numbers = stated.numbers();
-    lay_words(numbers.fresh(), state);
+    lay_words(stated.numbers().fresh(), state);
     0
 }
 
@@ -391,24 +353,18 @@ pub extern "C" fn vtiming_feed(
 {
     if out.len() < SUMMARY {
         let answer = ask(state, arrivals, stamps, markers, rows.len(), out.len());
-        return answer.number as u32;
+        return u32::from(answer.number);
     }
-    let held = read(state);
-    let Held::Known(s) = held else {
+    let Held::Known(s) = read(state) else {
         return 9;
     };
-    let fed = s.feed(arrivals, stamps, markers, rows);
-    match fed {
+    match s.feed(arrivals, stamps, markers, rows) {
         Fed::Accepted(next) => {
             lay_words(next, state);
             summarise(next, out);
             0
         }
-        Fed::Refused {
-            number,
-            place: _,
-            state: _,
-        } => number as u32,
+        Fed::Refused { number, .. } => u32::from(number),
     }
 }
 
@@ -425,6 +381,5 @@ pub extern "C" fn vtiming_feed_place(
     ensures { result ≡ (asked_of state.now arrivals.now stamps.now markers.now room space
         ).place }
 {
-    let answer = ask(state, arrivals, stamps, markers, room, space);
-    answer.place
+    ask(state, arrivals, stamps, markers, room, space).place
 }

@@ -1,22 +1,18 @@
 -- Whole numbers that a double holds, by size; and one that came back from its bits is itself.
 use Rattle.std.specs.Prelude.{◌^◌, ◌≡◌, ◌≤◌}
-use Rattle.laws.specs.Kit.{refl, sym, ap, ◌∙◌, subst, Bool, true, false, arith, le-leb, le-ltb, lt-ltb, ltb-true, ltb-false, T, ℤ}
-use Rattle.laws.specs.Kit.{pos, negsuc, nat_abs, lt_z, le_z}
+use Rattle.laws.specs.Kit.{refl, sym, ap, ◌∙◌, subst, Bool, true, arith, le-leb, lt-ltb, T, ℤ}
+use Rattle.laws.specs.Kit.{pos, negsuc, nat_abs}
+use Rattle.laws.specs.Kit.{leb}
 use lib.Ieee.{binary64, in_float, of_int, of_bits}
 use mir.Syntax.{w64}
 use mir.Val.{SFits, to_z, of_z}
 use mir.Facts.{to_z-of_z}
 
--- below −2^53, and above
-pub too_low : (z : ℤ) → lt_z z (negsuc 9007199254740991) ≡ true → in_float binary64 z ≡ false
+-- by the size
+pub by_size : (z : ℤ) → leb (nat_abs z) 9007199254740992 ≡ in_float binary64 z
 unfolding in_float
-too_low (pos n) h = cc
-too_low (negsuc n) h = le-ltb n (2 ^ 53) (omega (arith, ltb-true 9007199254740991 n h))
-
-pub up_to_high : (z : ℤ) → lt_z z (negsuc 9007199254740991) ≡ false → le_z z (pos 9007199254740992) ≡ in_float binary64 z
-unfolding in_float
-up_to_high (pos n) h = refl
-up_to_high (negsuc n) h = sym (lt-ltb n (2 ^ 53) (omega (arith, ltb-false 9007199254740991 n h)))
+by_size (pos n) = refl
+by_size (negsuc n) = grind arith
 
 pub small_exact : (z : ℤ) → nat_abs z ≤ 9007199254740992 → in_float binary64 z ≡ true
 unfolding in_float

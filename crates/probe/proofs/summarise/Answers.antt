@@ -7,7 +7,7 @@ use Rattle.probe.proofs.summarise.Goals as goal
 
 pub returns-in-Given : goal.returns-in-Given
 returns-in-Given c =
-    let given = sym c.verdict-judged.ensures ∙ c.in-Given.is in
+    let given = sym c.verdict.ensures ∙ c.in-Given.is in
     let s = c.args.s in
     let own = verdict_is s _ c.requires.1 given in
     c.lay.ensures
@@ -16,4 +16,4 @@ returns-in-Given c =
 
 pub returns-in-Refused : goal.returns-in-Refused
 returns-in-Refused c =
-    absurd (verdict_there c.args.s _ c.requires.1 (sym c.verdict-judged.ensures ∙ c.in-Refused.is))
+    absurd (verdict_there c.args.s _ c.requires.1 (sym c.verdict.ensures ∙ c.in-Refused.is))

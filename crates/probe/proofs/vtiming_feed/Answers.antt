@@ -6,24 +6,24 @@ use borrow.Author.Rules.{rules}
 use Rattle.probe.proofs.vtiming_feed.Goals as goal
 
 pub returns-then-out-lt-SUMMARY : goal.returns-then-out-lt-SUMMARY
-returns-then-out-lt-SUMMARY c = no_summary _ _ _ _ _ _ c.if-out-lt-SUMMARY.true c.ask-answer.ensures
+returns-then-out-lt-SUMMARY c = rw c.from.ensures (no_summary _ _ _ _ _ _ c.if-out-lt-SUMMARY.true c.ask-answer.ensures)
 
 pub returns-in_default : goal.returns-in_default
-returns-in_default c = no_state _ _ _ _ _ _ c.read-held.ensures c.in_default.is
+returns-in_default c = no_state _ _ _ _ _ _ c.read.ensures c.in_default.is
 
 pub lay_words-requires : goal.lay_words-requires
 lay_words-requires c =
-    enough_words c.args.state.now c.read-held.ensures c.in-Known.is
+    enough_words c.args.state.now c.read.ensures c.in-Known.is
 
 pub summarise-requires : goal.summarise-requires
 summarise-requires c =
-    (search rules, fed_in_range _ _ _ _ _ _ (sym c.feed-fed.ensures.answer_is ∙ c.in-Accepted.is))
+    (search rules, fed_in_range _ _ _ _ _ _ (sym c.feed.ensures.answer_is ∙ c.in-Accepted.is))
 
 pub returns-in-Accepted : goal.returns-in-Accepted
 returns-in-Accepted c =
-    call_accepted _ _ _ _ _ _ c.read-held.ensures c.in-Known.is c.feed-fed.ensures c.in-Accepted.is
+    call_accepted _ _ _ _ _ _ c.read.ensures c.in-Known.is c.feed.ensures c.in-Accepted.is
     c.if-out-lt-SUMMARY.false c.lay_words.ensures c.summarise.ensures
 
 pub returns-in-Refused : goal.returns-in-Refused
 returns-in-Refused c =
-    call_refused _ _ _ _ _ _ c.read-held.ensures c.in-Known.is c.feed-fed.ensures c.in-Refused.is
+    rw c.from-in-Refused.ensures (call_refused _ _ _ _ _ _ c.read.ensures c.in-Known.is c.feed.ensures c.in-Refused.is)

@@ -20,18 +20,18 @@ returns-in_err-check_apart c =
     let p = err_from_is_err_and c.from_residual-in_err-check_apart.result c.from_residual-in_err-check_apart.ensures.1 in
     rw (p.1, p.2) (refused_apart _ _ _ (sym c.in_ok-check.ensures) c.in_err-check_apart.ensures (number_some c.in_err-check_apart.field-0.0))
 
-pub next_read-next-requires : goal.next_read-next-requires
-next_read-next-requires c = (
-  subst (λ (q : Rules). Planned q.plan) (sym c.rules-rules.ensures) (planned _ (sym c.in_ok-check.ensures)),
+pub next_read-requires : goal.next_read-requires
+next_read-requires c = (
+  subst (λ (q : Rules). Planned q.plan) (sym c.rules.ensures) (planned _ (sym c.in_ok-check.ensures)),
   apart_none _ _ (sym c.in_ok-check_apart.ensures),
 )
 
 pub returns-in-Some : goal.returns-in-Some
 returns-in-Some c =
-    as_told _ _ _ (sym c.in_ok-check.ensures) (sym c.in_ok-check_apart.ensures) c.rules-rules.ensures
-    c.next_read-next.ensures c.in-Some.is
+    as_told _ _ _ (sym c.in_ok-check.ensures) (sym c.in_ok-check_apart.ensures) c.rules.ensures
+    c.next_read.ensures c.in-Some.is
 
 pub returns-in-None : goal.returns-in-None
 returns-in-None c =
-    as_told _ _ _ (sym c.in_ok-check.ensures) (sym c.in_ok-check_apart.ensures) c.rules-rules.ensures
-    c.next_read-next.ensures c.in-None.is
+    as_told _ _ _ (sym c.in_ok-check.ensures) (sym c.in_ok-check_apart.ensures) c.rules.ensures
+    c.next_read.ensures c.in-None.is
