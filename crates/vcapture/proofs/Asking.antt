@@ -1,16 +1,9 @@
 -- The words of a call, one after the other: the number at a place stands there.
 use Rattle.std.specs.Prelude.{◌≡◌, ◌+◌, ◌≤◌, ◌<◌, Result, Ok, Err}
 use Rattle.std.specs.Result.{IfOk, result_unwrap_or}
-use Rattle.laws.specs.Kit.{List, ℕ, arith, take, get_or}
-use Rattle.window.specs.Said.{Argued}
-use Rattle.words.specs.declared.Word.{Word}
+use Rattle.laws.specs.Kit.{List, ℕ, arith, get_or}
 use Rattle.words.specs.declared.Word.TheVariants.{Number}
-use Rattle.words.specs.Paper.{word_of}
 use Rattle.vcapture.specs.Asking.{StandsAt}
-
--- the word is what was put at the front of the lent bytes
-pub stands : (place size : ℕ) (w : List ℕ) (r : Word) → Argued place (take size w) → r ≡ word_of (take size w) → StandsAt place r
-stands place size w r a e = record { word = take size w; argued = a; number = e }
 
 -- an answer of some bytes, or of none where there is no answer
 pub within_or_none : {E : Type 0} (m k : ℕ) (r : Result ℕ E) → IfOk r (λ n. n ≤ m) → k ≡ result_unwrap_or r 0 → k ≤ m

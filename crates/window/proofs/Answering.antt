@@ -1,4 +1,4 @@
--- A step's answer, over plain values: more is wanted, the last line is put, a stage begins, or a text was laid. By the front of what is laid.
+-- A step's answer, over plain values: the last line is put, or a text was laid. By the front of what is laid.
 use Rattle.std.specs.Prelude.{◌≡◌, ◌+◌, ◌≤◌}
 use Rattle.laws.specs.Kit.{refl, ap, subst, ◌∙◌, Bool, true, false, List, ℕ, arith, eqb, length, take, drop}
 use Rattle.laws.specs.Kit.{sets, length-sets, take-append_seam}
@@ -6,7 +6,7 @@ use Rattle.laws.proofs.Lay.{sets_front}
 use Rattle.laws.specs.Lay.{Put}
 use Rattle.laws.proofs.Lay.{put_length}
 use Rattle.window.specs.declared.Span.{Span}
-use Rattle.window.specs.Step.{Did, StepGives, onward, waiting, refusing, going}
+use Rattle.window.specs.Step.{Did, StepGives, onward, refusing}
 
 -- the front of what a text was laid into is the text
 pub laid_front : (text before : List ℕ) → length text ≤ length before → take (length text) (sets before 0 text) ≡ text
@@ -18,12 +18,6 @@ stays : (h : Span) → h ≡ onward h 0
 stays h = let none : h.from ≡ h.from + 0 = omega arith in λ j. record { from = none j; held = h.held; last = h.last }
 
 module _ {S : Type 0} (h : Span) where
-  pub answers_waiting : (s : S) {k : Did S} (after : List ℕ) → waiting s ≡ k
-      → StepGives h k s (record { span = h; written = 0; wants = true; over = false }) after
-  answers_waiting s after e =
-      subst (λ (k : Did S). StepGives h k s (record { span = h; written = 0; wants = true; over = false }) after) e
-      (record { stage_is = refl; span_is = stays h; wants_is = refl; over_is = refl; text_is = refl; fits = omega arith })
-
   pub answers_refusing : (s : S) {k : Did S} (line : List ℕ) (written : ℕ) (before after : List ℕ) → refusing s line ≡ k
       → length line ≤ length before → Put line 0 before written after
       → StepGives h k s (record { span = h; written = written; wants = false; over = true }) after
@@ -39,12 +33,6 @@ module _ {S : Type 0} (h : Span) where
         text_is = ap (λ (n : ℕ). take n after) size ∙ ap (take (length line)) t.there ∙ laid_front line before q;
         fits = omega (arith, size, long, q);
       })
-
-  pub answers_going : (s : S) {k : Did S} (bytes : ℕ) (span : Span) (after : List ℕ) → going s bytes ≡ k → span ≡ onward h bytes
-      → StepGives h k s (record { span = span; written = 0; wants = false; over = false }) after
-  answers_going s bytes span after e q =
-      subst (λ (k : Did S). StepGives h k s (record { span = span; written = 0; wants = false; over = false }) after) e
-      (record { stage_is = refl; span_is = q; wants_is = refl; over_is = refl; text_is = refl; fits = omega arith })
 
   -- a call that used so many bytes and laid this text; it wants more where it used none
   module _ (stage after_stage : S) (same : stage ≡ after_stage) (text before after : List ℕ) (used written n : ℕ) (over ended : Bool) where

@@ -6,8 +6,8 @@ use Rattle.printer.specs.Step.{Headed}
 use Rattle.printer.proofs.Inside.{begin_headed}
 use Rattle.window.specs.Step.{shown}
 use Rattle.window.proofs.Showing.{used_fits}
-use Rattle.window.proofs.Answering.{answers_waiting, answers_refusing, answers_going}
-use Rattle.pump.specs.declared.Stage.TheVariants.{Head, Walking}
+use Rattle.window.proofs.Answering.{answers_refusing}
+use Rattle.pump.specs.declared.Stage.TheVariants.{Head}
 use Rattle.pump.specs.Step.{open_move}
 use Rattle.pump.proofs.open.Goals as goal
 
@@ -18,15 +18,8 @@ past-requires c = let l = shown c.args.span c.args.window.now in
     used_fits c.args.span c.args.window.now head_bytes c.requires.0
     (subst (λ (o : Opened). Headed o (length l)) (sym ready) headed)
 
-pub returns-in-More : goal.returns-in-More
-returns-in-More c = answers_waiting c.args.span Head _ (ap open_move (sym c.in-More.is ∙ c.begin.ensures))
-
 pub returns-in-Refused : goal.returns-in-Refused
 returns-in-Refused c = let put = c.put_refusal in
     let short = put.ensures.short in
     answers_refusing c.args.span Head _ put.result _ _ (ap open_move (sym c.in-Refused.is ∙ c.begin.ensures))
     (omega (arith, short, c.requires.1)) put.ensures.put
-
-pub returns-in-Ready : goal.returns-in-Ready
-returns-in-Ready c = answers_going c.args.span (Walking _) head_bytes c.past.result _
-    (ap open_move (sym c.in-Ready.is ∙ c.begin.ensures)) c.past.ensures

@@ -4,8 +4,8 @@ use Rattle.capture.specs.Paper.{header_bytes}
 use Rattle.reel.proofs.Beginning.{Tells, begin_tells}
 use Rattle.window.specs.Step.{shown}
 use Rattle.window.proofs.Showing.{used_fits}
-use Rattle.window.proofs.Answering.{answers_waiting, answers_refusing, answers_going}
-use Rattle.spool.specs.declared.Stage.TheVariants.{Leader, Rolling}
+use Rattle.window.proofs.Answering.{answers_refusing}
+use Rattle.spool.specs.declared.Stage.TheVariants.{Leader}
 use Rattle.spool.specs.Step.{lead_move}
 use Rattle.spool.proofs.lead.Goals as goal
 
@@ -16,18 +16,9 @@ past-requires c = let l = shown c.args.span c.args.window.now in
     used_fits c.args.span c.args.window.now header_bytes c.requires.0
     (subst (Tells c.args.asked l []) (sym ready) tells).1
 
-pub returns-in-More : goal.returns-in-More
-returns-in-More c = let a = c.args in
-    answers_waiting a.span (Leader a.asked) _ (ap (lead_move a.asked) (sym c.in-More.is ∙ c.begin.ensures))
-
 pub returns-in-Refused : goal.returns-in-Refused
 returns-in-Refused c = let put = c.put_refusal in
     let short = put.ensures.short in
     answers_refusing c.args.span (Leader c.args.asked) _ put.result _ _
     (ap (lead_move c.args.asked) (sym c.in-Refused.is ∙ c.begin.ensures))
     (omega (arith, short, c.requires.1)) put.ensures.put
-
-pub returns-in-Ready : goal.returns-in-Ready
-returns-in-Ready c = let a = c.args in
-    answers_going a.span (Rolling _) header_bytes c.past.result _
-    (ap (lead_move a.asked) (sym c.in-Ready.is ∙ c.begin.ensures)) c.past.ensures
