@@ -1,8 +1,6 @@
 -- By what lies ahead: each return is one law (Turning).
-use Rattle.laws.specs.Kit.{inl, inr, subst, refl, arith}
-use Rattle.capture.specs.declared.Ahead.{Ahead}
-use Rattle.reel.specs.Step.{AheadFits}
-use Rattle.reel.proofs.Turning.{stop_packet, stop_wait, stop_end, stop_refused}
+use Rattle.laws.specs.Kit.{refl, arith}
+use Rattle.reel.proofs.Turning.{stop_packet, stop_wait}
 use Rattle.reel.proofs.Reel.stop.Goals as goal
 
 pub returns-in-Packet : goal.returns-in-Packet
