@@ -266,7 +266,7 @@ pub fn frame(window: &[u8], last: bool) -> Framed
     if body == 0 {
         return Framed::Cut;
     }
-    if window.len() - 2 < body as usize {
+    if window.len() - 2 < usize::from(body) {
         if last {
             return Framed::Cut;
         }
@@ -407,12 +407,7 @@ impl Cursor {
 fn closed(tally: Tally, item: Next, numbers: FileNumbers) -> Checked
     ensures { result ≡ closing item numbers tally }
 {
-    let Next::Refused {
-        number,
-        offset,
-        size: _,
-    } = item
-    else {
+    let Next::Refused { number, offset, .. } = item else {
         return Checked::Fine {
             numbers,
             packets: tally.past.packets,

@@ -7,7 +7,7 @@ ghost use Rattle.std.specs.Prelude.{◌≡◌, ◌+◌, ◌≤◌};
 ghost use Rattle.laws.specs.Kit.{length};
 ghost use Rattle.text.specs.Lines.{line_room, Line, refusal_line};
 ghost use Rattle.timing.specs.Feed.{Going};
-ghost use Rattle.reel.specs.Paper.{counted, captured_line};
+ghost use Rattle.reel.specs.Paper.{captured_line};
 ghost use Rattle.reel.specs.Step.{ready_of, begin_of, passed_by, line_ahead, stops_at, ends, roll_of, take_of, AheadFits, TakeGives};
 
 use capture::{Ahead, Cursor, Opened, Setting};

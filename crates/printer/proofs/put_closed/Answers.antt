@@ -2,12 +2,6 @@
 use Rattle.printer.proofs.Answers.{line_is, line_none, row_line_lem, no_row}
 use Rattle.printer.proofs.put_closed.Goals as goal
 
-pub row-requires : goal.row-requires
-row-requires c = (c.requires.makes.planned, c.requires.makes.made c.if-s.true)
-
-pub put_row-requires : goal.put_row-requires
-put_row-requires c = c.requires.fits
-
 pub returns-then-s : goal.returns-then-s
 returns-then-s c = line_is (row_line_lem c.args.rules c.args.s c.if-s.true c.row.ensures)
     c.put_row.ensures

@@ -13,8 +13,8 @@ returns-then-body-eq0 c = sym (framed_zero _ _ (omega arith) (omega arith))
 pub returns-then-last : goal.returns-then-last
 returns-then-last c = sym (short_cut _ _ (omega arith) (omega arith) (omega arith) (cc))
 
-pub returns-then-window-body : goal.returns-then-window-body
-returns-then-window-body c = sym (short_waits _ _ (omega arith) (omega arith) (omega arith) (cc))
+pub returns-then-window-from : goal.returns-then-window-from
+returns-then-window-from c = sym (short_waits _ _ (omega arith) (omega arith) (omega arith) (cc))
 
 pub returns : goal.returns
 returns c =

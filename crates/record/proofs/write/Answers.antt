@@ -1,6 +1,6 @@
 -- The writer: refused, nothing is stored; else the stores are the whole file's, one after the other.
 use Rattle.laws.specs.Kit.{sym, ◌∙◌, arith}
-use Rattle.record.proofs.Writing.{same_slices, was_written, leaves_all, writes_file}
+use Rattle.record.proofs.Writing.{same_slices, was_written, writes_file}
 use Rattle.record.proofs.write.Goals as goal
 
 pub write_head-requires : goal.write_head-requires

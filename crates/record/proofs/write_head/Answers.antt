@@ -1,7 +1,7 @@
 -- The version byte and the parameters, field by field: their stores are the head of the file, stored. Each store leaves the length, which
 -- is said once for each call.
 use Rattle.std.specs.Prelude.{◌≡◌}
-use Rattle.laws.specs.Kit.{ap, ◌∙◌, List, ℕ, arith, length, length-set, length-sets}
+use Rattle.laws.specs.Kit.{ap, ◌∙◌, List, ℕ, length, length-set, length-sets}
 use Rattle.record.proofs.Stores.{head_stored}
 use Rattle.record.proofs.write_head.Goals as goal
 use Rattle.record.proofs.write_head.Goals.{After-write16-arg-2-1, After-write32-arg-1, After-write32-arg-2-1}

@@ -1,5 +1,4 @@
 -- A packet, field by field: its stores are its record, stored.
-use Rattle.laws.specs.Kit.{ap, arith, length, length-set, length-sets}
 use Rattle.record.proofs.Stores.{packet_stored}
 use Rattle.record.proofs.write_packet.Goals as goal
 

@@ -1,7 +1,6 @@
 -- Where the lead-in is over the row is made and stored; else nothing is.
 use Rattle.std.specs.Prelude.{◌+◌}
-use Rattle.laws.specs.Kit.{sym, ap, ℕ, arith}
-use Rattle.timing.specs.Feed.{closed_row}
+use Rattle.laws.specs.Kit.{sym, ap, ℕ}
 use Rattle.timing.proofs.Laying.{row_fits, puts_one, puts_none}
 use Rattle.report.proofs.Bytes.{as_bytes, row_length}
 use Rattle.report.proofs.put_closed.Goals as goal

@@ -1,6 +1,6 @@
 -- The graph's refusal, then the room, then the three stores: one law each (Calls).
-use Rattle.laws.specs.Kit.{◌∙◌, arith, length-set}
-use Rattle.report.proofs.Calls.{drawn_of, draws_refused, draws_short, draws_done}
+use Rattle.laws.specs.Kit.{◌∙◌}
+use Rattle.report.proofs.Calls.{drawn_of, draws_refused}
 use Rattle.report.proofs.vtiming_graph.Goals as goal
 
 pub returns-in-Refused : goal.returns-in-Refused

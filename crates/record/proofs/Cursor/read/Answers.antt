@@ -1,7 +1,7 @@
 -- A packet's record that stands there is the answer (Standing); else any record is read, of the last window.
 use Rattle.laws.specs.Kit.{sym, ap, ◌∙◌, arith, true, ℕ, List}
 use Rattle.record.specs.Step.{next_piece}
-use Rattle.record.proofs.Ways.{rest_all, rest_none}
+use Rattle.record.proofs.Ways.{rest_all}
 use Rattle.record.proofs.Standing.{stands, stands_packet}
 use Rattle.record.proofs.Cursor.read.Goals as goal
 

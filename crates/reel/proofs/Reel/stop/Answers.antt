@@ -1,14 +1,7 @@
 -- By what lies ahead: each return is one law (Turning).
-use Rattle.laws.specs.Kit.{inl, inr, subst, refl, arith}
-use Rattle.capture.specs.declared.Ahead.{Ahead}
-use Rattle.reel.specs.Step.{AheadFits}
-use Rattle.reel.proofs.Turning.{stop_packet, stop_wait, stop_end, stop_refused}
+use Rattle.laws.specs.Kit.{refl, arith}
+use Rattle.reel.proofs.Turning.{stop_packet, stop_wait}
 use Rattle.reel.proofs.Reel.stop.Goals as goal
-
-pub overflow_add-result : goal.overflow_add-result
-overflow_add-result c =
-    let fits = subst (λ (a : Ahead). AheadFits a c.args.used) c.in-Wait.is c.requires.1 in
-    omega (arith, fits)
 
 pub returns-in-Packet : goal.returns-in-Packet
 returns-in-Packet c =
@@ -17,10 +10,3 @@ returns-in-Packet c =
 pub returns-in-Wait : goal.returns-in-Wait
 returns-in-Wait c =
     stop_wait c.args.self c.in-Wait.is (omega (arith, c.requires.0)) c.put_ahead-next.ensures c.passed.ensures refl
-
-pub returns-in-End : goal.returns-in-End
-returns-in-End c =
-    elim c.in-End.is [
-      | inl h ↦ stop_end c.args.self h.1 c.requires.0 c.put_ahead-next.ensures
-      | inr h ↦ stop_refused c.args.self h.2 c.requires.0 c.put_ahead-next.ensures
-    ]
