@@ -100,7 +100,8 @@ module _ {p : Setting} {s : List ℕ} {whole y : Seen} {at : ℕ} (i : Loop p s 
 
       pub loop_refused : (refusal_of y told ≡ 0 → ⊥) → refused_at y told ≡ check_records whole (records_in p (drop header_bytes s))
       loop_refused n =
-          check_refused y told (records_in p (drop size (drop at s))) n ∙ ap (check_records y) (sym (whole_record p (drop at s) (in_front ∙ g)))
+          check_refused y told (records_in p (drop size (drop at s))) n
+          ∙ ap (check_records y) (sym (whole_record p (drop at s) (in_front ∙ g)))
           ∙ i.same
 
       pub loop_next : refusal_of y told ≡ 0 → Loop p s whole (seen_of y told) (at + size)
