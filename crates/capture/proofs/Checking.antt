@@ -1,11 +1,10 @@
 -- One turn of the check of a whole capture, by what stands in front: a record is refused or counted, and anything else ends it. By what
 -- was told.
-use Rattle.std.specs.Prelude.{◌≡◌, ◌∷◌, ◌+◌, ◌≤◌, ◌<◌}
-use Rattle.laws.specs.Kit.{refl, sym, ap, subst, ◌∙◌, Bool, true, false, List, [], ℕ, arith}
-use Rattle.laws.specs.Kit.{length, drop, drop-drop, length-drop, ltb, eq-eqb, ne_eqb, lt-leb, le-leb, ltb-false}
+use Rattle.std.specs.Prelude.{◌≡◌, ◌+◌, ◌-◌, ◌≤◌, ◌<◌}
+use Rattle.laws.specs.Kit.{refl, sym, ap, subst, ◌∙◌, Bool, true, false, List, ℕ, arith}
+use Rattle.std.proofs.lemmas.List.{take_rest}
+use Rattle.laws.specs.Kit.{length, take, drop, drop-drop, length-drop, ltb, eq-eqb, ne_eqb, lt-leb, le-leb, ltb-false}
 use Rattle.laws.specs.Choose.{pick}
-use types.Run.{OneOf, miss}
-use denote.Enum.Declared.{tag_of}
 use Rattle.packet.specs.declared.Packet as packet
 use Rattle.packet.specs.Step.{number_of, Countable}
 use Rattle.packet.proofs.Refusals.{accepted}
@@ -18,7 +17,6 @@ use Rattle.capture.specs.declared.Told.{Told}
 use Rattle.capture.specs.declared.Told.TheVariants.{Packet, Skipped, Late}
 use Rattle.capture.specs.declared.Front.{Front}
 use Rattle.capture.specs.declared.Front.TheVariants as front
-use Rattle.capture.specs.contracts.Front.{the_type}
 use Rattle.capture.specs.declared.Seen.{Seen}
 use Rattle.capture.specs.declared.Checked.TheVariants.{Refused}
 use Rattle.capture.specs.Paper.{header_bytes, record_bytes, Header, capture, unknown, header_of, checked_of}
@@ -43,13 +41,14 @@ check_goes y Skipped r e = refl
 check_goes y Late r e = absurd (omega arith)
 
 -- where no record stands
-pub check_stops : (p : Setting) (y : Seen) (l : List ℕ) (f : Front) → OneOf (1 ∷ 2 ∷ 3 ∷ []) (tag_of the_type f) → front_of p l true ≡ f
-    → closing y f ≡ check_records y (records_in p l)
+check_stops : (p : Setting) (y : Seen) (l : List ℕ) (f : Front) → ((told : Told) (size : ℕ) → f ≡ front.Record told size → ⊥)
+    → front_of p l true ≡ f → closing y f ≡ check_records y (records_in p l)
 unfolding closing check_all
 check_stops p y l f k e = go f k (subst (Says p l true) e (front_says p l true))
   where
-    go : (f : Front) → OneOf (1 ∷ 2 ∷ 3 ∷ []) (tag_of the_type f) → Says p l true f → closing y f ≡ check_records y (records_in p l)
-    go (front.Record told size) k s = absurd (miss (1 ∷ 2 ∷ 3 ∷ []) 0 tt k)
+    go : (f : Front) → ((told : Told) (size : ℕ) → f ≡ front.Record told size → ⊥) → Says p l true f
+        → closing y f ≡ check_records y (records_in p l)
+    go (front.Record told size) k s = absurd (k told size refl)
     go front.End k s = rw (records_end p l s.1)
     go front.More k s = let z : ◌≡◌ {A = ℕ} 0 1 = (let t = s.0 in cc) in absurd (omega arith)
     go front.Cut k s = rw s.1
@@ -86,27 +85,45 @@ module _ {p : Setting} {s : List ℕ} {whole y : Seen} {at : ℕ} (i : Loop p s 
   pub loop_room : length s < 18446744073709551616 → Room y
   loop_room h = record { few = omega (arith, i.within, i.counted); no_more = i.no_more; closed = i.closed }
 
-  module _ {told : Told} {size : ℕ} (e : front_of p (drop at s) true ≡ front.Record told size) where
-    pub size_within : (record_bytes ≤ size) × (at + size ≤ length s)
-    size_within = let w = whole_size p (drop at s) e in (w.0, omega (arith, w.1, length-drop at s, i.within))
+  -- by what stands in front of the rest of the file
+  module _ {f : Front} (e : f ≡ front_of p (take (length s - at) (drop at s)) true) where
+    in_front : front_of p (drop at s) true ≡ f
+    in_front = sym (e ∙ rw (take_rest s at))
 
-    pub loop_refused : (refusal_of y told ≡ 0 → ⊥) → refused_at y told ≡ check_records whole (records_in p (drop header_bytes s))
-    loop_refused n =
-        check_refused y told (records_in p (drop size (drop at s))) n ∙ ap (check_records y) (sym (whole_record p (drop at s) e)) ∙ i.same
+    pub loop_stops : ((told : Told) (size : ℕ) → f ≡ front.Record told size → ⊥)
+        → closing y f ≡ check_records whole (records_in p (drop header_bytes s))
+    loop_stops k = check_stops p y (drop at s) f k in_front ∙ i.same
 
-    pub loop_next : refusal_of y told ≡ 0 → Loop p s whole (seen_of y told) (at + size)
-    loop_next z =
-        let kept = seen_keeps y told i.no_more i.closed in
-        record {
-          same =
-              rw (← drop-drop size at s)
-              (sym (check_goes y told (records_in p (drop size (drop at s))) z)
-              ∙ ap (check_records y) (sym (whole_record p (drop at s) e)) ∙ i.same);
-          within = size_within.1;
-          counted = omega (arith, kept.records, size_within.0, i.counted);
-          no_more = kept.no_more;
-          closed = kept.closed;
-        }
+    module _ {told : Told} {size : ℕ} (g : f ≡ front.Record told size) where
+      pub size_within : (record_bytes ≤ size) × (at + size ≤ length s)
+      size_within = let w = whole_size p (drop at s) (in_front ∙ g) in (w.0, omega (arith, w.1, length-drop at s, i.within))
+
+      pub loop_refused : (refusal_of y told ≡ 0 → ⊥) → refused_at y told ≡ check_records whole (records_in p (drop header_bytes s))
+      loop_refused n =
+          check_refused y told (records_in p (drop size (drop at s))) n
+          ∙ ap (check_records y) (sym (whole_record p (drop at s) (in_front ∙ g)))
+          ∙ i.same
+
+      pub loop_next : refusal_of y told ≡ 0 → Loop p s whole (seen_of y told) (at + size)
+      loop_next z =
+          let kept = seen_keeps y told i.no_more i.closed in
+          record {
+            same =
+                rw (← drop-drop size at s)
+                (sym (check_goes y told (records_in p (drop size (drop at s))) z)
+                ∙ ap (check_records y) (sym (whole_record p (drop at s) (in_front ∙ g))) ∙ i.same);
+            within = size_within.1;
+            counted = omega (arith, kept.records, size_within.0, i.counted);
+            no_more = kept.no_more;
+            closed = kept.closed;
+          }
+
+-- the loop begins behind the header
+pub loop_begins : (p : Setting) (s : List ℕ) (y : Seen) → header_bytes ≤ length s → y.records ≡ 0 → Room y → Loop p s y y header_bytes
+loop_begins p s y h z room =
+    record { same = refl; within = h; counted = omega (arith, z); no_more = room.no_more; closed = room.closed }
+
+pub ruleset loop_laws = (loop_begins, loop_room, loop_stops, size_within, loop_refused)
 
 -- ---- the whole capture, by its header
 

@@ -1,16 +1,14 @@
 -- A window with its skipped records passed over: what lies ahead is, behind so many skipped records, what the rest of the file holds. By the
 -- records that are passed over.
-use Rattle.std.specs.Prelude.{◌≡◌, ◌∷◌, ◌++◌, ◌+◌}
+use Rattle.std.specs.Prelude.{◌≡◌, ◌++◌, ◌+◌, ◌-◌}
 use Rattle.laws.specs.Kit.{refl, sym, ap, subst, ◌∙◌, Bool, true, List, [], ℕ, zero, suc}
 use Rattle.std.specs.Prelude.{◌≤◌, ◌<◌}
-use Rattle.laws.specs.Kit.{arith, length, drop, length-drop, drop-drop}
-use types.Run.{OneOf, miss}
-use denote.Enum.Declared.{tag_of}
+use Rattle.std.proofs.lemmas.List.{take_rest}
+use Rattle.laws.specs.Kit.{arith, length, take, drop, length-drop, drop-drop}
 use Rattle.capture.specs.declared.Setting.{Setting}
 use Rattle.capture.specs.declared.Cursor.{Cursor}
 use Rattle.capture.specs.declared.Next.{Next}
 use Rattle.capture.specs.declared.Next.TheVariants as next
-use Rattle.capture.specs.contracts.Next.{the_type}
 use Rattle.capture.specs.declared.Ahead.{Ahead}
 use Rattle.capture.specs.declared.Ahead.TheVariants as ahead
 use Rattle.capture.specs.Paper.{packet, skipped, done, stopped, none, more, records_in}
@@ -99,6 +97,14 @@ pub ahead_keeps : (p : Setting) (c : Cursor) (w v : List ℕ) (last : Bool) → 
 unfolding ahead_of
 ahead_keeps p c w v last end = ahead_lies p v last end (suc (length w)) c w 0 0 (omega arith)
 
+-- within 64 bits
+used_fits : (w : List ℕ) (used : ℕ) (r : Next) → used + length w < 18446744073709551616 → Within w r → UsedFits r used
+used_fits w used (next.Packet q n) h s = omega (arith, s.1)
+used_fits w used (next.Skipped n) h s = tt
+used_fits w used (next.More c n) h s = omega arith
+used_fits w used next.End h s = tt
+used_fits w used (next.Refused x) h s = tt
+
 -- ---- one turn
 
 module _ (p : Setting) (last : Bool) where
@@ -127,42 +133,52 @@ module _ (p : Setting) (last : Bool) where
   abbrev pub ahead_from : Cursor → List ℕ → ℕ → ℕ → Ahead
   ahead_from c w used skips = ahead_by (suc (length (drop used w))) p c (drop used w) last used skips
 
-  module _ (c : Cursor) (w : List ℕ) (used skips : ℕ) {r : Next} (e : next_of p c (drop used w) last ≡ r) where
-    pub turn_within : Within (drop used w) r
-    turn_within = subst (Within (drop used w)) e (next_within p c (drop used w) last)
+  pub ahead_begins : (c : Cursor) (w : List ℕ) → ahead_of p c w last ≡ ahead_from c w 0 0
+  unfolding ahead_of
+  ahead_begins c w = refl
+
+  -- by what stands ahead of the rest of the window
+  module _ (c : Cursor) (w : List ℕ) (used skips : ℕ) {r : Next} (e : r ≡ next_of p c (take (length w - used) (drop used w)) last) where
+    ahead_is : next_of p c (drop used w) last ≡ r
+    ahead_is = sym (e ∙ rw (take_rest w used))
+
+    turn_within : Within (drop used w) r
+    turn_within = subst (Within (drop used w)) ahead_is (next_within p c (drop used w) last)
+
+    pub turn_fits : used ≤ length w → length w < 18446744073709551616 → UsedFits r used
+    turn_fits h k = used_fits (drop used w) used r (omega (arith, length-drop used w)) turn_within
 
     -- what is no skipped record ends it
-    pub ahead_stops : OneOf (0 ∷ 2 ∷ 3 ∷ 4 ∷ []) (tag_of the_type r) → behind_by used skips r ≡ ahead_from c w used skips
+    pub ahead_stops : ((n : ℕ) → r ≡ next.Skipped n → ⊥) → ahead_from c w used skips ≡ behind_by used skips r
     unfolding ahead_by
-    ahead_stops k = sym (rw e (go r k))
+    ahead_stops k = rw ahead_is (go r k)
       where
-        go : (r : Next) → OneOf (0 ∷ 2 ∷ 3 ∷ 4 ∷ []) (tag_of the_type r)
+        go : (r : Next) → ((n : ℕ) → r ≡ next.Skipped n → ⊥)
             → ahead_next (λ n. ahead_by (length (drop used w)) p between (drop n (drop used w)) last (used + n) (skips + 1)) used skips r
             ≡ behind_by used skips r
         go (next.Packet q n) k = refl
-        go (next.Skipped n) k = absurd (miss (0 ∷ 2 ∷ 3 ∷ 4 ∷ []) 1 tt k)
+        go (next.Skipped n) k = absurd (k n refl)
         go (next.More d n) k = refl
         go next.End k = refl
         go (next.Refused x) k = refl
 
-    pub ahead_goes : {n : ℕ} → r ≡ next.Skipped n → used ≤ length w
-        → ahead_from between w (used + n) (skips + 1) ≡ ahead_from c w used skips
-    unfolding ahead_by
-    ahead_goes {n} f inside =
-        let within = subst (Within (drop used w)) (e ∙ f) (next_within p c (drop used w) last) in
-        let left = length-drop used w in
-        let less = length-drop n (drop used w) in
-        let on : ahead_by (length (drop used w)) p between (drop n (drop used w)) last (used + n) (skips + 1)
-        ≡ ahead_from between w (used + n) (skips + 1) =
-        ahead_same (length (drop used w)) (suc (length (drop n (drop used w)))) between (drop n (drop used w)) (used + n) (skips + 1)
-        (omega (arith, within.0, within.1)) (omega arith)
-        ∙ rw (drop-drop n used w) in
-        sym (rw (e ∙ f) on)
+    module _ {n : ℕ} (f : r ≡ next.Skipped n) (inside : used ≤ length w) where
+      -- a skipped record takes some of the window, and no more than is left
+      pub skipped_within : (0 < n) × (used + n ≤ length w)
+      skipped_within =
+          let within = subst (Within (drop used w)) f turn_within in
+          (within.0, omega (arith, within.1, length-drop used w))
 
--- within 64 bits
-pub used_fits : (w : List ℕ) (used : ℕ) (r : Next) → used + length w < 18446744073709551616 → Within w r → UsedFits r used
-used_fits w used (next.Packet q n) h s = omega (arith, s.1)
-used_fits w used (next.Skipped n) h s = tt
-used_fits w used (next.More d n) h s = omega arith
-used_fits w used next.End h s = tt
-used_fits w used (next.Refused x) h s = tt
+      pub ahead_goes : ahead_from c w used skips ≡ ahead_from between w (used + n) (skips + 1)
+      unfolding ahead_by
+      ahead_goes =
+          let left = length-drop used w in
+          let less = length-drop n (drop used w) in
+          let on : ahead_by (length (drop used w)) p between (drop n (drop used w)) last (used + n) (skips + 1)
+          ≡ ahead_from between w (used + n) (skips + 1) =
+          ahead_same (length (drop used w)) (suc (length (drop n (drop used w)))) between (drop n (drop used w)) (used + n) (skips + 1)
+          (omega (arith, skipped_within)) (omega arith)
+          ∙ rw (drop-drop n used w) in
+          rw (ahead_is ∙ f) on
+
+pub ruleset ahead_laws = (ahead_begins, turn_fits, ahead_stops, skipped_within, ahead_goes)

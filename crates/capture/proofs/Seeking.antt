@@ -1,18 +1,15 @@
 -- Packet by packet: the search for the next packet finds the first of those handed on, and what is left behind it are the others. By the
 -- records that are passed over.
-use Rattle.std.specs.Prelude.{◌≡◌, ◌∷◌, ◌+◌, ◌≤◌, ◌<◌}
-use Rattle.laws.specs.Kit.{refl, sym, ap, subst, ◌∙◌, true, List, [], ℕ, zero, suc, arith, length, drop}
+use Rattle.std.specs.Prelude.{◌≡◌, ◌∷◌, ◌+◌, ◌-◌, ◌≤◌, ◌<◌}
+use Rattle.laws.specs.Kit.{refl, sym, ap, subst, ◌∙◌, true, List, [], ℕ, zero, suc, arith, length, take, drop}
+use Rattle.std.proofs.lemmas.List.{take_rest}
 use Rattle.laws.specs.Kit.{length-drop, drop-drop, drop_of_length-le, eq-eqb}
-use types.Run.{OneOf, miss}
-use denote.Enum.Declared.{tag_of}
 use Rattle.packet.specs.declared.Packet as packet
 use Rattle.capture.specs.declared.Setting.{Setting}
 use Rattle.capture.specs.declared.Told.{Told}
 use Rattle.capture.specs.declared.Told.TheVariants.{Packet, Skipped, Late}
-use Rattle.capture.specs.contracts.Told.{the_type as told_type}
 use Rattle.capture.specs.declared.Front.{Front}
 use Rattle.capture.specs.declared.Front.TheVariants as front
-use Rattle.capture.specs.contracts.Front.{the_type}
 use Rattle.capture.specs.declared.Sought.{Sought}
 use Rattle.capture.specs.declared.Sought.TheVariants as sought
 use Rattle.capture.specs.Paper.{record_bytes, Records, handed_on, records_in}
@@ -114,40 +111,46 @@ module _ (p : Setting) where
     unfolding sought_of seek_by
     seek_first h = seek_same (length (drop at s)) (suc (length (drop at s))) at (drop at s) (omega arith) (omega arith)
 
-    pub seek_end : length s ≤ at → sought.Nothing ≡ sought_of p at s
+    pub seek_end : length s ≤ at → sought_of p at s ≡ sought.Nothing
     unfolding sought_of seek_by
     seek_end h = rw (drop_of_length-le s {i = at} h)
 
-    module _ (h : at < length s) {f : Front} (e : front_of p (drop at s) true ≡ f) where
-      pub seek_stops : OneOf (1 ∷ 2 ∷ 3 ∷ []) (tag_of the_type f) → sought.Nothing ≡ sought_of p at s
-      seek_stops k = sym (seek_first h ∙ rw e (go f k))
+    -- by what stands in front of the rest of the file
+    module _ (h : at < length s) {f : Front} (e : f ≡ front_of p (take (length s - at) (drop at s)) true) where
+      in_front : front_of p (drop at s) true ≡ f
+      in_front = sym (e ∙ rw (take_rest s at))
+
+      pub seek_stops : ((told : Told) (size : ℕ) → f ≡ front.Record told size → ⊥) → sought_of p at s ≡ sought.Nothing
+      seek_stops k = seek_first h ∙ rw in_front (go f k)
         where
-          go : (f : Front) → OneOf (1 ∷ 2 ∷ 3 ∷ []) (tag_of the_type f)
+          go : (f : Front) → ((told : Told) (size : ℕ) → f ≡ front.Record told size → ⊥)
               → seek_front (seek_by (length (drop at s)) p) at (drop at s) f ≡ sought.Nothing
-          go (front.Record told size) k = absurd (miss (1 ∷ 2 ∷ 3 ∷ []) 0 tt k)
+          go (front.Record told size) k = absurd (k told size refl)
           go front.End k = refl
           go front.More k = refl
           go front.Cut k = refl
 
       module _ {told : Told} {size : ℕ} (g : f ≡ front.Record told size) where
         pub found_within : (record_bytes ≤ size) × (at + size ≤ length s)
-        found_within = let w = whole_size p (drop at s) (e ∙ g) in (w.0, omega (arith, w.1, length-drop at s))
+        found_within = let w = whole_size p (drop at s) (in_front ∙ g) in (w.0, omega (arith, w.1, length-drop at s))
 
-        pub seek_found : OneOf (0 ∷ 2 ∷ []) (tag_of told_type told) → found_of told (at + size) ≡ sought_of p at s
+        pub seek_found : (told ≡ Skipped → ⊥) → sought_of p at s ≡ found_of told (at + size)
         unfolding found_of
-        seek_found k = sym (seek_first h ∙ rw (e ∙ g) (go told k))
+        seek_found k = seek_first h ∙ rw (in_front ∙ g) (go told k)
           where
-            go : (told : Told) → OneOf (0 ∷ 2 ∷ []) (tag_of told_type told)
+            go : (told : Told) → (told ≡ Skipped → ⊥)
                 → sought_by (seek_by (length (drop at s)) p) at (drop at s) told size ≡ found_of told (at + size)
             go (Packet q) k = refl
-            go Skipped k = absurd (miss (0 ∷ 2 ∷ []) 1 tt k)
+            go Skipped k = absurd (k refl)
             go Late k = refl
 
-        pub seek_goes : told ≡ Skipped → sought_of p (at + size) s ≡ sought_of p at s
+        pub seek_goes : told ≡ Skipped → sought_of p at s ≡ sought_of p (at + size) s
         unfolding sought_of
         seek_goes z =
             let less = length-drop size (drop at s) in
             let next : seek_by (length (drop at s)) p (at + size) (drop size (drop at s)) ≡ sought_of p (at + size) s =
             seek_same (length (drop at s)) (length (drop size (drop at s))) (at + size) (drop size (drop at s)) (omega arith) (omega arith)
             ∙ rw (drop-drop size at s) in
-            sym (seek_first h ∙ rw (e ∙ g, z) next)
+            seek_first h ∙ rw (in_front ∙ g, z) next
+
+pub ruleset seek_laws = (seek_end, seek_stops, found_within, seek_found, seek_goes)

@@ -275,13 +275,13 @@ fn found(told: Told, next: usize) -> Sought
 impl Setting {
     // The next packet of a whole file that is handed on, from the record at `from` on: skipped records are passed over, and a record that
     // is refused ends it.
+    #[tactic(auto, using(crate::proofs::Seeking::seek_laws))]
     pub fn seek(self, s: &[u8], from: usize) -> Sought
         ensures { result ≡ sought_of self from s.now }
     {
         let mut at = from;
         while at < s.len() {
-            let front = self.front(&s[at..], true);
-            let Front::Record { told, size } = front else {
+            let Front::Record { told, size } = self.front(&s[at..], true) else {
                 return Sought::Nothing;
             };
             let Told::Skipped = told else {
@@ -386,6 +386,7 @@ fn behind(next: Next, used: usize, skipped: u64) -> Ahead
 
 impl Cursor {
     // The same over all skipped records of the window: so a call that waits for packets passes them over at once.
+    #[tactic(auto, using(crate::proofs::Looking::ahead_laws))]
     pub fn ahead(self, setting: Setting, window: &[u8], last: bool) -> Ahead
         ensures { result ≡ ahead_of setting self window.now last }
     {
@@ -471,6 +472,7 @@ impl Seen {
     }
 
     // The records behind the header, up to the end or the first that is refused.
+    #[tactic(auto, using(crate::proofs::Checking::loop_laws))]
     fn check_records(self, setting: Setting, s: &[u8]) -> Checked
         requires { Room header_bytes s.now 0 × (self.records ≡ 0) × SeenRoom self }
         ensures { result ≡ check_records self (records_in setting (drop header_bytes s.now)) }

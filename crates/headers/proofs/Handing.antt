@@ -18,7 +18,8 @@ rtp_room b n rtp e = facts _ e 0
 
 -- what becomes of a frame, by the tests one after the other
 pub handed_by : (b : List ℕ) (n port : ℕ) → handed_of b n port
-    ≡ pick (leb 14 n && ether_fits b n (ip_at b) && ip_fits b n (ip_at b) && udp_fits b n (udp_in b) port && rtp_fits b n (rtp_at (udp_in b)))
+    ≡ pick (leb 14 n && ether_fits b n (ip_at b) && ip_fits b n (ip_at b) && udp_fits b n (udp_in b) port
+    && rtp_fits b n (rtp_at (udp_in b)))
     (on_at b (rtp_at (udp_in b))) Skipped
 unfolding handed_of fits after
 handed_by b n port = refl

@@ -4,7 +4,7 @@ use Rattle.std.specs.Prelude.{◌≡◌, ◌∷◌, ◌≤◌, ◌<◌}
 use Rattle.laws.specs.Kit.{sym, ◌∙◌, arith, length, drop}
 use Rattle.capture.specs.Step.{handed_in}
 use Rattle.capture.proofs.Seeking.{sought_cons, sought_none}
-use Rattle.timing.proofs.Running.{loop_begins, loop_next, loop_ends, loop_arrives, loop_lays, loop_closed, turn_marked, turn_plain}
+use Rattle.timing.proofs.Running.{loop_next, loop_ends, loop_arrives, loop_lays, loop_closed, turn_marked, turn_plain}
 use Rattle.timing.proofs.Sink.{as_numbers}
 use Rattle.intake.proofs.run_packets.Goals as goal
 use Rattle.intake.proofs.run_packets.Goals.{In-Packet}
@@ -17,9 +17,6 @@ first : (k : In-Packet)
     ≡ k.in-Packet.packet ∷ handed_in a.setting (drop next a.bytes.now))
     × (k.loop-packet.from < next) × (next ≤ length a.bytes.now)
 first k = sought_cons _ _ _ (sym k.seek.ensures ∙ k.in-Packet.is)
-
-pub loop-packet-init : goal.loop-packet-init
-loop-packet-init c = loop_begins as_numbers _ c.requires
 
 pub returns-in_default : goal.returns-in_default
 returns-in_default c =
