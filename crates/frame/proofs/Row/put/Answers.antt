@@ -12,7 +12,7 @@ pub loop-k-preserved : goal.loop-k-preserved
 loop-k-preserved c = let l = c.loop-k in
     let all = c.numbers-numbers.result in
     rw (to_z-of_z {w = w64} (record { sfits = c.rows-1.given }))
-        (sets_turn _ l.k all l.rows (pos 0) (omega (arith, ap length c.numbers-numbers.ensures)) ∙ l.invariant)
+    (sets_turn _ l.k all l.rows (pos 0) (omega (arith, ap length c.numbers-numbers.ensures)) ∙ l.invariant)
 
 pub returns : goal.returns
 returns c = let l = c.loop-k in
