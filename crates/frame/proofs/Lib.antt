@@ -12,4 +12,3 @@ pub mod BufferOfFrames
 pub mod Editions
 pub mod Ranges
 pub mod RowsFit
-pub mod Laying

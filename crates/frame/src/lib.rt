@@ -415,7 +415,10 @@ impl Row {
         requires { at + row_width ≤ length rows.old }
         ensures { rows.new ≡ sets rows.old at (numbers_of self) }
     {
-        rows[at..at + ROW].copy_from_slice(&self.numbers());
+        let numbers = self.numbers();
+        for k in 0..ROW {
+            rows[at + k] = numbers[k];
+        }
     }
 }
 

@@ -1,8 +1,8 @@
 -- The comparison of two lists, place by place from the front: it is true of equal lists and of no others.
-use Rattle.std.specs.Prelude.{◌≡◌, ◌&&◌, ◌∷◌}
-use Rattle.laws.specs.Kit.{refl, ap, Bool, true, false, List, [], ℕ, eqb, length}
-use Rattle.laws.specs.Kit.{eq-eqb, eqb-true}
-use lib.Pointwise.{pointwise}
+use Rattle.std.specs.Prelude.{◌≡◌, ◌&&◌, ◌∷◌, ◌+◌, ◌<◌}
+use Rattle.laws.specs.Kit.{refl, ap, Bool, true, false, List, [], ℕ, eqb, length, drop, get_or, drop-cons}
+use Rattle.laws.specs.Kit.{drop-length, eq-eqb, ne_eqb, eqb-true}
+use native.Mathlib.Numerals.{add-one}
 use Rattle.laws.proofs.Choose.{false_true}
 use Rattle.probe.specs.Words.{same}
 
@@ -33,10 +33,19 @@ unequal a b h = go (same a b) refl
     go true e = absurd (h (ap length (alike_only a b e)))
     go false e = refl
 
--- `==` of two slices is that comparison
-pub by_place : (a b : List ℕ) → pointwise eqb a b ≡ same a b
+-- one turn of a loop over both
+module _ (a b : List ℕ) (k : ℕ) (p : k < length a) (q : k < length b) where
+  turn : same (drop k a) (drop k b) ≡ (eqb (get_or a k 0) (get_or b k 0) && same (drop (k + 1) a) (drop (k + 1) b))
+  unfolding same
+  turn = rw (drop-cons a k 0 p, drop-cons b k 0 q, add-one k)
+
+  pub alike_here : get_or a k 0 ≡ get_or b k 0 → same (drop (k + 1) a) (drop (k + 1) b) ≡ same (drop k a) (drop k b)
+  alike_here e = rw (turn, eq-eqb (get_or a k 0) (get_or b k 0) e)
+
+  pub differ_here : (get_or a k 0 ≡ get_or b k 0 → ⊥) → same (drop k a) (drop k b) ≡ false
+  differ_here n = rw (turn, ne_eqb (get_or a k 0) (get_or b k 0) n)
+
+-- and its end
+pub alike_ends : (a b : List ℕ) → length a ≡ length b → same (drop (length a) a) (drop (length a) b) ≡ true
 unfolding same
-by_place [] [] = refl
-by_place [] (y ∷ b) = refl
-by_place (x ∷ a) [] = refl
-by_place (x ∷ a) (y ∷ b) = ap (λ (t : Bool). eqb x y && t) (by_place a b)
+alike_ends a b e = rw (drop-length a, e, drop-length b)

@@ -219,9 +219,25 @@ fn state_in(words: &[u64]) -> State
     }
 }
 
+// Whether the two are alike. Compiled from `==` of slices, a call takes a tenth more instructions.
+fn same(a: &[u64], b: &[u64]) -> bool
+    ensures { result ≡ same_of a.now b.now }
+{
+    if a.len() != b.len() {
+        return false;
+    }
+    for k in 0..a.len() {
+        let differ = a[k] != b[k];
+        if differ {
+            return false;
+        }
+    }
+    true
+}
+
 // The state whose words stand in front. They are read, written again and compared, so that each range of a field, each flag and
 // each answer is tested in one place.
-#[tactic(auto, using(crate::proofs::RoundTrip::too_few, crate::proofs::RoundTrip::held_known, crate::proofs::RoundTrip::held_nothing, crate::proofs::Alike::by_place))]
+#[tactic(auto, using(crate::proofs::RoundTrip::too_few, crate::proofs::RoundTrip::held_known, crate::proofs::RoundTrip::held_nothing))]
 fn read(words: &[u64]) -> Held
     ensures { result ≡ state_held_by (take state_words words.now) }
 {
@@ -231,8 +247,10 @@ fn read(words: &[u64]) -> Held
     let front = &words[..WORDS];
     let s = state_in(front);
     let again = words_of(s);
-    let alike = again[..] == front[..];
-    if alike { Held::Known(s) } else { Held::Nothing }
+    if same(&again, front) {
+        return Held::Known(s);
+    }
+    Held::Nothing
 }
 
 // Numbers in front of a lent slice; what stands behind them stays.

@@ -1,11 +1,7 @@
 -- The frame opened, what goes by taken off the wait, one packet more: the products fit by Opening. Where the buffer is not judged the packet
 -- is counted, and nothing else.
-use Rattle.std.specs.Prelude.{◌*◌}
-use Rattle.laws.specs.Kit.{ℕ, arith, ap, ◌∙◌}
-use Rattle.grain.specs.Carry.{reads_onward}
-use Rattle.frame.specs.declared.Frame.{Frame}
-use Rattle.frame.specs.Step.{counted_of, ticked_of, reads_of}
-use Rattle.frame.proofs.Opening.{opened_timed, reach_fits, push_judged, push_unjudged}
+use Rattle.laws.specs.Kit.{arith}
+use Rattle.frame.proofs.Opening.{opened_timed, reach_fits}
 use Rattle.frame.proofs.Frame.push.Goals as goal
 
 pub overflow_mul-by : goal.overflow_mul-by
