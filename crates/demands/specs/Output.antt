@@ -8,10 +8,9 @@ use Rattle.frame.specs.declared.Row.{Row}
 use Rattle.frame.specs.Step.{numbers_of}
 use Rattle.limits.specs.declared.Parameters.{Parameters}
 use Rattle.limits.specs.Steps.{ParametersHeld}
-use Rattle.record.specs.declared.Next.TheVariants.{More}
 use Rattle.record.specs.Paper.{heading, resolved, is_parameters}
 use Rattle.record.specs.Layout.{head_of}
-use Rattle.record.specs.Step.{next_piece}
+use Rattle.record.specs.Step.{next_piece, next_more}
 use Rattle.text.specs.Lines.{Sized, row_line, line_room, summary_line, refusal_line}
 use Rattle.text.proofs.RowsApart.{rows_differ}
 use Rattle.timing.specs.declared.State.{State}
@@ -77,7 +76,7 @@ moves_full = proved.moves_full
 
 -- X5: a call that does not had no room for a line, or wanted more bytes
 pub stuck_why : (walk : Walk) (w : List ℕ) (last : Bool) (room : ℕ) → (take_of walk w last room).ended ≡ false
-    → (take_of walk w last room).used ≡ 0 → (room < line_room) ⊎ (next_piece walk.at.at w last ≡ More)
+    → (take_of walk w last room).used ≡ 0 → (room < line_room) ⊎ (next_piece walk.at.at w last ≡ next_more)
 stuck_why = proved.stuck_why
 
 -- ---- any run of the program

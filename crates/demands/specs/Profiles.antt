@@ -3,7 +3,7 @@
 -- which the plan's period and packets are F and n, or F/2 and n/2. Every promise in Measurement is over the profile, but for those that say that
 -- the stream has a buffer: of an interlaced stream read fields for frames. Here it is said what these plans are, what becomes of a stream that
 -- has no buffer, that nothing else depends on the profile, and how a profile is told by the kind of a parameter record.
-use Rattle.std.specs.Prelude.{◌≡◌, ◌↔◌, ◌*◌, ◌%◌, ◌<◌, ◌*ℤ◌, ◌≤ℤ◌, ◌<ℤ◌}
+use Rattle.std.specs.Prelude.{◌≡◌, ◌↔◌, ◌*◌, ◌%◌, ◌<◌, ◌*ℤ◌, ◌≤ℤ◌, ◌<ℤ◌, None}
 use Rattle.laws.specs.Kit.{sym, Bool, true, false, List, map, ℕ, arith, pos, neg_ℤ}
 use Rattle.limits.specs.declared.Parameters.{Parameters}
 use Rattle.limits.specs.declared.Profile.{Profile}
@@ -22,10 +22,9 @@ use Rattle.timing.specs.History.{AcceptedHistory, reached, plan, frames}
 use Rattle.timing.proofs.Stating as timing
 use Rattle.timing.proofs.Profiles as beside
 use Rattle.timing.proofs.Accepting as proved
-use Rattle.record.specs.declared.Written.TheVariants.{Refused}
 use Rattle.record.specs.Paper.{version_known, body_length, kind_of, is_parameters, kind_length, Heading, format_refusal}
 use Rattle.record.specs.Step.{Whole}
-use Rattle.record.specs.Write.{written_of}
+use Rattle.record.specs.Write.{written_of, written_refused}
 use Rattle.record.proofs.Writing.{heading_22, answers_set_up}
 use Rattle.record.proofs.KindsRefused as of_file
 use Rattle.report.specs.Paper.{state_of, rows_of}
@@ -129,6 +128,6 @@ module _ (l : List ℕ) (w : Whole (body_length l) (kind_of l) l) where
 
 -- F14, F9: the writer's 22 is for a kind that holds no parameters, after 20 and before all else: no number, packet or lent byte is asked for
 pub writer_kind_refused : (s : Heading) (ts ss ms : List ℕ) (room : ℕ) → version_known s.version ≡ true → is_parameters s.kind ≡ false
-    → written_of s ts ss ms room ≡ Refused 22 0
+    → written_of s ts ss ms room ≡ written_refused 22 0
 writer_kind_refused s ts ss ms room v k =
     sym (answers_set_up s ts ss ms room 22 (sym (heading_22 s.version s.kind s.parameters v k)) (omega arith))

@@ -14,8 +14,7 @@ use Rattle.packet.specs.declared.Packet.{Packet}
 use Rattle.packet.specs.Paper.{packets, OneLength, declared}
 use Rattle.packet.proofs.Declared.{scan_declared}
 use Rattle.endian.proofs.Width.{bytes_all}
-use Rattle.record.specs.declared.Written.{Written}
-use Rattle.record.specs.declared.Written.TheVariants.{Done, Refused as WriteRefused}
+use Rattle.record.specs.Write.{Written, written_refused}
 use Rattle.record.specs.Paper.{version_known, Heading, heading, class_in, resolved, reading_of, file, refused, as_file, file_of}
 use Rattle.record.specs.Layout.{bytes_in, PacketsHeld}
 use Rattle.record.specs.Write.{heading_refusal, written_of, WriteGives}
@@ -40,7 +39,7 @@ reading_written s ps closed hs hp e f = ap as_file (file_written s ps closed hs 
 -- D2d: what the writer writes is accepted, and reads as what it was given
 pub written_accepted : (s : Heading) (ts ss ms out after : List ℕ) (n : ℕ) → ParametersHeld s.parameters
     → AllBelow 18446744073709551616 ts → AllBelow 4294967296 ss
-    → WriteGives s ts ss ms out (Done n) after → file_of (take n after) ≡ file s (packets ts ss ms)
+    → WriteGives s ts ss ms out (Ok n) after → file_of (take n after) ≡ file s (packets ts ss ms)
 written_accepted = written_reads
 
 -- ---- "an accepted file, read and written, gives the same bytes."
@@ -53,7 +52,7 @@ writing_read bytes b = file_again bytes (bytes_all bytes b)
 -- D2e: and the writer, given what an accepted file reads as and room for it, writes that file
 pub writer_repeats : (bytes : List ℕ) → AllBelow 256 bytes → (s : Heading) (ts ss ms out after : List ℕ) (r : Written)
     → OneLength ts ss ms → file_of bytes ≡ file s (packets ts ss ms) → length bytes ≤ length out → WriteGives s ts ss ms out r after
-    → (r ≡ Done (length bytes)) × (take (length bytes) after ≡ bytes)
+    → (r ≡ Ok (length bytes)) × (take (length bytes) after ≡ bytes)
 writer_repeats bytes b = writer_again bytes (bytes_all bytes b)
 
 -- F7, F8: both versions are read, and any other byte is 20 at offset 0, whatever follows; a version byte alone is 23 at offset 1
@@ -64,7 +63,7 @@ version_first version l = (other_20 version l, lone_byte version)
 
 -- F9: the writer's 20 is first of all: no number, packet or lent byte is asked for
 pub writer_version_first : (s : Heading) (ts ss ms : List ℕ) (room : ℕ) → version_known s.version ≡ false
-    → written_of s ts ss ms room ≡ WriteRefused 20 0
+    → written_of s ts ss ms room ≡ written_refused 20 0
 writer_version_first s ts ss ms room e =
     sym (answers_set_up s ts ss ms room 20 (sym (heading_20 s.version s.kind s.parameters e)) (omega arith))
 

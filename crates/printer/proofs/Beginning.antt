@@ -1,6 +1,6 @@
 -- The start of a file, of a window that shows it: what is refused there is the file's refusal, and from the walk that begins there all
 -- of the file's output is still to come. By what the head says of the file.
-use Rattle.std.specs.Prelude.{◌≡◌, ◌++◌, ◌≤◌, ◌<◌, Err, Ok}
+use Rattle.std.specs.Prelude.{◌≡◌, ◌++◌, ◌≤◌, ◌<◌, Err, Ok, Some, None}
 use Rattle.laws.specs.Kit.{refl, sym, ap, subst, ◌∙◌, Bool, true, false, List, [], append-nil, ℕ, arith, eqb, length}
 use Rattle.laws.specs.Kit.{drop, drop-append-le, eqb-true, eqb-false}
 use Rattle.laws.proofs.Choose.{pick_either, false_true}
@@ -11,8 +11,7 @@ use Rattle.limits.specs.declared.Parameters.{Parameters}
 use Rattle.limits.specs.declared.Profile.{Profile}
 use Rattle.limits.specs.Paper.{set_up_refusal}
 use Rattle.limits.proofs.Editions.{in_one}
-use Rattle.record.specs.declared.Head.{Head}
-use Rattle.record.specs.declared.Head.TheVariants as head
+use Rattle.record.specs.Step.{HeadRead, head_ready, head_refused}
 use Rattle.record.specs.declared.FileNumbers.{FileNumbers}
 use Rattle.timing.specs.declared.StreamNumbers.{StreamNumbers}
 use Rattle.record.specs.Paper.{heading, head_bytes, packets_in}
@@ -39,16 +38,16 @@ Tells w v (Opens walk) = Stands walk × (output_of (w ++ v) ≡ rest_from walk (
 
 module _ (w v : List ℕ) (last : Bool) (l : last ≡ true → v ≡ []) where
   -- what the window shows of the head is the whole file's head
-  whole : (h : Head) → head_piece w last ≡ h → head_waits h ≡ false → SaysHead (w ++ v) h
+  whole : (h : HeadRead) → head_piece w last ≡ h → head_waits h ≡ false → SaysHead (w ++ v) h
   whole h e m = subst (SaysHead (w ++ v)) (sym (go last l e) ∙ e) (head_says (w ++ v))
     where
       go : (b : Bool) → (b ≡ true → v ≡ []) → head_piece w b ≡ h → head_piece w b ≡ head_read (w ++ v)
       go true k f = rw (k refl) (ap head_read (sym (append-nil w)))
       go false k f = piece_head w v (ap head_waits f ∙ m)
 
-  module _ {version kind : ℕ} {x : Parameters} {c : Cursor} (e : head_piece w last ≡ head.Ready version kind x c) where
+  module _ {version kind : ℕ} {x : Parameters} {c : Cursor} (e : head_piece w last ≡ head_ready version kind x c) where
     here : Stood (w ++ v) version kind x c
-    here = whole (head.Ready version kind x c) e refl
+    here = whole (head_ready version kind x c) e refl
 
     nineteen : head_bytes ≤ length w
     nineteen = (subst (SaysHead w) (sym (head_alone w last (ap head_waits e)) ∙ e) (head_says w)).nineteen
@@ -93,10 +92,10 @@ module _ (w v : List ℕ) (last : Bool) (l : last ≡ true → v ≡ []) where
   unfolding begin_of ready_of output_of
   begin_tells = go (head_piece w last) refl
     where
-      go : (h : Head) → head_piece w last ≡ h → Tells w v (head_by h)
-      go (head.Ready version kind x c) e = set_up_tells e
-      go head.More e = tt
-      go (head.Refused n o) e = ap output_by (whole (head.Refused n o) e refl)
+      go : (h : HeadRead) → head_piece w last ≡ h → Tells w v (head_by h)
+      go (Ok (Some r)) e = set_up_tells e
+      go (Ok None) e = tt
+      go (Err r) e = ap output_by (whole (head_refused r.number r.place) e refl)
 
 -- where no more will come, the start of a file is answered
 abbrev pub Answered : Opened → Type 0
@@ -116,10 +115,10 @@ pub head_answered : (w : List ℕ) (last : Bool) → head_waits (head_piece w la
 unfolding begin_of
 head_answered w last = go (head_piece w last)
   where
-    go : (h : Head) → head_waits h ≡ false → Answered (head_by h)
-    go (head.Ready version kind x c) m = ready_answered (numbers_of (heading version kind x)) c
-    go head.More m = absurd (false_true (sym m))
-    go (head.Refused n o) m = tt
+    go : (h : HeadRead) → head_waits h ≡ false → Answered (head_by h)
+    go (Ok (Some r)) m = ready_answered (numbers_of (heading r.version r.kind r.parameters)) r.next
+    go (Ok None) m = absurd (false_true (sym m))
+    go (Err r) m = tt
 
 pub begin_answered : (w : List ℕ) → Answered (begin_of w true)
 begin_answered w = head_answered w true (last_head w)

@@ -1,6 +1,6 @@
 -- What was to be printed is what a call writes, and then what is still to be printed. One record at a time: what stands at the walk is
 -- what stands there in the whole file, and each answer's line is document 01's. By the turns still allowed.
-use Rattle.std.specs.Prelude.{◌≡◌, ◌∷◌, ◌++◌}
+use Rattle.std.specs.Prelude.{◌≡◌, ◌∷◌, ◌++◌, Ok, Err}
 use Rattle.laws.specs.Kit.{refl, sym, ap, subst, ◌∙◌, Bool, true, false, List, [], append-nil, append_assoc, ℕ, zero, suc}
 use Rattle.std.specs.Prelude.{◌+◌, ◌-◌, ◌^◌, ◌≤◌, ◌<◌}
 use Rattle.laws.specs.Kit.{arith, mod-eq_of_lt, eqb, ltb, length, drop, length-append, drop-drop, drop-append-le}
@@ -15,8 +15,8 @@ use Rattle.packet.proofs.Refusals.{accepted}
 use Rattle.frame.specs.declared.Row.{Row}
 use Rattle.text.specs.Lines.{line_room, row_line, refusal_line}
 use Rattle.record.specs.declared.Cursor.{Cursor}
-use Rattle.record.specs.declared.Next.{Next}
-use Rattle.record.specs.declared.Next.TheVariants.{Packet, End, More, Refused}
+use Rattle.record.specs.Step.{NextRead, next_packet}
+use Rattle.record.specs.declared.Next.TheVariants.{Packet, End, More}
 use Rattle.record.specs.Paper.{packet_bytes, packet_at, packet_refusal, Packets, packets_in, more}
 use Rattle.record.specs.Step.{next_read, next_piece}
 use Rattle.record.specs.Pieces.{wants_more}
@@ -74,7 +74,7 @@ module _ (rules : Rules) (s : State) where
 
 -- ---- what stands at the walk stands there in the whole file
 
-pub follows : (at : ℕ) (w v : List ℕ) (last : Bool) (r : Next) → (last ≡ true → v ≡ []) → next_piece at w last ≡ r → wants_more r ≡ false
+pub follows : (at : ℕ) (w v : List ℕ) (last : Bool) (r : NextRead) → (last ≡ true → v ≡ []) → next_piece at w last ≡ r → wants_more r ≡ false
     → next_read at (w ++ v) ≡ r
 follows at w v true r l e m = rw (l refl) (ap (next_read at) (append-nil w) ∙ e)
 follows at w v false r l e m = sym (piece_answers at w v (ap wants_more e ∙ m)) ∙ e
@@ -102,7 +102,7 @@ module _ (rules : Rules) (walk : Walk) (w v : List ℕ) (q : rules ≡ rules_of 
   waits : Carries rules walk w v (stays walk)
   waits = (refl, z, q)
 
-  module _ {p : packet.Packet} {c : Cursor} (s : Says walk.at.at (w ++ v) (Packet p c)) where
+  module _ {p : packet.Packet} {c : Cursor} (s : Says walk.at.at (w ++ v) (next_packet p c)) where
     the_packet : packet_at (w ++ v) ≡ p
     the_packet = let e = s.1 in cc
 
@@ -144,12 +144,12 @@ module _ (rules : Rules) (walk : Walk) (w v : List ℕ) (q : rules ≡ rules_of 
         )
 
   -- what stands there, by cases
-  carries_item : (r : Next) (room : ℕ) (on : Walk → ℕ → TakeOutcome) → (wants_more r ≡ false → Says walk.at.at (w ++ v) r)
-      → ((p : packet.Packet) (c : Cursor) → r ≡ Packet p c → packet_bytes ≤ length w)
+  carries_item : (r : NextRead) (room : ℕ) (on : Walk → ℕ → TakeOutcome) → (wants_more r ≡ false → Says walk.at.at (w ++ v) r)
+      → ((p : packet.Packet) (c : Cursor) → r ≡ next_packet p c → packet_bytes ≤ length w)
       → ((next : Walk) (left : ℕ) → rules ≡ rules_of next.state.numbers → Stands next → Carries rules next (drop packet_bytes w) v (on next left))
       → Carries rules walk w v (item_by rules walk room on r)
   unfolding line_of
-  carries_item (Packet p c) room on s six ih =
+  carries_item (Ok (Packet p c)) room on s six ih =
       let n = number_of walk.state.past p in
       pick_either (Carries rules walk w v) (eqb n 0)
       (λ e. let f = eqb-true n 0 e in
@@ -157,12 +157,12 @@ module _ (rules : Rules) (walk : Walk) (w v : List ℕ) (q : rules ≡ rules_of 
       (ih (stepped rules walk p c) _ (q ∙ sym (ap rules_of (step_numbers rules walk.state p))) (next_stands (s refl) f)))
       (λ e. ends_at _ (rest_stop rules walk.state walk.at.at (w ++ v) n
       (omega (arith, six p c refl, length-append w v)) (the_refusal (s refl)) (some_refusal n (eqb-false n 0 e))))
-  carries_item End room on s six ih = ends_at _ (rest_end rules walk.state walk.at.at (w ++ v) (s refl))
-  carries_item More room on s six ih = waits
-  carries_item (Refused n o size) room on s six ih =
+  carries_item (Ok End) room on s six ih = ends_at _ (rest_end rules walk.state walk.at.at (w ++ v) (s refl))
+  carries_item (Ok More) room on s six ih = waits
+  carries_item (Err r) room on s six ih =
       let f = s refl in
-      ends_at _ (rest_stop rules walk.state walk.at.at (w ++ v) n f.0 (before _ _ (omega arith) ∙ f.1) f.2
-      ∙ ap (refusal_line n) (sym f.3))
+      ends_at _ (rest_stop rules walk.state walk.at.at (w ++ v) r.number f.0 (before _ _ (omega arith) ∙ f.1) f.2
+      ∙ ap (refusal_line r.number) (sym f.3))
 
 carries_walk : (k : ℕ) (rules : Rules) (walk : Walk) (w v : List ℕ) (last : Bool) (room : ℕ) → (last ≡ true → v ≡ [])
     → rules ≡ rules_of walk.state.numbers → Stands walk → Carries rules walk w v (walk_by k rules walk w last room)

@@ -1,13 +1,12 @@
 -- What is used of a window lies within it: a record for each packet that was shown, and the head before the first. By the turns still allowed.
-use Rattle.std.specs.Prelude.{◌≡◌, ◌-◌, ◌≤◌, Err, Ok}
+use Rattle.std.specs.Prelude.{◌≡◌, ◌-◌, ◌≤◌, Err, Ok, Some, None}
 use Rattle.laws.specs.Kit.{refl, sym, ap, subst, ◌∙◌, Bool, List, ℕ, zero, suc, arith, eqb, ltb, length, drop, length-drop}
 use Rattle.laws.proofs.Choose.{pick_either}
 use Rattle.packet.specs.Step.{number_of}
 use Rattle.record.specs.declared.Cursor.{Cursor}
-use Rattle.record.specs.declared.Next.{Next}
-use Rattle.record.specs.declared.Next.TheVariants.{Packet, End, More, Refused}
-use Rattle.record.specs.declared.Head.{Head}
-use Rattle.record.specs.declared.Head.TheVariants as head
+use Rattle.record.specs.Step.{NextRead}
+use Rattle.record.specs.declared.Next.TheVariants.{Packet, End, More}
+use Rattle.record.specs.Step.{HeadRead}
 use Rattle.record.specs.declared.FileNumbers.{FileNumbers}
 use Rattle.record.specs.Paper.{heading, packet_bytes, head_bytes}
 use Rattle.record.specs.Walk.{numbers_of}
@@ -36,10 +35,10 @@ walk_inside (suc k) rules walk w last room =
     pick_either (Inside w) (ltb room line_room) (λ e. omega arith)
     (λ e. go (next_piece walk.at.at w last) refl (λ next left. walk_inside k rules next (drop packet_bytes w) last left))
   where
-    go : (r : Next) → next_piece walk.at.at w last ≡ r
+    go : (r : NextRead) → next_piece walk.at.at w last ≡ r
         → ((next : Walk) (left : ℕ) → Inside (drop packet_bytes w) (walk_by k rules next (drop packet_bytes w) last left))
         → Inside w (item_by rules walk room (λ next left. walk_by k rules next (drop packet_bytes w) last left) r)
-    go (Packet p c) e ih =
+    go (Ok (Packet p c)) e ih =
         pick_either (Inside w) (eqb (number_of walk.state.past p) 0)
         (λ f. omega (
           arith,
@@ -48,9 +47,9 @@ walk_inside (suc k) rules walk w last room =
           length-drop packet_bytes w,
         ))
         (λ f. omega arith)
-    go End e ih = omega arith
-    go More e ih = omega arith
-    go (Refused n o size) e ih = omega arith
+    go (Ok End) e ih = omega arith
+    go (Ok More) e ih = omega arith
+    go (Err r) e ih = omega arith
 
 pub take_inside : (walk : Walk) (w : List ℕ) (last : Bool) (room : ℕ) → (take_of walk w last room).used ≤ length w
 unfolding take_of
@@ -73,9 +72,9 @@ pub begin_headed : (w : List ℕ) (last : Bool) → Headed (begin_of w last) (le
 unfolding begin_of
 begin_headed w last = go (head_piece w last) refl
   where
-    go : (h : Head) → head_piece w last ≡ h → Headed (head_by h) (length w)
-    go (head.Ready version kind x c) e =
+    go : (h : HeadRead) → head_piece w last ≡ h → Headed (head_by h) (length w)
+    go (Ok (Some r)) e =
         let alone = sym (head_alone w last (ap head_waits e)) ∙ e in
-        ready_headed (numbers_of (heading version kind x)) c (length w) (subst (SaysHead w) alone (head_says w)).nineteen
-    go head.More e = tt
-    go (head.Refused n o) e = tt
+        ready_headed (numbers_of (heading r.version r.kind r.parameters)) r.next (length w) (subst (SaysHead w) alone (head_says w)).nineteen
+    go (Ok None) e = tt
+    go (Err r) e = tt

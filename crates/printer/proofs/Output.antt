@@ -4,11 +4,10 @@ use Rattle.std.specs.Prelude.{◌≡◌, ◌⊎◌, ◌++◌, ◌≤◌, ◌<◌
 use Rattle.laws.specs.Kit.{refl, sym, ap, subst, ◌∙◌, Bool, true, false, List, [], append-nil, ℕ, zero, suc}
 use Rattle.laws.specs.Kit.{arith, length, drop, get_or, length-drop}
 use Rattle.laws.specs.Choose.{pick}
-use Rattle.record.specs.declared.Next.TheVariants.{More}
 use Rattle.record.specs.Paper.{head_bytes, Heading, resolved, heading, is_parameters}
 use Rattle.record.specs.declared.FileNumbers.{FileNumbers}
 use Rattle.record.specs.Walk.{numbers_of}
-use Rattle.record.specs.Step.{next_piece}
+use Rattle.record.specs.Step.{next_piece, next_more}
 use Rattle.record.proofs.InPieces.{last_answers, window_suffices}
 use Rattle.text.specs.Lines.{line_room, summary_line, refusal_line}
 use Rattle.timing.specs.declared.StreamNumbers.{StreamNumbers}
@@ -109,7 +108,7 @@ moves_full walk w last room h b l e = take_moves walk w last room h (window_suff
 
 -- a call that does neither had no room for a line or wanted more bytes
 pub stuck_why : (walk : Walk) (w : List ℕ) (last : Bool) (room : ℕ) → (take_of walk w last room).ended ≡ false
-    → (take_of walk w last room).used ≡ 0 → (room < line_room) ⊎ (next_piece walk.at.at w last ≡ More)
+    → (take_of walk w last room).used ≡ 0 → (room < line_room) ⊎ (next_piece walk.at.at w last ≡ next_more)
 stuck_why walk w last room = take_stuck walk w last room
 
 -- so from every walk that a file leads to, calls go through whatever rest of a file there is

@@ -1,11 +1,11 @@
 -- A call that neither ended nor used a byte had no room for a line, or wanted more bytes: every other answer ends it or takes a record.
-use Rattle.std.specs.Prelude.{◌≡◌, ◌⊎◌, ◌/◌, ◌≤◌, ◌<◌}
+use Rattle.std.specs.Prelude.{◌≡◌, ◌⊎◌, ◌/◌, ◌≤◌, ◌<◌, Ok, Err}
 use Rattle.laws.specs.Kit.{refl, sym, ap, ◌∙◌, inl, inr, Bool, false, List, ℕ, arith, ℕ_discrete, eqb, ltb}
 use Rattle.laws.specs.Kit.{length, drop, ltb-true}
 use Rattle.laws.proofs.Choose.{pick_either, false_true}
 use Rattle.packet.specs.Step.{number_of}
-use Rattle.record.specs.declared.Next.{Next}
-use Rattle.record.specs.declared.Next.TheVariants.{Packet, End, More, Refused}
+use Rattle.record.specs.Step.{NextRead, next_more}
+use Rattle.record.specs.declared.Next.TheVariants.{Packet, End, More}
 use Rattle.record.specs.Paper.{packet_bytes}
 use Rattle.text.specs.Lines.{line_room}
 use Rattle.record.specs.Step.{next_piece}
@@ -18,19 +18,19 @@ use Rattle.printer.specs.Step.{TakeOutcome, item_by, walk_by, take_of}
 
 module _ (walk : Walk) (w : List ℕ) (last : Bool) (room : ℕ) where
   Stuck : TakeOutcome → Type 0
-  Stuck k = k.ended ≡ false → k.used ≡ 0 → (room < line_room) ⊎ (next_piece walk.at.at w last ≡ More)
+  Stuck k = k.ended ≡ false → k.used ≡ 0 → (room < line_room) ⊎ (next_piece walk.at.at w last ≡ next_more)
 
-  stuck_item : (rules : Rules) (on : Walk → ℕ → TakeOutcome) (r : Next) → next_piece walk.at.at w last ≡ r → Stuck (item_by rules walk room on r)
+  stuck_item : (rules : Rules) (on : Walk → ℕ → TakeOutcome) (r : NextRead) → next_piece walk.at.at w last ≡ r → Stuck (item_by rules walk room on r)
   unfolding Stuck
-  stuck_item rules on (Packet p c) e f u =
+  stuck_item rules on (Ok (Packet p c)) e f u =
       pick_either Stuck (eqb (number_of walk.state.past p) 0) (λ g h y. absurd (omega arith))
       (λ g h y. absurd (false_true (sym h))) f u
-  stuck_item rules on End e f u = absurd (false_true (sym f))
-  stuck_item rules on More e f u = inr e
-  stuck_item rules on (Refused n o size) e f u = absurd (false_true (sym f))
+  stuck_item rules on (Ok End) e f u = absurd (false_true (sym f))
+  stuck_item rules on (Ok More) e f u = inr e
+  stuck_item rules on (Err r) e f u = absurd (false_true (sym f))
 
   pub take_stuck : (take_of walk w last room).ended ≡ false → (take_of walk w last room).used ≡ 0
-      → (room < line_room) ⊎ (next_piece walk.at.at w last ≡ More)
+      → (room < line_room) ⊎ (next_piece walk.at.at w last ≡ next_more)
   unfolding Stuck take_of walk_by
   take_stuck =
       let rules = rules_of walk.state.numbers in
@@ -46,7 +46,7 @@ module _ (walk : Walk) (w : List ℕ) (last : Bool) (room : ℕ) where
       → 0 < (take_of walk w last room).used
   take_moves h m e = go (ℕ_discrete (take_of walk w last room).used 0)
     where
-      stops : (room < line_room) ⊎ (next_piece walk.at.at w last ≡ More) → ⊥
+      stops : (room < line_room) ⊎ (next_piece walk.at.at w last ≡ next_more) → ⊥
       stops (inl l) = omega arith
       stops (inr l) = false_true (sym m ∙ ap wants_more l)
 

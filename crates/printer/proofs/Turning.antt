@@ -1,6 +1,6 @@
 -- One turn of a call: whatever ends what is left of the window, from the walk and the lines so far, ends the whole call (Loop). A packet
 -- that is taken (Here) is a turn of the measurement's one loop (timing's Running) with rows as lines; at all else the call stops.
-use Rattle.std.specs.Prelude.{◌≡◌, ◌∷◌, ◌++◌, ◌+◌, ◌-◌, ◌/◌, ◌≤◌, ◌<◌}
+use Rattle.std.specs.Prelude.{◌≡◌, ◌∷◌, ◌++◌, ◌+◌, ◌-◌, ◌/◌, ◌≤◌, ◌<◌, Ok, Err}
 use Rattle.laws.specs.Kit.{refl, sym, ap, subst, ◌∙◌, Bool, true, false, List, [], ℕ, suc, arith}
 use Rattle.laws.specs.Kit.{length, take, drop, length-drop, length-append, length-sets, drop-drop, ne_eqb, lt-ltb, le-ltb}
 use types.Run.{OneOf, miss}
@@ -12,9 +12,9 @@ use Rattle.packet.specs.Step.{number_of}
 use Rattle.frame.specs.declared.Row.{Row}
 use Rattle.text.specs.Lines.{line_room, row_line}
 use Rattle.record.specs.declared.Cursor.{Cursor}
-use Rattle.record.specs.declared.Next.{Next}
+use Rattle.record.specs.Step.{NextRead, next_refused, next_packet, next_end, next_more}
 use Rattle.record.specs.contracts.Next.{the_type}
-use Rattle.record.specs.declared.Next.TheVariants.{Packet, End, More, Refused}
+use Rattle.record.specs.declared.Next.TheVariants.{Packet, End, More}
 use Rattle.record.specs.Paper.{packet_bytes}
 use Rattle.record.specs.Step.{next_piece}
 use Rattle.record.specs.Pieces.{taken, wants_more}
@@ -36,11 +36,11 @@ use Rattle.printer.specs.Step.{TakeOutcome, stays, stops_at, and_then, stepped, 
 -- ---- what a window's answer says of the window
 
 -- a packet's record is all there
-pub piece_sixteen : (at : ℕ) (w : List ℕ) (last : Bool) {p : packet.Packet} {c : Cursor} → next_piece at w last ≡ Packet p c
+pub piece_sixteen : (at : ℕ) (w : List ℕ) (last : Bool) {p : packet.Packet} {c : Cursor} → next_piece at w last ≡ next_packet p c
     → packet_bytes ≤ length w
 piece_sixteen at w last e =
     let i = sym (piece_alone at w last (ap wants_more e)) ∙ e in
-    subst (λ (r : Next). taken r ≤ length w) i (read_within at w).1
+    subst (λ (r : NextRead). taken r ≤ length w) i (read_within at w).1
 
 -- ---- one turn, by the definition
 
@@ -53,20 +53,20 @@ module _ (rules : Rules) (walk : Walk) (w : List ℕ) (last : Bool) (room : ℕ)
     onward : Walk → ℕ → TakeOutcome
     onward next left = walk_by (length w / packet_bytes) rules next (drop packet_bytes w) last left
 
-    walk_item : (r : Next) → next_piece walk.at.at w last ≡ r → walk_of rules walk w last room ≡ item_by rules walk room onward r
+    walk_item : (r : NextRead) → next_piece walk.at.at w last ≡ r → walk_of rules walk w last room ≡ item_by rules walk room onward r
     unfolding walk_by onward
     walk_item r e = rw (le-ltb room line_room h, e)
 
-    walk_stops : (r : Next) → OneOf (1 ∷ 2 ∷ 3 ∷ []) (tag_of the_type r) → next_piece walk.at.at w last ≡ r
+    walk_stops : (r : NextRead) → OneOf (1 ∷ 2 ∷ 3 ∷ []) (tag_of the_type r) → next_piece walk.at.at w last ≡ r
         → walk_of rules walk w last room ≡ stops_at r walk
-    walk_stops (Packet p c) k e = absurd (miss (1 ∷ 2 ∷ 3 ∷ []) 0 tt k)
-    walk_stops End k e = walk_item End e
-    walk_stops More k e = walk_item More e
-    walk_stops (Refused n o size) k e = walk_item (Refused n o size) e
+    walk_stops (Ok (Packet p c)) k e = absurd (miss (1 ∷ 2 ∷ 3 ∷ []) 0 tt k)
+    walk_stops (Ok End) k e = walk_item next_end e
+    walk_stops (Ok More) k e = walk_item next_more e
+    walk_stops (Err r) k e = walk_item (next_refused r.number r.offset r.size) e
 
-    module _ {p : packet.Packet} {c : Cursor} (e : next_piece walk.at.at w last ≡ Packet p c) where
+    module _ {p : packet.Packet} {c : Cursor} (e : next_piece walk.at.at w last ≡ next_packet p c) where
       walk_refuses : (n : ℕ) → n ≡ number_of walk.state.past p → (n ≡ 0 → ⊥)
-          → walk_of rules walk w last room ≡ stops_at (Refused n walk.at.at packet_bytes) walk
+          → walk_of rules walk w last room ≡ stops_at (next_refused n walk.at.at packet_bytes) walk
       walk_refuses n f some = walk_item _ e ∙ rw (← f, ne_eqb n 0 some)
 
       fuel : length w / packet_bytes ≡ suc (length (drop packet_bytes w) / packet_bytes)
@@ -147,11 +147,11 @@ module _ {rules : Rules} {walk₀ : Walk} {w : List ℕ} {last : Bool} {out₀ :
     -- a turn at a packet that is taken
     pub record Here (p : packet.Packet) (c : Cursor) : Type 0 where
       pub room : line_room ≤ length out - written
-      pub stands : next_piece walk.at.at (drop used w) last ≡ Packet p c
+      pub stands : next_piece walk.at.at (drop used w) last ≡ next_packet p c
       pub passed : number_of walk.state.past p ≡ 0
 
     -- the code reads the same in the window that it lends
-    pub as_read : {item : Next} → item ≡ next_piece walk.at.at (take (length w - used) (drop used w)) last
+    pub as_read : {item : NextRead} → item ≡ next_piece walk.at.at (take (length w - used) (drop used w)) last
         → next_piece walk.at.at (drop used w) last ≡ item
     as_read e = read_rest w last walk.at.at used e
 
@@ -167,17 +167,17 @@ module _ {rules : Rules} {walk₀ : Walk} {w : List ℕ} {last : Bool} {out₀ :
       pub stops_full : length out - written < line_room → TakeGives (stays walk) used written out r after → Ended r after
       stops_full h = stops (walk_full rules walk (drop used w) last _ h)
 
-      module _ {item : Next} (h : line_room ≤ length out - written) (e : next_piece walk.at.at (drop used w) last ≡ item) where
+      module _ {item : NextRead} (h : line_room ≤ length out - written) (e : next_piece walk.at.at (drop used w) last ≡ item) where
         pub stops_item : OneOf (1 ∷ 2 ∷ 3 ∷ []) (tag_of the_type item) → TakeGives (stops_at item walk) used written out r after
             → Ended r after
         stops_item k = stops (walk_stops rules walk (drop used w) last _ h item k e)
 
-        pub stops_refused : {p : packet.Packet} {c : Cursor} {n : ℕ} {named : Next} → item ≡ Packet p c
-            → n ≡ number_of walk.state.past p → (n ≡ 0 → ⊥) → named ≡ Refused n walk.at.at packet_bytes
+        pub stops_refused : {p : packet.Packet} {c : Cursor} {n : ℕ} {named : NextRead} → item ≡ next_packet p c
+            → n ≡ number_of walk.state.past p → (n ≡ 0 → ⊥) → named ≡ next_refused n walk.at.at packet_bytes
             → TakeGives (stops_at named walk) used written out r after → Ended r after
         stops_refused i f some g =
             let refuses = walk_refuses rules walk (drop used w) last _ h (e ∙ i) _ f some in
-            stops (refuses ∙ ap (λ (x : Next). stops_at x walk) (sym g))
+            stops (refuses ∙ ap (λ (x : NextRead). stops_at x walk) (sym g))
 
   -- a packet goes on
   module _ {l : Loop rules walk₀ w last out₀ walk used written out} {p : packet.Packet} {c : Cursor} (h : Here l p c) where
@@ -219,7 +219,7 @@ module _ (walk : Walk) (w : List ℕ) (last : Bool) (out : List ℕ) {r : TakeAn
   take_full h t = rw (lt-ltb (length out) line_room h) t
 
   module _ (h : line_room ≤ length out) where
-    pub take_9 : in_range walk.state ≡ false → TakeGives (stops_at (Refused 9 0 0) walk) 0 0 out r after
+    pub take_9 : in_range walk.state ≡ false → TakeGives (stops_at (next_refused 9 0 0) walk) 0 0 out r after
         → TakeGives (take_of walk w last (length out)) 0 0 out r after
     unfolding take_of
     take_9 e t = rw (le-ltb (length out) line_room h, e) t

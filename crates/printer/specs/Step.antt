@@ -1,5 +1,5 @@
 -- A file in pieces, step by step: what its start answers, and what a call takes of a window and writes; what the contracts cite.
-use Rattle.std.specs.Prelude.{◌≡◌, ◌++◌, ◌+◌, ◌-◌, ◌/◌, ◌≤◌, Err, Ok}
+use Rattle.std.specs.Prelude.{◌≡◌, ◌++◌, ◌+◌, ◌-◌, ◌/◌, ◌≤◌, Err, Ok, Some, None}
 use Rattle.laws.specs.Kit.{Bool, false, not, List, [], ℕ, zero, suc, ltb, eqb, length, drop, sets}
 use Rattle.laws.specs.Choose.{pick}
 use Rattle.packet.specs.declared.Packet as packet
@@ -7,10 +7,9 @@ use Rattle.packet.specs.Step.{number_of}
 use Rattle.text.specs.Lines.{refusal_line, line_room}
 use Rattle.record.specs.declared.Cursor.{Cursor}
 use Rattle.record.specs.declared.FileNumbers.{FileNumbers}
-use Rattle.record.specs.declared.Head.{Head}
-use Rattle.record.specs.declared.Head.TheVariants as head
-use Rattle.record.specs.declared.Next.{Next}
-use Rattle.record.specs.declared.Next.TheVariants.{Packet, End, More, Refused}
+use Rattle.record.specs.Step.{HeadRead, next_refused, next_end, next_more}
+use Rattle.record.specs.Step.{NextRead}
+use Rattle.record.specs.declared.Next.TheVariants.{Packet, End, More}
 use Rattle.record.specs.Paper.{packet_bytes, head_bytes, heading}
 use Rattle.record.specs.Walk.{numbers_of}
 use Rattle.record.specs.Step.{head_piece, next_piece}
@@ -37,10 +36,10 @@ ready_by (Err number) c = Unopened number 1
 unfoldable pub ready_of : FileNumbers → Cursor → Opened
 ready_of x c = ready_by (set_up_as (of_profile x.profile x.parameters)) c
 
-abbrev pub head_by : Head → Opened
-head_by (head.Ready version kind x c) = ready_of (numbers_of (heading version kind x)) c
-head_by head.More = Wanting
-head_by (head.Refused number offset) = Unopened number offset
+abbrev pub head_by : HeadRead → Opened
+head_by (Ok (Some r)) = ready_of (numbers_of (heading r.version r.kind r.parameters)) r.next
+head_by (Ok None) = Wanting
+head_by (Err r) = Unopened r.number r.place
 
 unfoldable pub begin_of : List ℕ → Bool → Opened
 begin_of w last = head_by (head_piece w last)
@@ -72,16 +71,16 @@ pub record TakeOutcome : Type 0 where
   pub ended : Bool
 
 -- the last line where this stands: none where more is wanted
-unfoldable pub line_of : Next → State → List ℕ
-line_of (Packet p c) s = sum_line s
-line_of End s = sum_line s
-line_of More s = []
-line_of (Refused number offset size) s = refusal_line number offset
+unfoldable pub line_of : NextRead → State → List ℕ
+line_of (Ok (Packet p c)) s = sum_line s
+line_of (Ok End) s = sum_line s
+line_of (Ok More) s = []
+line_of (Err r) s = refusal_line r.number r.offset
 
 abbrev pub stays : Walk → TakeOutcome
 stays walk = record { walk = walk; used = 0; text = []; ended = false }
 
-abbrev pub stops_at : Next → Walk → TakeOutcome
+abbrev pub stops_at : NextRead → Walk → TakeOutcome
 stops_at item walk = record { walk = walk; used = 0; text = line_of item walk.state; ended = not (wants_more item) }
 
 -- some bytes used and lines written, and then the rest
@@ -101,13 +100,13 @@ abbrev pub packet_by : Rules → Walk → ℕ → (Walk → ℕ → TakeOutcome)
 packet_by rules walk room on p c =
     pick (eqb (number_of walk.state.past p) 0)
     (and_then packet_bytes (lines_at rules walk p) (on (stepped rules walk p c) (room - length (lines_at rules walk p))))
-    (stops_at (Refused (number_of walk.state.past p) walk.at.at packet_bytes) walk)
+    (stops_at (next_refused (number_of walk.state.past p) walk.at.at packet_bytes) walk)
 
-abbrev pub item_by : Rules → Walk → ℕ → (Walk → ℕ → TakeOutcome) → Next → TakeOutcome
-item_by rules walk room on (Packet p c) = packet_by rules walk room on p c
-item_by rules walk room on End = stops_at End walk
-item_by rules walk room on More = stops_at More walk
-item_by rules walk room on (Refused number offset size) = stops_at (Refused number offset size) walk
+abbrev pub item_by : Rules → Walk → ℕ → (Walk → ℕ → TakeOutcome) → NextRead → TakeOutcome
+item_by rules walk room on (Ok (Packet p c)) = packet_by rules walk room on p c
+item_by rules walk room on (Ok End) = stops_at next_end walk
+item_by rules walk room on (Ok More) = stops_at next_more walk
+item_by rules walk room on (Err r) = stops_at (next_refused r.number r.offset r.size) walk
 
 -- record by record, by at most so many: while there is room for a line, until more is wanted or the last line is written
 unfoldable pub walk_by : ℕ → Rules → Walk → List ℕ → Bool → ℕ → TakeOutcome
@@ -124,7 +123,7 @@ walk_of rules walk w last room = walk_by (suc (length w / packet_bytes)) rules w
 unfoldable pub take_of : Walk → List ℕ → Bool → ℕ → TakeOutcome
 take_of walk w last room =
     pick (ltb room line_room) (stays walk)
-    (pick (in_range walk.state) (walk_of (rules_of walk.state.numbers) walk w last room) (stops_at (Refused 9 0 0) walk))
+    (pick (in_range walk.state) (walk_of (rules_of walk.state.numbers) walk w last room) (stops_at (next_refused 9 0 0) walk))
 
 -- ---- what the parts of the code ask and give
 

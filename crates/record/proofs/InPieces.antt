@@ -1,15 +1,14 @@
 -- A file in pieces reads as the whole, on one page: a piece's answer is the whole file's or More; More comes only where the next bytes
 -- decide, and never of a last window or one of 65,537 bytes (65,538 with the version byte); and whatever the pieces, the answers are the
 -- whole file's. The work on one window is in Window; the pieces go by the steps still allowed.
-use Rattle.std.specs.Prelude.{◌≡◌, ◌∷◌, ◌++◌}
+use Rattle.std.specs.Prelude.{◌≡◌, ◌∷◌, ◌++◌, Ok, Err, Some, None}
 use Rattle.laws.specs.Kit.{refl, sym, ap, subst, ◌∙◌, Bool, true, false, List, [], append-nil, append_assoc, flatten, ℕ}
 use Rattle.std.specs.Prelude.{◌+◌, ◌≤◌, ◌<◌}
 use Rattle.laws.specs.Kit.{zero, suc, arith, length, drop, get_or, length-append, length-drop, drop-append-le}
 use Rattle.laws.specs.Choose.{pick}
 use Rattle.endian.proofs.Width.{bytes_all}
-use Rattle.record.specs.declared.Head.{Head}
-use Rattle.record.specs.declared.Head.TheVariants as head
-use Rattle.record.specs.declared.Next.{Next}
+use Rattle.record.specs.Step.{HeadRead, head_ready}
+use Rattle.record.specs.Step.{NextRead}
 use Rattle.record.specs.Step.{head_piece, head_read, next_piece, next_read}
 use Rattle.record.specs.Pieces.{reading_goes_on, next_at, taken, wants_more, head_waits, heard, answers, all_answers, in_pieces, all_in_pieces}
 use Rattle.record.proofs.Saying.{SaysHead, head_says}
@@ -49,7 +48,7 @@ head_alone w false m = piece_head w [] m ∙ ap head_read (append-nil w)
 
 -- ---- steps, after the head
 
-continue : (i : Next) (at j : ℕ) (held rest : List ℕ) (more : List Next) → i ≡ next_read at (held ++ rest) → taken i ≤ length held
+continue : (i : NextRead) (at j : ℕ) (held rest : List ℕ) (more : List NextRead) → i ≡ next_read at (held ++ rest) → taken i ≤ length held
     → (reading_goes_on i ≡ true → more ≡ answers j (next_at i) (drop (taken i) held ++ rest))
     → i ∷ pick (reading_goes_on i) more [] ≡ answers (suc j) at (held ++ rest)
 unfolding answers
@@ -64,18 +63,18 @@ module _ (k at : ℕ) (held p : List ℕ) (pieces : List (List ℕ)) where
   unfolding in_pieces
   step_more m = rw m
 
-  step_item : (i : Next) → next_piece at held false ≡ i → wants_more i ≡ false
+  step_item : (i : NextRead) → next_piece at held false ≡ i → wants_more i ≡ false
       → in_pieces (suc k) at held (p ∷ pieces) ≡ i ∷ pick (reading_goes_on i) (in_pieces k (next_at i) (drop (taken i) held) (p ∷ pieces)) []
   unfolding in_pieces
   step_item i e m = rw (e, m)
 
-step_last : (k at : ℕ) (held : List ℕ) (i : Next) → next_piece at held true ≡ i
+step_last : (k at : ℕ) (held : List ℕ) (i : NextRead) → next_piece at held true ≡ i
     → in_pieces (suc k) at held [] ≡ i ∷ pick (reading_goes_on i) (in_pieces k (next_at i) (drop (taken i) held) []) []
 unfolding in_pieces
 step_last k at held i e = rw e
 
 -- what is left after an answer is shorter
-shorter : (i : Next) (held rest : List ℕ) → taken i ≤ length held → 0 < taken i
+shorter : (i : NextRead) (held rest : List ℕ) → taken i ≤ length held → 0 < taken i
     → length (drop (taken i) held ++ rest) < length (held ++ rest)
 shorter i held rest t p =
     omega (arith, length-append (drop (taken i) held) rest, length-append held rest, length-drop (taken i) held)
@@ -96,7 +95,7 @@ joined (suc k) (suc j) at held (p ∷ pieces) a b =
     (λ m n. joined k (suc j) at (held ++ p) pieces m n)
     (λ m n. joined k j (next_at (next_read at held)) (drop (taken (next_read at held)) held) (p ∷ pieces) m n)
   where
-    i : Next
+    i : NextRead
     i = next_read at held
 
     rest : List ℕ
@@ -122,12 +121,12 @@ joined (suc k) (suc j) at held (p ∷ pieces) a b =
 -- ---- from the first byte
 
 -- what follows a head that the held bytes show
-heard_on : (held : List ℕ) (y : Head) (f g : ℕ → List Next) → SaysHead held y → (head_bytes ≤ length held → (at : ℕ) → f at ≡ g at)
+heard_on : (held : List ℕ) (y : HeadRead) (f g : ℕ → List NextRead) → SaysHead held y → (head_bytes ≤ length held → (at : ℕ) → f at ≡ g at)
     → heard y f ≡ heard y g
-heard_on held (head.Ready version kind x c) f g s same =
-    ap (λ (l : List Next). record { head = head.Ready version kind x c; after = l }) (same s.nineteen c.at)
-heard_on held head.More f g s same = refl
-heard_on held (head.Refused n o) f g s same = refl
+heard_on held (Ok (Some r)) f g s same =
+    ap (λ (l : List NextRead). record { head = head_ready r.version r.kind r.parameters r.next; after = l }) (same s.nineteen r.next.at)
+heard_on held (Ok None) f g s same = refl
+heard_on held (Err r) f g s same = refl
 
 module _ (k j : ℕ) where
   shown : (held : List ℕ) (pieces : List (List ℕ)) (last : Bool) → length (held ++ flatten pieces) + length pieces < k
@@ -142,7 +141,7 @@ module _ (k j : ℕ) where
       let size : length (drop head_bytes held ++ flatten pieces) ≤ length (held ++ flatten pieces)
       = omega (arith, length-append (drop head_bytes held) (flatten pieces), length-append held (flatten pieces), length-drop head_bytes held) in
       joined k j at (drop head_bytes held) pieces (omega (arith, size)) (omega (arith, size)) ∙ ap (answers j at) (sym split))
-      ∙ ap (λ (y : Head). heard y (λ at. answers j at (drop head_bytes (held ++ flatten pieces)))) whole
+      ∙ ap (λ (y : HeadRead). heard y (λ at. answers j at (drop head_bytes (held ++ flatten pieces)))) whole
 
   all_joined : (held : List ℕ) (pieces : List (List ℕ)) → length (held ++ flatten pieces) + length pieces < k
       → length (held ++ flatten pieces) < j → all_in_pieces k held pieces ≡ all_answers j (held ++ flatten pieces)

@@ -3,7 +3,7 @@ use Rattle.std.specs.Prelude.{◌≡◌}
 use Rattle.laws.specs.Kit.{sym, ap, ◌∙◌, List, ℕ}
 use Rattle.laws.proofs.Unique.{one_answer}
 use Rattle.packet.specs.Paper.{packets}
-use Rattle.record.specs.declared.Written.{Written}
+use Rattle.record.specs.Write.{Written}
 use Rattle.record.specs.Paper.{Heading}
 use Rattle.record.specs.Layout.{bytes_in}
 use Rattle.record.specs.Write.{left_by, WriteGives}

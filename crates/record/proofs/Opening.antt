@@ -1,5 +1,5 @@
 -- The check of a whole file from its first byte: what its head makes of it.
-use Rattle.std.specs.Prelude.{◌≡◌, ◌∷◌, ◌<◌}
+use Rattle.std.specs.Prelude.{◌≡◌, ◌∷◌, ◌<◌, Ok, Err, Some, None}
 use Rattle.laws.specs.Kit.{refl, sym, ap, subst, ◌∙◌, List, [], ℕ, arith, ℕ_discrete, drop, ne_eqb}
 use types.Run.{OneOf, miss}
 use denote.Enum.Declared.{tag_of}
@@ -11,12 +11,10 @@ use Rattle.packet.specs.Step.{nothing, no_packets}
 use Rattle.packet.proofs.Declared.{tally_declared}
 use Rattle.record.specs.declared.Cursor.{Cursor}
 use Rattle.record.specs.declared.FileNumbers.{FileNumbers}
-use Rattle.record.specs.declared.Head.{Head}
-use Rattle.record.specs.declared.Head.TheVariants.{Ready, More, Refused}
-use Rattle.record.specs.declared.Checked.TheVariants as answer
+use Rattle.record.specs.Step.{HeadRead, head_ready}
 use Rattle.record.specs.Paper.{head_bytes, Heading, heading, Ending, done, stopped, Packets, packets_in, ended_file, numbers_refusal}
 use Rattle.record.specs.Step.{head_read}
-use Rattle.record.specs.Walk.{numbers_of, as_checked, checked_of, finish_by, finish, refused_by}
+use Rattle.record.specs.Walk.{numbers_of, as_checked, checked_of, finish_by, finish, refused_by, checked_refused}
 use Rattle.record.specs.contracts.Head.{the_type}
 use Rattle.record.proofs.Saying.{Stood, SaysHead, head_says, reads_refused, reads_packets}
 
@@ -29,23 +27,23 @@ finish_checked h r = go r.ending
     go (stopped n o) = refl
 
 -- a head that is none
-pub refused_none : (h : Head) → OneOf (0 ∷ 1 ∷ []) (tag_of the_type h) → answer.Refused 0 0 ≡ refused_by h
+pub refused_none : (h : HeadRead) → OneOf (0 ∷ 1 ∷ []) (tag_of the_type h) → checked_refused 0 0 ≡ refused_by h
 unfolding refused_by
-refused_none (Ready version kind parameters c) k = refl
-refused_none More k = refl
-refused_none (Refused n o) k = absurd (miss (0 ∷ 1 ∷ []) 2 tt k)
+refused_none (Ok (Some r)) k = refl
+refused_none (Ok None) k = refl
+refused_none (Err r) k = absurd (miss (0 ∷ 1 ∷ []) 2 tt k)
 
 module _ (edition : ℕ) (s : List ℕ) where
-  pub opens_not : (h : Head) → OneOf (1 ∷ 2 ∷ []) (tag_of the_type h) → h ≡ head_read s → refused_by h ≡ checked_of edition s
+  pub opens_not : (h : HeadRead) → OneOf (1 ∷ 2 ∷ []) (tag_of the_type h) → h ≡ head_read s → refused_by h ≡ checked_of edition s
   unfolding refused_by checked_of
   opens_not h k e = go h k (subst (SaysHead s) (sym e) (head_says s))
     where
-      go : (h : Head) → OneOf (1 ∷ 2 ∷ []) (tag_of the_type h) → SaysHead s h → refused_by h ≡ checked_of edition s
-      go (Ready version kind parameters c) k w = absurd (miss (1 ∷ 2 ∷ []) 0 tt k)
-      go More k w = absurd w
-      go (Refused n o) k w = rw w
+      go : (h : HeadRead) → OneOf (1 ∷ 2 ∷ []) (tag_of the_type h) → SaysHead s h → refused_by h ≡ checked_of edition s
+      go (Ok (Some r)) k w = absurd (miss (1 ∷ 2 ∷ []) 0 tt k)
+      go (Ok None) k w = absurd w
+      go (Err r) k w = rw w
 
-  module _ {h : Head} {version kind : ℕ} {parameters : Parameters} {c : Cursor} (r : h ≡ head_read s) (e : h ≡ Ready version kind parameters c)
+  module _ {h : HeadRead} {version kind : ℕ} {parameters : Parameters} {c : Cursor} (r : h ≡ head_read s) (e : h ≡ head_ready version kind parameters c)
     where
       here : Stood s version kind parameters c
       here = subst (SaysHead s) (sym r ∙ e) (head_says s)
@@ -63,21 +61,21 @@ module _ (edition : ℕ) (s : List ℕ) where
         same_refusal = sym (ap (λ (x : FileNumbers). set_up_refusal x.profile x.parameters) q)
 
         -- 1 to 7 by the file itself, 8 by what stands beside it
-        own_refused : 0 < set_up_refusal profile numbers → answer.Refused (set_up_in profile numbers edition) 1 ≡ checked_of edition s
+        own_refused : 0 < set_up_refusal profile numbers → checked_refused (set_up_in profile numbers edition) 1 ≡ checked_of edition s
         unfolding checked_of
         own_refused p =
             rw (in_first profile numbers edition p, reads_refused here (set_up_refusal profile numbers) same_refusal p)
 
         edition_refused : set_up_refusal profile numbers ≡ 0 → 0 < edition_refusal edition
-            → answer.Refused (set_up_in profile numbers edition) 1 ≡ checked_of edition s
+            → checked_refused (set_up_in profile numbers edition) 1 ≡ checked_of edition s
         unfolding checked_of
         edition_refused f p =
             rw (in_edition profile numbers edition f, reads_packets here (same_refusal ∙ f), ne_eqb (edition_refusal edition) 0 (λ z. omega arith))
 
-        pub opens_refused : (n : ℕ) → set_up_in profile numbers edition ≡ n → 0 < n → answer.Refused n 1 ≡ checked_of edition s
+        pub opens_refused : (n : ℕ) → set_up_in profile numbers edition ≡ n → 0 < n → checked_refused n 1 ≡ checked_of edition s
         opens_refused n f p = rw (sym f) (go (ℕ_discrete (set_up_refusal profile numbers) 0))
           where
-            go : Dec (set_up_refusal profile numbers ≡ 0) → answer.Refused (set_up_in profile numbers edition) 1 ≡ checked_of edition s
+            go : Dec (set_up_refusal profile numbers ≡ 0) → checked_refused (set_up_in profile numbers edition) 1 ≡ checked_of edition s
             go (yes z) = edition_refused z (omega (arith, in_edition profile numbers edition z))
             go (no z) = own_refused (omega arith)
 

@@ -17,10 +17,9 @@ use Rattle.packet.proofs.Turn.{scan_goes, ready_accepted, fine_ready}
 use Rattle.packet.proofs.Declared.{tally_declared, scan_declared, fine_count}
 use Rattle.packet.proofs.Latest.{run_goes, run_scans}
 use Rattle.record.specs.declared.FileNumbers.{FileNumbers}
-use Rattle.record.specs.declared.Checked.TheVariants as answer
 use Rattle.record.specs.Paper.{packet_bytes, packet_at, format_refusal, done, more, packets_in}
 use Rattle.record.specs.Step.{stands_in}
-use Rattle.record.specs.Walk.{fine_with, finish, records_left, ran_in}
+use Rattle.record.specs.Walk.{fine_with, finish, records_left, ran_in, checked_fine}
 use Rattle.record.proofs.Reading.{packets_end, packets_go}
 use Rattle.record.proofs.Saying.{Says, next_says}
 use Rattle.record.proofs.Standing.{stands, stands_packet}
@@ -131,7 +130,7 @@ pieces_read (suc k) r z l past begun closed at n e f s =
 
 pub quick_finish : (numbers : FileNumbers) (at : ℕ) (l : List ℕ) (k : ℕ) {z : Run} → 0 < k → length l ≡ packet_bytes * k
     → ran_in (start_of nothing false) k l ≡ Some z → admits_of nothing k (packet_at l).time z.last ≡ true
-    → answer.Fine numbers k (closed_by z) ≡ finish numbers no_packets (packets_in nothing at l)
+    → checked_fine numbers k (closed_by z) ≡ finish numbers no_packets (packets_in nothing at l)
 unfolding pieces
 quick_finish numbers at l zero {z} h f e a = absurd (omega arith)
 quick_finish numbers at l (suc k) {z} h f e a =

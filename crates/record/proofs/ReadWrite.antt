@@ -11,8 +11,7 @@ use Rattle.packet.specs.Paper.{marked, packets, OneLength}
 use Rattle.packet.specs.Step.{nothing, number_of, next_of, closes, scan_of}
 use Rattle.packet.proofs.Lent.{packets_length}
 use Rattle.packet.proofs.Turn.{scan_ends, scan_goes, lengths_same}
-use Rattle.record.specs.declared.Written.{Written}
-use Rattle.record.specs.declared.Written.TheVariants.{Done}
+use Rattle.record.specs.Write.{Written}
 use Rattle.record.specs.Write.{file_length, heading_refusal, WriteGives}
 use Rattle.record.specs.Paper.{parameters_bytes, packet_bytes, head_bytes, numbers_refusal}
 use Rattle.record.specs.Paper.{version_of, version_fits, kind_of, parameters_at, packet_at, Heading, format_refusal, parameters_refusal}
@@ -159,7 +158,7 @@ module _ (s : List ℕ) (b : Bytes s) where
   -- the writer, given room for the file, writes it again
   pub writer_again : (h : Heading) (ts ss ms out after : List ℕ) (w : Written) → OneLength ts ss ms
       → file_of s ≡ file h (packets ts ss ms) → length s ≤ length out → WriteGives h ts ss ms out w after
-      → (w ≡ Done (length s)) × (take (length s) after ≡ s)
+      → (w ≡ Ok (length s)) × (take (length s) after ≡ s)
   writer_again h ts ss ms out after w same e room gives =
       let ps = packets ts ss ms in
       let again = file_again h ps e in
@@ -167,7 +166,7 @@ module _ (s : List ℕ) (b : Bytes s) where
       let size : file_length (length ts) ≡ length s =
       sym (length_file h ps ∙ ap file_length (packets_length ts ss ms same)) ∙ ap length again in
       let scanned = lengths_same nothing false ts ss ms same ∙ holds.scan_fine in
-      let done_so : w ≡ Done (length s) =
-      gives.answered ∙ sym (answers_done h ts ss ms (length out) holds.writable scanned (omega arith)) ∙ ap Done size in
+      let done_so : w ≡ Ok (length s) =
+      gives.answered ∙ sym (answers_done h ts ss ms (length out) holds.writable scanned (omega arith)) ∙ ap Ok size in
       let wrote = subst (λ v. WriteGives h ts ss ms out v after) done_so gives in
       (done_so, writes_done h ts ss ms out after (length s) wrote ∙ again)

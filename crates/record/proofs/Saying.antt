@@ -1,5 +1,5 @@
 -- What the reader answers, in the words of the rules: a predicate on the answer, proved once for every answer. By what stands in front.
-use Rattle.std.specs.Prelude.{◌≡◌, ◌∷◌, ◌≤◌, ◌<◌}
+use Rattle.std.specs.Prelude.{◌≡◌, ◌∷◌, ◌≤◌, ◌<◌, Ok, Err, Some, None}
 use Rattle.laws.specs.Kit.{refl, sym, ap, subst, ◌∙◌, Bool, true, false, List, [], ℕ, arith, ℕ_discrete, eqb, length}
 use Rattle.laws.specs.Kit.{drop}
 use Rattle.laws.specs.Choose.{pick}
@@ -8,10 +8,9 @@ use Rattle.limits.specs.declared.Parameters.{Parameters}
 use Rattle.packet.specs.Step.{nothing}
 use Rattle.record.specs.declared.Cursor.{Cursor}
 use Rattle.record.specs.declared.Framed.{Framed}
-use Rattle.record.specs.declared.Head.{Head}
-use Rattle.record.specs.declared.Head.TheVariants as head
-use Rattle.record.specs.declared.Next.{Next}
-use Rattle.record.specs.declared.Next.TheVariants.{Packet, End, More, Refused}
+use Rattle.record.specs.Step.{HeadRead, head_refused, next_packet}
+use Rattle.record.specs.Step.{NextRead}
+use Rattle.record.specs.declared.Next.TheVariants.{Packet, End, More}
 use Rattle.record.specs.Paper.{packet_bytes, head_bytes, numbers_refusal}
 use Rattle.record.specs.Paper.{version_known, version_of, version_fits, body_length, kind_of, is_parameters, kind_length, parameters_at}
 use Rattle.record.specs.Paper.{format_refusal}
@@ -27,11 +26,11 @@ use Rattle.record.proofs.Reading.{parameters_here, heading_of, reading_20, readi
 
 -- what an answer says of the rest of the file: a packet whose format is not refused, nothing left, or the number of the format with
 -- the record's own offset, and how far behind it the next one begins, which is no further than the end
-abbrev pub Says : ℕ → List ℕ → Next → Type 0
-Says at l (Packet p c) = (format_refusal false l ≡ 0) × (packet_of l (after at packet_bytes) ≡ Packet p c)
-Says at l End = length l ≡ 0
-Says at l More = ⊥
-Says at l (Refused n o size) = (0 < length l) × (format_refusal false l ≡ n) × (0 < n) × (o ≡ at) × (size ≡ step_over n l) × (size ≤ length l)
+abbrev pub Says : ℕ → List ℕ → NextRead → Type 0
+Says at l (Ok (Packet p c)) = (format_refusal false l ≡ 0) × (packet_of l (after at packet_bytes) ≡ next_packet p c)
+Says at l (Ok End) = length l ≡ 0
+Says at l (Ok More) = ⊥
+Says at l (Err r) = (0 < length l) × (format_refusal false l ≡ r.number) × (0 < r.number) × (r.offset ≡ at) × (r.size ≡ step_over r.number l) × (r.size ≤ length l)
 
 pub next_says : (at : ℕ) (l : List ℕ) → Says at l (next_read at l)
 unfolding next_piece whole_of
@@ -68,10 +67,10 @@ pub record Stood (s : List ℕ) (version kind : ℕ) (parameters : Parameters) (
   pub parameters_are : parameters ≡ parameters_at (drop 1 s)
 
 -- what an answer says of the file: it stands so, or this is what it reads as
-abbrev pub SaysHead : List ℕ → Head → Type 0
-SaysHead s (head.Ready version kind parameters c) = Stood s version kind parameters c
-SaysHead s head.More = ⊥
-SaysHead s (head.Refused n o) = reading_of s ≡ unread n o
+abbrev pub SaysHead : List ℕ → HeadRead → Type 0
+SaysHead s (Ok (Some r)) = Stood s r.version r.kind r.parameters r.next
+SaysHead s (Ok None) = ⊥
+SaysHead s (Err r) = reading_of s ≡ unread r.number r.place
 
 module _ (b : ℕ) (l : List ℕ) (v : version_known b ≡ true) where
   stops : (n : ℕ) → format_refusal true l ≡ n → 0 < n → reading_of (b ∷ l) ≡ unread n 1
@@ -118,7 +117,7 @@ unfolding head_piece
 head_says [] = reading_20 [] (sym (other_version 0 (λ e. omega arith) (λ e. omega arith)))
 head_says (b ∷ l) = subst (SaysHead (b ∷ l)) (sym (head_cons b l true)) (go (version_known b) refl)
   where
-    go : (t : Bool) → version_known b ≡ t → SaysHead (b ∷ l) (pick t (head_by b l (framed_of l true)) (head.Refused 20 0))
+    go : (t : Bool) → version_known b ≡ t → SaysHead (b ∷ l) (pick t (head_by b l (framed_of l true)) (head_refused 20 0))
     go true v = first_says b l v
     go false v = reading_20 (b ∷ l) v
 

@@ -7,9 +7,8 @@ use Rattle.laws.proofs.Choose.{pick_either, false_true}
 use Rattle.endian.specs.Number.{number_of}
 use Rattle.record.specs.declared.Framed.{Framed}
 use Rattle.record.specs.declared.Framed.TheVariants as framed
-use Rattle.record.specs.declared.Head.{Head}
-use Rattle.record.specs.declared.Head.TheVariants as head
-use Rattle.record.specs.declared.Next.{Next}
+use Rattle.record.specs.Step.{HeadRead, head_refused}
+use Rattle.record.specs.Step.{NextRead}
 use Rattle.record.specs.Paper.{version_known, body_length, kind_of, is_parameters, kind_length}
 use Rattle.record.specs.Step.{framed_of, first_of, head_by, head_piece, head_read, whole_of, next_by, next_piece, next_read}
 use Rattle.record.specs.Pieces.{read_number, wants_more, head_waits, head_number, Depends, HeadDepends}
@@ -61,7 +60,7 @@ apart w e = go w (front w) e
 not_21 : (at body kind : ℕ) (l : List ℕ) → read_number (whole_of at body kind l) ≡ 21 → ⊥
 unfolding whole_of
 not_21 at body kind l =
-    let P : Next → Type 0 = λ r. read_number r ≡ 21 → ⊥ in
+    let P : NextRead → Type 0 = λ r. read_number r ≡ 21 → ⊥ in
     pick_either P (eqb body (kind_length kind))
     (λ e. pick_either P (is_parameters kind) (λ p z. omega arith) (λ p z. omega arith)) (λ e z. omega arith)
 
@@ -103,7 +102,7 @@ more_needed at w m = go (framed_of w false) refl
 first_not_21 : (version body kind : ℕ) (l : List ℕ) → head_number (first_of version body kind l) ≡ 21 → ⊥
 unfolding first_of
 first_not_21 version body kind l =
-    let P : Head → Type 0 = λ r. head_number r ≡ 21 → ⊥ in
+    let P : HeadRead → Type 0 = λ r. head_number r ≡ 21 → ⊥ in
     pick_either P (eqb body (kind_length kind))
     (λ e. pick_either P (is_parameters kind) (λ p z. omega arith) (λ p z. omega arith)) (λ e z. omega arith)
 
@@ -159,5 +158,5 @@ head_needed (b ∷ l) m = go (version_known b) refl
         let same : head_piece (b ∷ l) false ≡ head_by b l (framed_of l false) = head_cons b l false ∙ rw v in
         first_needed b v l (sym (ap head_waits same) ∙ m)
     go false v =
-        let same : head_piece (b ∷ l) false ≡ head.Refused 20 0 = head_cons b l false ∙ rw v in
+        let same : head_piece (b ∷ l) false ≡ head_refused 20 0 = head_cons b l false ∙ rw v in
         absurd (false_true (sym (ap head_waits same) ∙ m))

@@ -9,11 +9,9 @@ use Rattle.laws.specs.Choose.{pick}
 use Rattle.laws.proofs.Choose.{pick_either}
 use Rattle.record.specs.declared.Framed.{Framed}
 use Rattle.record.specs.declared.Framed.TheVariants as framed
-use Rattle.record.specs.declared.Head.TheVariants as head
-use Rattle.record.specs.declared.Next.TheVariants as next
 use Rattle.record.specs.Paper.{packet_bytes, head_bytes, version_known, version_of, version_fits, first_class, class_in, body_length}
 use Rattle.record.specs.Paper.{is_parameters, kind_length, parameters_at, packet_at}
-use Rattle.record.specs.Step.{cursor, after, packet_of, scrap_of, framed_of, Whole, first_of, head_by, head_piece, whole_of, next_by, next_piece}
+use Rattle.record.specs.Step.{cursor, after, packet_of, scrap_of, framed_of, Whole, first_of, head_by, head_piece, whole_of, next_by, next_piece, head_more, head_ready, head_refused, next_refused}
 use Rattle.record.proofs.Format.{framed_short}
 
 -- ---- versions
@@ -101,25 +99,25 @@ is_whole w last e q = subst (Frames w last) (sym e ∙ q) (frames w last)
 
 -- the first record, and any other
 module _ (version body kind : ℕ) (l : List ℕ) where
-  pub first_22 : (body ≡ kind_length kind → ⊥) → first_of version body kind l ≡ head.Refused 22 1
+  pub first_22 : (body ≡ kind_length kind → ⊥) → first_of version body kind l ≡ head_refused 22 1
   unfolding first_of
   first_22 n = rw (ne_eqb body (kind_length kind) n)
 
-  pub first_23 : body ≡ kind_length kind → is_parameters kind ≡ false → first_of version body kind l ≡ head.Refused 23 1
+  pub first_23 : body ≡ kind_length kind → is_parameters kind ≡ false → first_of version body kind l ≡ head_refused 23 1
   unfolding first_of
   first_23 e p = rw (eq-eqb body (kind_length kind) e, p)
 
   pub first_ready : body ≡ kind_length kind → is_parameters kind ≡ true
-      → first_of version body kind l ≡ head.Ready version kind (parameters_at l) (cursor head_bytes)
+      → first_of version body kind l ≡ head_ready version kind (parameters_at l) (cursor head_bytes)
   unfolding first_of
   first_ready e p = rw (eq-eqb body (kind_length kind) e, p)
 
 module _ (at body kind : ℕ) (l : List ℕ) where
-  pub whole_22 : (body ≡ kind_length kind → ⊥) → whole_of at body kind l ≡ next.Refused 22 at (2 + body)
+  pub whole_22 : (body ≡ kind_length kind → ⊥) → whole_of at body kind l ≡ next_refused 22 at (2 + body)
   unfolding whole_of
   whole_22 n = rw (ne_eqb body (kind_length kind) n)
 
-  pub whole_23 : body ≡ kind_length kind → is_parameters kind ≡ true → whole_of at body kind l ≡ next.Refused 23 at (2 + body)
+  pub whole_23 : body ≡ kind_length kind → is_parameters kind ≡ true → whole_of at body kind l ≡ next_refused 23 at (2 + body)
   unfolding whole_of
   whole_23 e p = rw (eq-eqb body (kind_length kind) e, p)
 
@@ -139,16 +137,16 @@ next_framed at w last e q = ap (next_by at w) (sym q ∙ e)
 
 -- the version byte
 module _ (w : List ℕ) (last : Bool) where
-  pub head_none : length w ≡ 0 → last ≡ true → head_piece w last ≡ head.Refused 20 0
+  pub head_none : length w ≡ 0 → last ≡ true → head_piece w last ≡ head_refused 20 0
   unfolding head_piece
   head_none h e = rw (eq-eqb (length w) 0 h, e)
 
-  pub head_waits_for_more : length w ≡ 0 → last ≡ false → head_piece w last ≡ head.More
+  pub head_waits_for_more : length w ≡ 0 → last ≡ false → head_piece w last ≡ head_more
   unfolding head_piece
   head_waits_for_more h e = rw (eq-eqb (length w) 0 h, e)
 
   module _ (h : length w ≡ 0 → ⊥) where
-    pub head_unknown : version_fits w ≡ false → head_piece w last ≡ head.Refused 20 0
+    pub head_unknown : version_fits w ≡ false → head_piece w last ≡ head_refused 20 0
     unfolding head_piece
     head_unknown e = rw (ne_eqb (length w) 0 h, e)
 
@@ -157,7 +155,7 @@ module _ (w : List ℕ) (last : Bool) where
     head_first e = rw (ne_eqb (length w) 0 h, e)
 
 pub head_cons : (b : ℕ) (l : List ℕ) (last : Bool)
-    → head_piece (b ∷ l) last ≡ pick (version_known b) (head_by b l (framed_of l last)) (head.Refused 20 0)
+    → head_piece (b ∷ l) last ≡ pick (version_known b) (head_by b l (framed_of l last)) (head_refused 20 0)
 unfolding head_piece
 head_cons b l last = rw (ne_eqb (length (b ∷ l)) 0 (λ z. omega arith))
 

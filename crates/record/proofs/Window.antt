@@ -1,6 +1,6 @@
 -- A window that shows enough answers as the whole file does, whatever bytes follow it, and a window of 65,537 bytes shows enough: all
 -- that is looked at lies within the window. The next record and the head both answer by the framing in front (`shown`).
-use Rattle.std.specs.Prelude.{◌≡◌, ◌∷◌, ◌++◌, ◌+◌, ◌≤◌, ◌<◌}
+use Rattle.std.specs.Prelude.{◌≡◌, ◌∷◌, ◌++◌, ◌+◌, ◌≤◌, ◌<◌, Ok, Err, Some, None}
 use Rattle.laws.specs.Kit.{refl, sym, ap, ◌∙◌, Bool, true, false, List, [], ℕ, arith, eqb, length, take}
 use Rattle.laws.specs.Kit.{drop, get_or, length-append, length-drop, get_or-append, take-append-le, drop-append-le, length-take-le}
 use Rattle.laws.specs.Kit.{eqb-true}
@@ -10,10 +10,9 @@ use Rattle.endian.specs.Number.{number_at, Bytes}
 use Rattle.endian.proofs.Width.{number_small, bytes_take}
 use Rattle.record.specs.declared.Framed.{Framed}
 use Rattle.record.specs.declared.Framed.TheVariants as framed
-use Rattle.record.specs.declared.Head.{Head}
-use Rattle.record.specs.declared.Head.TheVariants as head
-use Rattle.record.specs.declared.Next.{Next}
-use Rattle.record.specs.declared.Next.TheVariants.{Packet, End, More, Refused}
+use Rattle.record.specs.Step.{HeadRead, head_ready, head_refused, next_refused, next_packet}
+use Rattle.record.specs.Step.{NextRead}
+use Rattle.record.specs.declared.Next.TheVariants.{Packet, End, More}
 use Rattle.record.specs.Paper.{parameters_bytes, packet_bytes, head_bytes, version_known, body_length, is_parameters, kind_length}
 use Rattle.record.specs.Paper.{parameters_at, packet_at}
 use Rattle.record.specs.Step.{cursor, scrap_of, framed_of, Whole, first_of, head_by, head_piece, head_read}
@@ -73,16 +72,16 @@ module _ (w v : List ℕ) where
 
     next_front : (at : ℕ) → whole_of at body kind (w ++ v) ≡ whole_of at body kind w
     unfolding whole_of
-    next_front at = alike (eqb body (kind_length kind)) (is_parameters kind) (λ l. Refused 23 at (2 + body))
-        (λ l. packet_of l (after at packet_bytes)) (λ l. Refused 22 at (2 + body)) (w ++ v) w (λ t p. refl)
-        (λ t p. ap (λ q. Packet q (after at packet_bytes))
+    next_front at = alike (eqb body (kind_length kind)) (is_parameters kind) (λ l. next_refused 23 at (2 + body))
+        (λ l. packet_of l (after at packet_bytes)) (λ l. next_refused 22 at (2 + body)) (w ++ v) w (λ t p. refl)
+        (λ t p. ap (λ q. next_packet q (after at packet_bytes))
         (packet_front (omega (arith, (packet_room a (eqb-true body (kind_length kind) t) p).inside)))) refl
 
     first_front : (version : ℕ) → first_of version body kind (w ++ v) ≡ first_of version body kind w
     unfolding first_of
     first_front version = alike (eqb body (kind_length kind)) (is_parameters kind)
-        (λ l. head.Ready version kind (parameters_at l) (cursor head_bytes)) (λ l. head.Refused 23 1) (λ l. head.Refused 22 1) (w ++ v) w
-        (λ t p. ap (λ x. head.Ready version kind x (cursor head_bytes))
+        (λ l. head_ready version kind (parameters_at l) (cursor head_bytes)) (λ l. head_refused 23 1) (λ l. head_refused 22 1) (w ++ v) w
+        (λ t p. ap (λ x. head_ready version kind x (cursor head_bytes))
         (parameters_front (omega (arith, (parameter_room a (eqb-true body (kind_length kind) t) p).inside)))) (λ t p. refl) refl
 
 -- ---- more is answered where the framing wants more, and nowhere else
@@ -132,8 +131,8 @@ pub head_same : (w v : List ℕ) (last : Bool) → head_waits (head_piece w fals
 head_same [] v last m = absurd (false_true (sym m ∙ ap head_waits (head_waits_for_more [] false refl refl)))
 head_same (b ∷ l) v last m = head_cons b (l ++ v) last ∙ go (version_known b) refl ∙ sym (head_cons b l false)
   where
-    r : Bool → Head → Head
-    r t h = pick t h (head.Refused 20 0)
+    r : Bool → HeadRead → HeadRead
+    r t h = pick t h (head_refused 20 0)
 
     go : (t : Bool) → version_known b ≡ t → r t (head_by b (l ++ v) (framed_of (l ++ v) last)) ≡ r t (head_by b l (framed_of l false))
     go false e = refl
@@ -166,27 +165,27 @@ pub head_full : (w : List ℕ) (last : Bool) → Bytes w → 65538 ≤ length w 
 head_full [] last h n = absurd (omega arith)
 head_full (b ∷ l) last h n =
     ap head_waits (head_cons b l last)
-    ∙ pick_either (λ (r : Head). head_waits r ≡ false) (version_known b)
+    ∙ pick_either (λ (r : HeadRead). head_waits r ≡ false) (version_known b)
     (λ e. head_known b l (framed_of l last) (full l last h.1 (omega arith))) (λ e. refl)
 
 -- ---- what an answer of the whole rest says: it is not More, and what it took lies within
 
-abbrev Within : List ℕ → Next → Type 0
+abbrev Within : List ℕ → NextRead → Type 0
 Within l r = (wants_more r ≡ false) × (taken r ≤ length l) × (reading_goes_on r ≡ true → 0 < taken r)
 
 pub read_within : (at : ℕ) (l : List ℕ) → Within l (next_read at l)
 read_within at l = go (next_read at l) (next_says at l)
   where
-    go : (r : Next) → Says at l r → Within l r
-    go (Packet p c) s = (refl, (packet_here l s.0).sixteen, λ g. omega arith)
-    go End s = (refl, omega arith, λ g. absurd (false_true g))
-    go More s = absurd s
-    go (Refused n o size) s = (refl, omega arith, λ g. absurd (false_true g))
+    go : (r : NextRead) → Says at l r → Within l r
+    go (Ok (Packet p c)) s = (refl, (packet_here l s.0).sixteen, λ g. omega arith)
+    go (Ok End) s = (refl, omega arith, λ g. absurd (false_true g))
+    go (Ok More) s = absurd s
+    go (Err r) s = (refl, omega arith, λ g. absurd (false_true g))
 
 pub head_answers : (s : List ℕ) → head_waits (head_read s) ≡ false
 head_answers s = go (head_read s) (head_says s)
   where
-    go : (h : Head) → SaysHead s h → head_waits h ≡ false
-    go (head.Ready version kind parameters c) w = refl
-    go head.More w = absurd w
-    go (head.Refused n o) w = refl
+    go : (h : HeadRead) → SaysHead s h → head_waits h ≡ false
+    go (Ok (Some r)) w = refl
+    go (Ok None) w = absurd w
+    go (Err r) w = refl

@@ -18,7 +18,6 @@ use Rattle.endian.specs.Fields.{Fit}
 use Rattle.record.specs.Layout.{packet_widths, packet_fields, packet_record, records_of, bytes_in}
 use Rattle.record.specs.Layout.{PacketsHeld}
 use Rattle.limits.specs.Steps.{ParametersHeld}
-use Rattle.record.specs.declared.Written.TheVariants.{Done}
 use Rattle.record.specs.Write.{heading_refusal, WriteGives}
 use Rattle.record.specs.Step.{Whole}
 use Rattle.record.proofs.Format.{packet_2, length_14, there}
@@ -83,7 +82,7 @@ file_written s ps n hs hp e f =
 -- what the writer writes reads as what it was given
 pub written_reads : (s : Heading) (ts ss ms out after : List ℕ) (n : ℕ) → ParametersHeld s.parameters
     → AllBelow 18446744073709551616 ts → AllBelow 4294967296 ss
-    → WriteGives s ts ss ms out (Done n) after → file_of (take n after) ≡ file s (packets ts ss ms)
+    → WriteGives s ts ss ms out (Ok n) after → file_of (take n after) ≡ file s (packets ts ss ms)
 written_reads s ts ss ms out after n hs ht hm w =
     let was = was_written s ts ss ms (length out) n w.answered in
     let scanned = scanned_fine nothing false ts ss ms was.closed was.scan_fine in

@@ -21,8 +21,7 @@ use Rattle.limits.specs.declared.Parameters.{Parameters}
 use Rattle.limits.specs.declared.Profile.{Profile}
 use Rattle.limits.specs.Paper.{set_up_refusal, profile_of, profile_refusal}
 use Rattle.limits.proofs.Profiles.{profile_fine, profile_known, profile_22}
-use Rattle.record.specs.declared.Written.{Written}
-use Rattle.record.specs.declared.Written.TheVariants.{Done, Refused}
+use Rattle.record.specs.Write.{Written, written_refused}
 use Rattle.record.specs.Layout.{packet_record, head_of, records_of, bytes_in, PacketsHeld}
 use Rattle.record.specs.Write.{file_length, version_refusal, heading_refusal, scanning, written_of, WriteGives}
 use Rattle.record.proofs.Stores.{length_packet}
@@ -101,7 +100,7 @@ heading_fine s e =
 
 -- the answer, for so many lent bytes
 module _ (s : Heading) (ts ss ms : List ℕ) (room : ℕ) where
-  pub answers_set_up : (n : ℕ) → heading_refusal s ≡ n → 0 < n → Refused n 0 ≡ written_of s ts ss ms room
+  pub answers_set_up : (n : ℕ) → heading_refusal s ≡ n → 0 < n → written_refused n 0 ≡ written_of s ts ss ms room
   unfolding written_of
   answers_set_up n e p = rw (e, ne_eqb n 0 (λ z. omega arith))
 
@@ -111,15 +110,15 @@ module _ (s : Heading) (ts ss ms : List ℕ) (room : ℕ) where
     unfolding written_of
     scanned e = rw (eq-eqb (heading_refusal s) 0 fine, e)
 
-    pub answers_scan : {r : Numbered} {w : Written} → scanned_of nothing false ts ss ms ≡ Err r → w ≡ Refused r.number r.place
+    pub answers_scan : {r : Numbered} {w : Written} → scanned_of nothing false ts ss ms ≡ Err r → w ≡ written_refused r.number r.place
         → w ≡ written_of s ts ss ms room
     answers_scan e f = f ∙ sym (scanned e)
 
     module _ {closed : ℕ} (e : scanned_of nothing false ts ss ms ≡ Ok closed) where
-      pub answers_24 : room < file_length (length ts) → Refused 24 0 ≡ written_of s ts ss ms room
+      pub answers_24 : room < file_length (length ts) → written_refused 24 0 ≡ written_of s ts ss ms room
       answers_24 h = sym (scanned e ∙ rw (lt-leb (file_length (length ts)) room h))
 
-      pub answers_done : file_length (length ts) ≤ room → Done (file_length (length ts)) ≡ written_of s ts ss ms room
+      pub answers_done : file_length (length ts) ≤ room → Ok (file_length (length ts)) ≡ written_of s ts ss ms room
       answers_done h = sym (scanned e ∙ rw (le-leb (file_length (length ts)) room h))
 
 -- a scan that is fine: slices of one length, and by 14 at most 1,000,000,000 packets
@@ -138,12 +137,12 @@ module _ (ts ss ms : List ℕ) {closed : ℕ} (e : scanned_of nothing false ts s
 
 -- what an answer of done says
 
-done_refused : (n m o : ℕ) → Done n ≡ Refused m o → ⊥
+done_refused : (n m o : ℕ) → Ok n ≡ written_refused m o → ⊥
 done_refused n m o e = let z : ◌≡◌ {A = ℕ} 0 1 = cc in omega arith
 
-fitting_done : (needed room n : ℕ) → Done n ≡ pick (leb needed room) (Done needed) (Refused 24 0) → (needed ≤ room) × (n ≡ needed)
+fitting_done : (needed room n : ℕ) → Ok n ≡ pick (leb needed room) (Ok needed) (written_refused 24 0) → (needed ≤ room) × (n ≡ needed)
 fitting_done needed room n =
-    pick_either (λ w. Done n ≡ w → (needed ≤ room) × (n ≡ needed)) (leb needed room)
+    pick_either (λ w. Ok n ≡ w → (needed ≤ room) × (n ≡ needed)) (leb needed room)
     (λ t e. (leb-true needed room t, cc)) (λ t e. absurd (done_refused n 24 0 e))
 
 pub record WasWritten (s : Heading) (ts ss ms : List ℕ) (room n : ℕ) : Type 0 where
@@ -153,27 +152,27 @@ pub record WasWritten (s : Heading) (ts ss ms : List ℕ) (room n : ℕ) : Type 
   pub enough : file_length (length ts) ≤ room
   pub size : n ≡ file_length (length ts)
 
-pub was_written : (s : Heading) (ts ss ms : List ℕ) (room n : ℕ) → Done n ≡ written_of s ts ss ms room → WasWritten s ts ss ms room n
+pub was_written : (s : Heading) (ts ss ms : List ℕ) (room n : ℕ) → Ok n ≡ written_of s ts ss ms room → WasWritten s ts ss ms room n
 unfolding written_of
 was_written s ts ss ms room n =
-    pick_either (λ w. Done n ≡ w → WasWritten s ts ss ms room n) (eqb (heading_refusal s) 0)
+    pick_either (λ w. Ok n ≡ w → WasWritten s ts ss ms room n) (eqb (heading_refusal s) 0)
     (λ t e. go (scanned_of nothing false ts ss ms) refl (eqb-true (heading_refusal s) 0 t) e) (λ t e. absurd (done_refused n _ 0 e))
   where
     go : (a : Scanned) → scanned_of nothing false ts ss ms ≡ a → heading_refusal s ≡ 0
-        → Done n ≡ scanning a (file_length (length ts)) room → WasWritten s ts ss ms room n
+        → Ok n ≡ scanning a (file_length (length ts)) room → WasWritten s ts ss ms room n
     go (Ok k) f u e =
         let d = fitting_done (file_length (length ts)) room n e in
         record { set_up = u; closed = k; scan_fine = f; enough = d.0; size = d.1 }
     go (Err r) f u e = absurd (done_refused n _ _ e)
 
 -- refused, the lent bytes stay; else they are the file and what was beyond it
-pub leaves_all : (s : Heading) (ts ss ms out : List ℕ) {w : Written} {n o : ℕ} → w ≡ written_of s ts ss ms (length out) → w ≡ Refused n o
+pub leaves_all : (s : Heading) (ts ss ms out : List ℕ) {w : Written} {n o : ℕ} → w ≡ written_of s ts ss ms (length out) → w ≡ written_refused n o
     → WriteGives s ts ss ms out w out
 leaves_all s ts ss ms out e f = record { answered = e; left = rw f refl }
 
 pub writes_file : (s : Heading) (ts ss ms out : List ℕ) {after : List ℕ} {n : ℕ} → WasWritten s ts ss ms (length out) n
-    → Done n ≡ written_of s ts ss ms (length out)
-    → after ≡ sets (sets out 0 (head_of s)) head_bytes (records_of (packets ts ss ms)) → WriteGives s ts ss ms out (Done n) after
+    → Ok n ≡ written_of s ts ss ms (length out)
+    → after ≡ sets (sets out 0 (head_of s)) head_bytes (records_of (packets ts ss ms)) → WriteGives s ts ss ms out (Ok n) after
 writes_file s ts ss ms out w e g =
     let many = as_many ts ss ms w.scan_fine in
     record {
@@ -182,7 +181,7 @@ writes_file s ts ss ms out w e g =
     }
 
 -- then the file stands in front
-pub writes_done : (s : Heading) (ts ss ms out after : List ℕ) (n : ℕ) → WriteGives s ts ss ms out (Done n) after
+pub writes_done : (s : Heading) (ts ss ms out after : List ℕ) (n : ℕ) → WriteGives s ts ss ms out (Ok n) after
     → take n after ≡ bytes_in s (packets ts ss ms)
 writes_done s ts ss ms out after n w =
     let was = was_written s ts ss ms (length out) n w.answered in

@@ -1,5 +1,5 @@
 -- A whole file gone through record by record, with what is counted on the way; and the answer to it, from what the file reads as.
-use Rattle.std.specs.Prelude.{◌&&◌, ◌/◌, ◌%◌, None, Some}
+use Rattle.std.specs.Prelude.{◌&&◌, ◌/◌, ◌%◌, None, Some, Ok, Err, Result}
 use Rattle.laws.specs.Kit.{List, ℕ, zero, suc, eqb, length, drop}
 use Rattle.laws.specs.Choose.{pick}
 use Rattle.laws.specs.Count.{count}
@@ -12,12 +12,11 @@ use Rattle.packet.specs.Quick.{takes_of, runs_of}
 use Rattle.limits.specs.Paper.{profile_of}
 use Rattle.packet.specs.declared.Tally.{Tally}
 use Rattle.record.specs.declared.FileNumbers.{FileNumbers}
-use Rattle.record.specs.declared.Head.{Head}
-use Rattle.record.specs.declared.Head.TheVariants as head
-use Rattle.record.specs.declared.Next.{Next}
+use Rattle.record.specs.Step.{HeadRead}
+use Rattle.record.specs.Step.{NextRead}
 use Rattle.record.specs.declared.Next.TheVariants as next
-use Rattle.record.specs.declared.Checked.{Checked}
-use Rattle.record.specs.declared.Checked.TheVariants.{Fine, Refused}
+use Rattle.record.specs.declared.CheckedFile.{CheckedFile}
+use Rattle.refusal.specs.Told.{Numbered}
 use Rattle.record.specs.Paper.{packet_bytes, packet_at, Ending, done, stopped, Packets, Heading, resolved, File, file, refused, file_in}
 use Rattle.record.specs.Step.{stands_in}
 
@@ -25,10 +24,20 @@ use Rattle.record.specs.Step.{stands_in}
 abbrev pub numbers_of : Heading → FileNumbers
 numbers_of h = record { profile = profile_of h.kind; parameters = resolved h }
 
+-- F6: a whole file as it is told: what it sets up with, how many packets it has and how many frames close; or its first refusal
+abbrev pub Checked : Type 0
+Checked = Result CheckedFile Numbered
+
+abbrev pub checked_fine : FileNumbers → ℕ → ℕ → Checked
+checked_fine numbers packets closed = Ok (record { numbers = numbers; packets = packets; closed = closed })
+
+abbrev pub checked_refused : ℕ → ℕ → Checked
+checked_refused number offset = Err (record { number = number; place = offset })
+
 -- a file is fine with the stream numbers that it sets up with, how many packets it has, and how many frames they close
 abbrev pub as_checked : File → Checked
-as_checked (file h ps) = Fine (numbers_of h) (length ps) (count (closes_at ps) (length ps))
-as_checked (refused number offset) = Refused number offset
+as_checked (file h ps) = checked_fine (numbers_of h) (length ps) (count (closes_at ps) (length ps))
+as_checked (refused number offset) = checked_refused number offset
 
 -- F13: with an edition beside it
 unfoldable pub checked_of : ℕ → List ℕ → Checked
@@ -36,35 +45,35 @@ checked_of edition s = as_checked (file_in edition s)
 
 -- document 01's number, 0 where nothing is refused, and its offset
 abbrev pub checked_number : Checked → ℕ
-checked_number (Fine numbers packets closed) = 0
-checked_number (Refused number offset) = number
+checked_number (Ok r) = 0
+checked_number (Err r) = r.number
 
 abbrev pub checked_offset : Checked → ℕ
-checked_offset (Fine numbers packets closed) = 0
-checked_offset (Refused number offset) = offset
+checked_offset (Ok r) = 0
+checked_offset (Err r) = r.place
 
 abbrev pub fine_with : FileNumbers → Tally → Checked
-fine_with numbers y = Fine numbers y.past.packets y.closed
+fine_with numbers y = checked_fine numbers y.past.packets y.closed
 
 -- the packets read from here on, and how that ended
 abbrev pub finish_by : FileNumbers → Tally → List Packet → Ending → Checked
 finish_by numbers y ps done = fine_with numbers (tally_of y ps)
-finish_by numbers y ps (stopped number offset) = Refused number offset
+finish_by numbers y ps (stopped number offset) = checked_refused number offset
 
 abbrev pub finish : FileNumbers → Tally → Packets → Checked
 finish numbers y r = finish_by numbers y r.accepted r.ending
 
 -- what stands where the walk stops, and a head that is none
-unfoldable pub closing : Next → FileNumbers → Tally → Checked
-closing (next.Packet p c) numbers y = fine_with numbers y
-closing next.End numbers y = fine_with numbers y
-closing next.More numbers y = fine_with numbers y
-closing (next.Refused number offset size) numbers y = Refused number offset
+unfoldable pub closing : NextRead → FileNumbers → Tally → Checked
+closing (Ok (next.Packet p c)) numbers y = fine_with numbers y
+closing (Ok next.End) numbers y = fine_with numbers y
+closing (Ok next.More) numbers y = fine_with numbers y
+closing (Err r) numbers y = checked_refused r.number r.offset
 
-unfoldable pub refused_by : Head → Checked
-refused_by (head.Ready version kind parameters c) = Refused 0 0
-refused_by head.More = Refused 0 0
-refused_by (head.Refused number offset) = Refused number offset
+unfoldable pub refused_by : HeadRead → Checked
+refused_by (Ok (Some r)) = checked_refused 0 0
+refused_by (Ok None) = checked_refused 0 0
+refused_by (Err r) = checked_refused r.number r.place
 
 -- ---- gone through quickly
 

@@ -18,9 +18,8 @@ use Rattle.timing.specs.Step.{rules_of, fresh_of, numbers}
 use Rattle.timing.specs.Answers.{summary_width, summary_of}
 use Rattle.timing.proofs.Scanning.{numbers_length, scan_runs}
 use Rattle.record.specs.declared.FileNumbers.{FileNumbers}
-use Rattle.record.specs.declared.Checked.TheVariants as checked
 use Rattle.record.specs.Paper.{resolved, Heading, Packets, File, file, refused, file_of, file_in}
-use Rattle.record.specs.Walk.{numbers_of, as_checked, checked_of}
+use Rattle.record.specs.Walk.{numbers_of, as_checked, checked_of, checked_fine, checked_refused}
 use Rattle.record.specs.Write.{file_length}
 use Rattle.record.proofs.Writing.{length_file}
 use Rattle.record.proofs.Editions.{known_edition, accepted_edition}
@@ -101,11 +100,11 @@ pub record FineFile (edition : ℕ) (s : List ℕ) (x : FileNumbers) (closed : �
   pub as_many : count (closes_at ps) (length ps) ≡ closed
 
 module _ (edition : ℕ) (s : List ℕ) where
-  checked_file : (x : FileNumbers) (packets closed : ℕ) → checked_of edition s ≡ checked.Fine x packets closed → FineFile edition s x closed
+  checked_file : (x : FileNumbers) (packets closed : ℕ) → checked_of edition s ≡ checked_fine x packets closed → FineFile edition s x closed
   unfolding checked_of
   checked_file x packets closed e = go (file_in edition s) refl e
     where
-      go : (f : File) → file_in edition s ≡ f → as_checked f ≡ checked.Fine x packets closed → FineFile edition s x closed
+      go : (f : File) → file_in edition s ≡ f → as_checked f ≡ checked_fine x packets closed → FineFile edition s x closed
       go (refused m p) g e = let z : ◌≡◌ {A = ℕ} 0 1 = cc in absurd (omega arith)
       go (file y ps) g e = record { told = y; ps = ps; is_file = g; resolves = cc; as_many = cc }
 
@@ -130,20 +129,20 @@ module _ (s : List ℕ) where
   first_known : file_in 1 s ≡ file_of s
   first_known = known_edition 1 s (omega arith, omega arith)
 
-  pub room_fine : (x : FileNumbers) (packets closed : ℕ) → checked_of 1 s ≡ checked.Fine x packets closed → needed closed ≡ room_of s
+  pub room_fine : (x : FileNumbers) (packets closed : ℕ) → checked_of 1 s ≡ checked_fine x packets closed → needed closed ≡ room_of s
   unfolding room_of
   room_fine x packets closed e =
       let f = checked_file 1 s x packets closed e in
       sym (ap room_for (sym first_known ∙ f.is_file) ∙ fine_long 1 s x closed f)
 
-  pub few_closed : (x : FileNumbers) (packets closed : ℕ) → checked_of 1 s ≡ checked.Fine x packets closed → closed ≤ 1000000000
+  pub few_closed : (x : FileNumbers) (packets closed : ℕ) → checked_of 1 s ≡ checked_fine x packets closed → closed ≤ 1000000000
   few_closed x packets closed e = fine_closed 1 s x closed (checked_file 1 s x packets closed e)
 
-  pub room_refused : (n o : ℕ) → checked_of 1 s ≡ checked.Refused n o → 0 ≡ room_of s
+  pub room_refused : (n o : ℕ) → checked_of 1 s ≡ checked_refused n o → 0 ≡ room_of s
   unfolding checked_of room_of
   room_refused n o e = go (file_of s) (ap as_checked (sym first_known) ∙ e)
     where
-      go : (f : File) → as_checked f ≡ checked.Refused n o → 0 ≡ room_for f
+      go : (f : File) → as_checked f ≡ checked_refused n o → 0 ≡ room_for f
       go (file x ps) e = let z : ◌≡◌ {A = ℕ} 0 1 = cc in absurd (omega arith)
       go (refused m p) e = refl
 
@@ -157,15 +156,15 @@ room_is edition s w ps e =
 -- ---- what is asked
 
 module _ (edition : ℕ) (s : List ℕ) (room : ℕ) where
-  pub asked_refused : (n o : ℕ) → checked_of edition s ≡ checked.Refused n o → Refused n o ≡ asked_of edition s room
+  pub asked_refused : (n o : ℕ) → checked_of edition s ≡ checked_refused n o → Refused n o ≡ asked_of edition s room
   unfolding checked_of asked_of
   asked_refused n o e = go (file_in edition s) e
     where
-      go : (f : File) → as_checked f ≡ checked.Refused n o → Refused n o ≡ as_asked edition (length s) room f
+      go : (f : File) → as_checked f ≡ checked_refused n o → Refused n o ≡ as_asked edition (length s) room f
       go (file x ps) e = let z : ◌≡◌ {A = ℕ} 0 1 = cc in absurd (omega arith)
       go (refused m p) e = cc
 
-  asked_by : (x : FileNumbers) (packets closed : ℕ) → checked_of edition s ≡ checked.Fine x packets closed
+  asked_by : (x : FileNumbers) (packets closed : ℕ) → checked_of edition s ≡ checked_fine x packets closed
       → pick (leb (needed closed) room) (Fine (stream_in edition x)) (Refused 15 (length s)) ≡ asked_of edition s room
   unfolding asked_of
   asked_by x packets closed e =
@@ -173,11 +172,11 @@ module _ (edition : ℕ) (s : List ℕ) (room : ℕ) where
       sym (ap (as_asked edition (length s) room) f.is_file ∙ rw (fine_long edition s x closed f)
       (ap (λ (y : FileNumbers). pick (leb (needed closed) room) (Fine (stream_in edition y)) (Refused 15 (length s))) f.resolves))
 
-  pub asked_room : (x : FileNumbers) (packets closed : ℕ) → checked_of edition s ≡ checked.Fine x packets closed → leb (needed closed) room ≡ true
+  pub asked_room : (x : FileNumbers) (packets closed : ℕ) → checked_of edition s ≡ checked_fine x packets closed → leb (needed closed) room ≡ true
       → Fine (stream_in edition x) ≡ asked_of edition s room
   asked_room x packets closed e t = sym (rw t) ∙ asked_by x packets closed e
 
-  pub asked_15 : (x : FileNumbers) (packets closed : ℕ) → checked_of edition s ≡ checked.Fine x packets closed → leb (needed closed) room ≡ false
+  pub asked_15 : (x : FileNumbers) (packets closed : ℕ) → checked_of edition s ≡ checked_fine x packets closed → leb (needed closed) room ≡ false
       → Refused 15 (length s) ≡ asked_of edition s room
   asked_15 x packets closed e t = sym (rw t) ∙ asked_by x packets closed e
 

@@ -22,8 +22,7 @@ use Rattle.timing.specs.Step.{stated_of, stated_refusal}
 use Rattle.timing.specs.Answers.{graph_of, stated_next, awaited_number}
 use Rattle.timing.proofs.Awaiting.{stated_some}
 use Rattle.timing.proofs.Answering.{set_up_first, room_short, room_there}
-use Rattle.record.specs.declared.Written.{Written}
-use Rattle.record.specs.declared.Written.TheVariants.{Done}
+use Rattle.record.specs.Write.{Written}
 use Rattle.record.specs.Layout.{bytes_in}
 use Rattle.record.specs.Write as record_write
 use Rattle.report.specs.Paper.{limits_of, limits_number, limits_left, awaited_numbers, next_read_number, next_read_left}
@@ -38,7 +37,7 @@ writes_as s ts ss ms out h e = record {
 
 -- a number of 0 says that the file was written: every refusal of the writer's has another
 number_zero : (s : Heading) (ts ss ms : List ℕ) (room : ℕ) → record_write.written_number (record_write.written_of s ts ss ms room) ≡ 0
-    → record_write.written_of s ts ss ms room ≡ Done (record_write.file_length (length ts))
+    → record_write.written_of s ts ss ms room ≡ Ok (record_write.file_length (length ts))
 unfolding record_write.written_of
 number_zero s ts ss ms room =
     let number = record_write.heading_refusal s in
@@ -48,14 +47,14 @@ number_zero s ts ss ms room =
     size = record_write.file_length (length ts)
 
     P : Written → Type 0
-    P w = record_write.written_number w ≡ 0 → w ≡ Done size
+    P w = record_write.written_number w ≡ 0 → w ≡ Ok size
 
     by : (a : Scanned) → scanned_of nothing false ts ss ms ≡ a → P (record_write.scanning a size room)
     by (Ok n) f = pick_either P (leb size room) (λ t e. refl) (λ t e. absurd (omega arith))
     by (Err r) f = λ e. absurd (scanned_some nothing false ts ss ms r f e)
 
 pub written_whole : (s : Heading) (ts ss ms out : List ℕ) {after : List ℕ} → WriteGives s ts ss ms out 0 after
-    → record_write.WriteGives s ts ss ms out (Done (record_write.file_length (length ts))) after
+    → record_write.WriteGives s ts ss ms out (Ok (record_write.file_length (length ts))) after
 written_whole s ts ss ms out h =
     let done = number_zero s ts ss ms (length out) (sym h.number_is) in
     record {

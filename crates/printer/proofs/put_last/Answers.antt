@@ -1,6 +1,6 @@
 -- A refusal's line, else the sum's line where reading ends, else nothing.
 use Rattle.laws.specs.Kit.{sym, ap, ◌∙◌}
-use Rattle.record.specs.declared.Next.{Next}
+use Rattle.record.specs.Step.{NextRead}
 use Rattle.printer.specs.Step.{line_of}
 use Rattle.printer.proofs.Answers.{last_sum, last_none, line_is, line_none}
 use borrow.Enum.Refused.{opened}
@@ -17,4 +17,4 @@ returns-in_default c = let e = c.ends in
 
 pub returns : goal.returns
 unfolding line_of
-returns c = line_is (ap (λ (r : Next). line_of r c.args.s) (sym c.in-Refused.is)) c.put_refusal.ensures
+returns c = line_is (ap (λ (r : NextRead). line_of r c.args.s) (sym c.in-Refused.is)) c.put_refusal.ensures

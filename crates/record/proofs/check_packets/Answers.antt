@@ -2,8 +2,7 @@
 use Rattle.std.specs.Prelude.{◌≡◌, ◌+◌, ◌*◌, ◌≤◌, ◌<◌}
 use Rattle.laws.specs.Kit.{sym, ap, subst, ◌∙◌, List, ℕ, arith, length, drop, length-drop}
 use Rattle.record.specs.Paper.{packet_bytes}
-use Rattle.record.specs.Walk.{records_left}
-use Rattle.record.specs.declared.Checked.TheVariants.{Fine}
+use Rattle.record.specs.Walk.{records_left, checked_fine}
 use Rattle.record.proofs.Ways.{rest_all}
 use Rattle.record.proofs.Quickly.{left_fills, quick_finish}
 use Rattle.record.proofs.check_packets.Goals as goal
@@ -37,6 +36,6 @@ returns-then-admits c =
     let through = sym c.run_packets-ran.ensures ∙ c.in-Through.is in
     let fine = sym c.admits.ensures ∙ c.if-admits.true in
     let there = (goal.at.returns-then-admits c).Then-count-ne0 in
-    ap (Fine c.args.numbers c.records_left-count.result) c.closed.ensures
+    ap (checked_fine c.args.numbers c.records_left-count.result) c.closed.ensures
     ∙ quick_finish _ (at there) (drop (at there) (file there)) _ (some there) (fills there) through
     (rw (c.none.ensures, c.packet_at-first.ensures, rest_all (file there) (at there)) at fine)
