@@ -1,13 +1,12 @@
 -- The capture file, in the request's words: its header, its records, and what becomes of each. A list of bytes is read from its front: `l`
 -- is the rest of a file from one record on. This page is what a reader must believe of captures.
-use Rattle.std.specs.Prelude.{◌||◌, ◌∷◌, ◌+◌, ◌-◌, ◌*◌}
+use Rattle.std.specs.Prelude.{◌||◌, ◌∷◌, ◌+◌, ◌-◌, ◌*◌, Some, None}
 use Rattle.laws.specs.Kit.{Bool, true, false, List, [], ℕ, zero, suc, ltb, leb, eqb, length, take, drop}
 use Rattle.laws.specs.Choose.{pick}
 use Rattle.endian.specs.declared.Order.{Order}
 use Rattle.endian.specs.declared.Order.TheVariants.{Big, Little}
 use Rattle.endian.specs.Order.{number_by}
-use Rattle.headers.specs.declared.Handed.{Handed}
-use Rattle.headers.specs.declared.Handed.TheVariants.{On, Skipped}
+use Rattle.headers.specs.Paper.{Handed}
 use Rattle.headers.specs.Step.{handed_of}
 use Rattle.packet.specs.declared.Packet.{Packet}
 use Rattle.packet.specs.declared.Past.{Past}
@@ -97,8 +96,8 @@ pub data Found : Type 0 where
   skipped : Found
 
 abbrev pub found_by : ℕ → Handed → Found
-found_by t (On stamp marker) = packet (record { time = t; stamp = stamp; marker = marker })
-found_by t Skipped = skipped
+found_by t (Some r) = packet (record { time = t; stamp = r.stamp; marker = r.marker })
+found_by t None = skipped
 
 abbrev pub found_at : Setting → List ℕ → Found
 found_at p l =

@@ -1,10 +1,9 @@
 -- A capture piece by piece: what stands in front of a window, and a reader that passes over a record's bytes before it tells what became
 -- of it; what the contracts cite.
-use Rattle.std.specs.Prelude.{◌≡◌, ◌+◌, ◌-◌, ◌≤◌, ◌<◌, Err, Ok}
+use Rattle.std.specs.Prelude.{◌≡◌, ◌+◌, ◌-◌, ◌≤◌, ◌<◌, Err, Ok, Some, None}
 use Rattle.laws.specs.Kit.{Bool, true, List, ℕ, zero, suc, ltb, leb, eqb, min, length, drop}
 use Rattle.laws.specs.Choose.{pick}
-use Rattle.headers.specs.declared.Handed.{Handed}
-use Rattle.headers.specs.declared.Handed.TheVariants as handed
+use Rattle.headers.specs.Paper.{Handed}
 use Rattle.headers.specs.Step.{matter, handed_of}
 use Rattle.packet.specs.declared.Packet as Packets
 use Rattle.packet.specs.Paper.{Scanned}
@@ -44,8 +43,8 @@ opened_of w last = pick (ltb (length w) header_bytes) (pick last opened.Unknown 
 -- ---- a record
 
 abbrev pub found_told : ℕ → Handed → Told
-found_told t (handed.On stamp marker) = Packet (record { time = t; stamp = stamp; marker = marker })
-found_told t handed.Skipped = Skipped
+found_told t (Some r) = Packet (record { time = t; stamp = r.stamp; marker = r.marker })
+found_told t None = Skipped
 
 -- R8, R14: what a record says, of a window that shows all of it that can matter
 unfoldable pub told_of : Setting → List ℕ → Told

@@ -1,7 +1,7 @@
 -- What is done with a network capture. First a frame and its headers (`handed_of`, headers' Step), then a capture call (`capture_of`, intake's
 -- Paper; what a capture holds is `records_of` and `packets_of` there), its reader in pieces, the C function (`capture_answer` and
 -- `capture_filled`, film's Paper), and any run of the program for captures, of which `output_of` of reel's Paper says what it prints.
-use Rattle.std.specs.Prelude.{◌≡◌, ◌+◌, ◌≤◌, ◌<◌, Err, Ok}
+use Rattle.std.specs.Prelude.{◌≡◌, ◌+◌, ◌≤◌, ◌<◌, Err, Ok, None}
 use Rattle.laws.specs.Kit.{refl, ◌∙◌, Bool, true, false, List, [], ℕ, min, ℤ, length, get_or, ne_eqb}
 use Rattle.endian.specs.Number.{Bytes}
 use Rattle.limits.specs.Accepted.{KnownEdition}
@@ -56,7 +56,7 @@ pub handed_on : (b : List ℕ) (n port ip udp rtp end : ℕ) → HandedOn b n po
 handed_on b n port ip udp rtp end c = exactly.handed_so c
 
 -- R4, R7: and where they hold at no places "every other frame is skipped"
-pub skipped_else : (b : List ℕ) (n port : ℕ) → ((ip udp rtp end : ℕ) → HandedOn b n port ip udp rtp end → ⊥) → handed_of b n port ≡ Skipped
+pub skipped_else : (b : List ℕ) (n port : ℕ) → ((ip udp rtp end : ℕ) → HandedOn b n port ip udp rtp end → ⊥) → handed_of b n port ≡ None
 skipped_else = exactly.skipped_so
 
 -- R14: only the first 162 bytes of a frame can matter: two with as many captured bytes that agree on these are handed on alike
