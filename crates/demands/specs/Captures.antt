@@ -27,8 +27,8 @@ use Rattle.timing.specs.declared.State.{State}
 use Rattle.timing.specs.Step.{stated_of, first_stated, stated_refusal, rules_of, fresh_of}
 use Rattle.timing.specs.Range.{in_range}
 use Rattle.timing.specs.Feed.{feed_all}
-use Rattle.intake.specs.declared.Taken.TheVariants.{Accepted, Refused}
-use Rattle.intake.specs.Paper.{records_of, packets_of, skipped_of, refused_by, capture_of, fed_as}
+use Rattle.intake.specs.declared.Taken.TheVariants.{Refused}
+use Rattle.intake.specs.Paper.{records_of, packets_of, skipped_of, refused_by, capture_of, fed_as, taken_as, not_taken}
 use Rattle.intake.proofs.Feeding as call
 use Rattle.intake.proofs.Swapped as swapped
 use Rattle.report.specs.Paper.{answer}
@@ -85,7 +85,7 @@ module _ (s : State) (rows : List ℤ) (port offset : ℕ) (b : List ℕ) where
   capture_30 = call.capture_30 s rows port offset b
 
   -- R11: "refused, with number and place, state and rows as they were"
-  pub refused_stays : (t : State) (number place : ℕ) → (capture_of s rows port offset b).answer ≡ Refused number place t
+  pub refused_stays : (t : State) (number place : ℕ) → (capture_of s rows port offset b).answer ≡ not_taken number place t
       → (t ≡ s) × ((capture_of s rows port offset b).rows ≡ rows)
   refused_stays t number place = call.refused_stays s t rows port offset number place b
 
@@ -112,7 +112,7 @@ module _ (s : State) (rows : List ℤ) (port offset : ℕ) (b : List ℕ) where
 
     -- R10: "A capture of exactly 24 bytes, or of skipped frames only, is accepted and changes nothing."
     pub nothing_handed : in_range s ≡ true → offset ≤ 99 → (records_of port offset b).ending ≡ done → packets_of port offset b ≡ []
-        → capture_of s rows port offset b ≡ record { answer = Accepted s 0 (skipped_of port offset b); rows = rows }
+        → capture_of s rows port offset b ≡ record { answer = taken_as s 0 (skipped_of port offset b); rows = rows }
     nothing_handed e h = call.nothing_handed s rows port offset b e h known
 
     -- R12: "a capture and the same capture in the other order have the same answer"
