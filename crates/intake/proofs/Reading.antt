@@ -1,8 +1,7 @@
 -- The check of a capture whose header is known is the scan of the packets that it hands on, or else names the record at which it stops; where
 -- nothing is refused, every record is counted. By the header.
 use Rattle.std.specs.Prelude.{◌≡◌, ◌+◌, ◌≤◌, Err, Ok}
-use Rattle.laws.specs.Kit.{refl, sym, ap, subst, ◌∙◌, Bool, List, [], ℕ, arith, length, drop}
-use Rattle.laws.specs.Kit.{dec_le, ℤ}
+use Rattle.laws.specs.Kit.{refl, sym, ap, subst, ◌∙◌, Bool, List, [], ℕ, arith, length, drop, dec_le, ℤ}
 use Rattle.laws.specs.Fold.{fold}
 use Rattle.packet.specs.declared.Packet.{Packet}
 use Rattle.packet.specs.declared.Past.{Past}

@@ -4,8 +4,7 @@ use Rattle.laws.specs.Kit.{sym, ap, ◌∙◌, subst, true, false, List, ℕ, ar
 use Rattle.laws.specs.Kit.{div-lt_iff_lt-mul, ℤ, length, le-leb, lt-leb}
 use Rattle.frame.specs.Step.{row_width}
 use Rattle.capture.specs.declared.Seen.{Seen}
-use Rattle.capture.specs.Paper.{Checked, checked_refused}
-use Rattle.capture.specs.Paper.{seen_from, checked_of}
+use Rattle.capture.specs.Paper.{Checked, checked_refused, seen_from, checked_of}
 use Rattle.timing.specs.declared.State.{State}
 use Rattle.timing.specs.declared.Rules.{Rules}
 use Rattle.timing.specs.Step.{rules_of, rows_after, numbers}
@@ -30,14 +29,13 @@ module _ (s : State) (rows : List ℤ) (port offset : ℕ) (b : List ℕ) where
     unfolding capture_of
     by_check_lem x f = rw (e, f)
 
-    pub taken_refused : {x : Checked} {number place : ℕ} → x ≡ checked_of port offset (seen_from s.past s.frames.begun) b
-        → x ≡ checked_refused number place → TakeGives (capture_of s rows port offset b) (not_taken number place s) rows
-    taken_refused {x} f g =
-        is (ap (λ (y : Checked). by_check s rows y (packets_of port offset b) (skipped_of port offset b)) (sym g) ∙ by_check_lem x f)
+    pub taken_refused : {number place : ℕ} → checked_refused number place ≡ checked_of port offset (seen_from s.past s.frames.begun) b
+        → TakeGives (capture_of s rows port offset b) (not_taken number place s) rows
+    taken_refused f = is (by_check_lem _ f)
 
-    module _ {x : Checked} {y : Seen} (f : x ≡ checked_of port offset (seen_from s.past s.frames.begun) b) (g : x ≡ Ok y) where
+    module _ {y : Seen} (f : Ok y ≡ checked_of port offset (seen_from s.past s.frames.begun) b) where
       room_for_lem : room_for s rows y.tally.closed (packets_of port offset b) (skipped_of port offset b) ≡ capture_of s rows port offset b
-      room_for_lem = ap (λ (z : Checked). by_check s rows z (packets_of port offset b) (skipped_of port offset b)) (sym g) ∙ by_check_lem x f
+      room_for_lem = by_check_lem (Ok y) f
 
       pub taken_15 : length rows / row_width < y.tally.closed → TakeGives (capture_of s rows port offset b) (not_taken 15 s.past.packets s) rows
       taken_15 l =
@@ -46,7 +44,7 @@ module _ (s : State) (rows : List ℤ) (port offset : ℕ) (b : List ℕ) where
           is (sym (rw (lt-leb (n * row_width) (length rows) few)) ∙ room_for_lem)
 
       pub was_read : Read port offset s.past s.frames.begun b y
-      was_read = checked_read port offset s.past s.frames.begun b y (sym f ∙ g)
+      was_read = checked_read port offset s.past s.frames.begun b y (sym f)
 
       enough : y.tally.closed ≤ length rows / row_width → y.tally.closed * row_width ≤ length rows
       enough l = (le-div_iff_mul-le {k = row_width} {x = y.tally.closed} {y = length rows} (omega arith)).0 l
