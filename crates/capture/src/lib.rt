@@ -9,8 +9,8 @@ ghost use Rattle.laws.specs.Kit.{true, drop};
 ghost use Rattle.endian.specs.Number.{Room};
 ghost use Rattle.capture.specs.Paper.{header_bytes, linked_by, magic_by, header_of, second_of, arrival_of, records_in, seen_from, check_records};
 ghost use Rattle.capture.specs.Paper.{checked_of};
-ghost use Rattle.capture.specs.Step.{format_in, opened_of, found_told, told_of, record_of, front_of, between, settled_by, passed_of, next_of};
-ghost use Rattle.capture.specs.Step.{sought_of, found_of, UsedFits, behind_by, ahead_told, ahead_of, Enough, refusal_of, admitted_of, seen_of};
+ghost use Rattle.capture.specs.Step.{format_in, opened_of, told_of, record_of, front_of, between, settled_by, passed_of, next_of, sought_of};
+ghost use Rattle.capture.specs.Step.{found_of, UsedFits, behind_by, ahead_told, ahead_of, Enough, refusal_of, admitted_of, seen_of};
 ghost use Rattle.capture.specs.Step.{Room as SeenRoom};
 ghost use Rattle.refusal.specs.Told.{by_number, told};
 
@@ -415,13 +415,13 @@ impl Seen {
         ensures { told result ≡ admitted_of self said }
     {
         match said {
-            Told::Packet(packet) => match self.tally.past.admit(packet) {
-                Ok(()) => Ok(()),
-                Err(refusal) => Err(Refused {
+            Told::Packet(packet) => {
+                let past = self.tally.past;
+                past.admit(packet).map_err(|refusal| Refused {
                     refusal,
-                    place: self.tally.past.packets,
-                }),
-            },
+                    place: past.packets,
+                })
+            }
             Told::Skipped => Ok(()),
             Told::Late => Err(Refused {
                 refusal: Refusal::SubSecond,

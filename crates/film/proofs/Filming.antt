@@ -208,7 +208,8 @@ module _ (t : Stated) (port offset : ℕ) (b : List ℕ) where
 
   -- ---- the lent bytes
 
-  pub refused_leaves : (out : List ℕ) {n : Numbered} → Err n ≡ weighed_of t port offset b (length out) → out ≡ capture_filled t port offset b out
+  pub refused_leaves : (out : List ℕ) {n : Numbered} → Err n ≡ weighed_of t port offset b (length out)
+      → out ≡ capture_filled t port offset b out
   unfolding weighed_of capture_filled
   refused_leaves out {n} = go (capture_checked t port offset b)
     where
