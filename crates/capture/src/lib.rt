@@ -394,10 +394,8 @@ impl Cursor {
         let mut used = 0;
         let mut skipped = 0;
         loop {
-            let next = match cursor.read(setting, &window[used..], last) {
-                Ok(next) => next,
-                Err(refusal) => return Err(RefusedAhead { refusal, skipped }),
-            };
+            let read = cursor.read(setting, &window[used..], last);
+            let next = read.map_err(|refusal| RefusedAhead { refusal, skipped })?;
             let Next::Skipped { used: more } = next else {
                 return Ok(behind(next, used, skipped));
             };
@@ -460,15 +458,9 @@ impl Seen {
         let mut seen = self;
         let mut at = HEADER;
         loop {
-            let front = match setting.front(&s[at..], true) {
-                Ok(front) => front,
-                Err(refusal) => {
-                    return Err(Refused {
-                        refusal,
-                        place: seen.records,
-                    });
-                }
-            };
+            let place = seen.records;
+            let read = setting.front(&s[at..], true);
+            let front = read.map_err(|refusal| Refused { refusal, place })?;
             let Front::Record { told, size } = front else {
                 return Ok(seen);
             };
