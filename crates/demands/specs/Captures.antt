@@ -42,7 +42,7 @@ use Rattle.reel.proofs.Wholly as wholly
 use Rattle.words.specs.declared.Numbers.{Numbers}
 use Rattle.words.specs.Paper.{as_given, asked_of}
 use Rattle.words.proofs.AsGiven as words
-use Rattle.window.specs.declared.Broken.TheVariants.{Unread}
+use Rattle.window.specs.declared.BrokenOff.TheVariants.{Unread}
 use Rattle.window.specs.Run.{Front, WholeOutput, End, RunEnds}
 use Rattle.window.proofs.Running as running
 use Rattle.spool.specs.Step.{machine}

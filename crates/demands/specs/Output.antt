@@ -21,7 +21,7 @@ use Rattle.printer.specs.Paper.{sum_line, output_of}
 use Rattle.printer.specs.Step.{opened_number, opened_offset, begin_of, take_of}
 use Rattle.printer.specs.Drive.{Prints}
 use Rattle.printer.proofs.Output as proved
-use Rattle.window.specs.declared.Broken.TheVariants.{Unread}
+use Rattle.window.specs.declared.BrokenOff.TheVariants.{Unread}
 use Rattle.window.specs.Run.{Front, WholeOutput, End, RunEnds}
 use Rattle.window.proofs.Running as running
 use Rattle.pump.specs.Step.{machine}

@@ -4,7 +4,7 @@ use Rattle.laws.specs.Kit.{sym, ap, ◌∙◌, Bool, true, false, List, [], appe
 use Rattle.laws.specs.Kit.{arith, length, take, drop, take-add}
 use Rattle.laws.proofs.Choose.{false_true}
 use Rattle.window.specs.declared.Span.{Span}
-use Rattle.window.specs.declared.Broken.TheVariants.{Unwritten, Unread, TurnsOver}
+use Rattle.window.specs.declared.BrokenOff.TheVariants.{Unwritten, Unread, TurnsOver}
 use Rattle.window.specs.Step.{Fits, shown, onward, settled_of, grown, Machine, step_at}
 use Rattle.window.specs.Run.{ReadIn, came_in, Reaches, begins, steps, reads, Front, WholeOutput, End, RunEnds, whole, unwritten, unread, turns_over}
 use Rattle.window.proofs.Showing.{onward_shown, used_fits}
