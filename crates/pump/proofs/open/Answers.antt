@@ -1,7 +1,7 @@
 -- The start of the file by its answer.
 use Rattle.laws.specs.Kit.{sym, ap, subst, ◌∙◌, arith, length}
 use Rattle.record.specs.Paper.{head_bytes}
-use Rattle.printer.specs.declared.Opened.{Opened}
+use Rattle.printer.specs.Step.{Opened}
 use Rattle.printer.specs.Step.{Headed}
 use Rattle.printer.proofs.Inside.{begin_headed}
 use Rattle.window.specs.Step.{shown}
