@@ -9,7 +9,7 @@ use Rattle.endian.specs.declared.Order.TheVariants.{Big, Little}
 use Rattle.endian.specs.Number.{number_of}
 use Rattle.endian.specs.Order.{turned, number_by}
 use Rattle.text.specs.Lines.{refusal_line}
-use Rattle.capture.specs.declared.Opened.{Opened}
+use Rattle.capture.specs.Step.{Opened}
 use Rattle.capture.specs.Paper.{header_bytes, Header, capture, unknown, linked_by, magic_by, header_of, records_in}
 use Rattle.capture.specs.Step.{opened_by, opened_of, rest_from}
 use Rattle.timing.specs.declared.State.{State}
