@@ -6,6 +6,7 @@
 ghost use Rattle.std.specs.Prelude.{◌≡◌, ◌≤◌, Err};
 ghost use Rattle.laws.specs.Kit.{true, length, take, sets};
 ghost use Rattle.laws.specs.Every.{flag as flag_of};
+ghost use Rattle.refusal.specs.Told.{number_in};
 ghost use Rattle.limits.specs.Paper.{given};
 ghost use Rattle.timing.specs.Answers.{summary_of};
 ghost use Rattle.timing.specs.Range.{in_range};
@@ -293,6 +294,28 @@ fn ask(
     Ok(())
 }
 
+// What C is told: 0, or the refusal's number.
+fn code(answer: Result<(), Refusal>) -> u32
+    ensures { result ≡ number_in answer }
+{
+    match answer {
+        Ok(()) => 0,
+        Err(refusal) => u32::from(refusal.number()),
+    }
+}
+
+// The fresh state's words in front; or 22, 1 to 8, then 15 for too few words, and nothing written (X8, N2).
+fn set_up(stated: Stated, state: &mut [u64]) -> Result<(), Refusal>
+    ensures { SetUpGives stated state.old (number_in result) state.new }
+{
+    stated.check()?;
+    if state.len() < WORDS {
+        return Err(Refusal::Room);
+    }
+    lay_words(stated.numbers().fresh(), state);
+    Ok(())
+}
+
 // A stream set up: 22 for a kind that stands for no profile, 1 to 8, then 15 for too few words, and nothing written; or 0, and the fresh
 // state's words stand in front.
 #[unsafe(no_mangle)]
@@ -325,14 +348,38 @@ pub extern "C" fn vtiming_set_up(
         parameters: told,
         edition,
     };
-    if let Err(refusal) = stated.check() {
-        return u32::from(refusal.number());
+    code(set_up(stated, state))
+}
+
+// What a call writes; or 9, 10, 11 to 14, then 15, and nothing written (X8, N10).
+fn feed(
+    state: &mut [u64],
+    arrivals: &[u64],
+    stamps: &[u32],
+    markers: &[u8],
+    rows: &mut [i64],
+    out: &mut [u64],
+) -> Result<(), Refusal>
+    ensures { CallGives (call_of state.old rows.old out.old arrivals.now stamps.now
+        markers.now) (number_in result) state.new rows.new out.new }
+{
+    if out.len() < SUMMARY {
+        return match ask(state, arrivals, stamps, markers, rows.len(), out.len()) {
+            Ok(()) => Ok(()),
+            Err(r) => Err(r.refusal),
+        };
     }
-    if state.len() < WORDS {
-        return u32::from(Refusal::Room.number());
+    let Some(s) = read(state) else {
+        return Err(Refusal::State);
+    };
+    match s.feed(arrivals, stamps, markers, rows) {
+        Ok(next) => {
+            lay_words(next, state);
+            summarise(next, out);
+            Ok(())
+        }
+        Err(r) => Err(r.refusal),
     }
-    lay_words(stated.numbers().fresh(), state);
-    0
 }
 
 // A call's packets: 9, 10, 11 to 14, then 15 for too few row numbers or fewer than nine of the summary, and nothing written; or 0,
@@ -349,23 +396,7 @@ pub extern "C" fn vtiming_feed(
     ensures { CallGives (call_of state.old rows.old out.old arrivals.now stamps.now
         markers.now) result state.new rows.new out.new }
 {
-    if out.len() < SUMMARY {
-        return match ask(state, arrivals, stamps, markers, rows.len(), out.len()) {
-            Ok(()) => 0,
-            Err(r) => u32::from(r.refusal.number()),
-        };
-    }
-    let Some(s) = read(state) else {
-        return u32::from(Refusal::State.number());
-    };
-    match s.feed(arrivals, stamps, markers, rows) {
-        Ok(next) => {
-            lay_words(next, state);
-            summarise(next, out);
-            0
-        }
-        Err(r) => u32::from(r.refusal.number()),
-    }
+    code(feed(state, arrivals, stamps, markers, rows, out))
 }
 
 // The twin: the place of that refusal, for so many row numbers and so many of the summary.

@@ -4,18 +4,16 @@ use Rattle.laws.specs.Kit.{sym, ap, ◌∙◌}
 use Rattle.timing.specs.Feed.{fed_told}
 use Rattle.timing.proofs.Dealing.{fed_in_range}
 use borrow.Author.Rules.{rules}
-use Rattle.probe.proofs.vtiming_feed.Goals as goal
+use Rattle.probe.proofs.feed.Goals as goal
 
 pub returns-in-Ok : goal.returns-in-Ok
 returns-in-Ok c = no_summary _ _ _ _ _ _ c.if-out-lt-SUMMARY.true c.in-Ok.ensures
 
 pub returns-in-Err : goal.returns-in-Err
-returns-in-Err c =
-    rw (c.from.ensures, c.number.ensures) (no_summary _ _ _ _ _ _ c.if-out-lt-SUMMARY.true c.in-Err.ensures)
+returns-in-Err c = no_summary _ _ _ _ _ _ c.if-out-lt-SUMMARY.true c.in-Err.ensures
 
 pub returns-in_default : goal.returns-in_default
-returns-in_default c =
-    rw (c.from-in_default.ensures, c.number-in_default.ensures) (no_state _ _ _ _ _ _ c.read.ensures c.in_default.is)
+returns-in_default c = no_state _ _ _ _ _ _ c.read.ensures c.in_default.is
 
 pub lay_words-requires : goal.lay_words-requires
 lay_words-requires c =
@@ -31,6 +29,4 @@ returns-in-Ok-feed c =
     c.if-out-lt-SUMMARY.false c.lay_words.ensures c.summarise.ensures
 
 pub returns-in-Err-feed : goal.returns-in-Err-feed
-returns-in-Err-feed c =
-    rw (c.from-in-Err-feed.ensures, c.number-in-Err-feed.ensures) (call_refused _ _ _ _ _ _ c.read.ensures c.in-Some.is c.feed.ensures
-    (ap fed_told c.in-Err-feed.is))
+returns-in-Err-feed c = call_refused _ _ _ _ _ _ c.read.ensures c.in-Some.is c.feed.ensures (ap fed_told c.in-Err-feed.is)
