@@ -1,12 +1,10 @@
 -- What the code reads in the window that it lends, and the lines that it puts.
 use Rattle.std.specs.Prelude.{◌≡◌, ◌-◌}
-use Rattle.laws.specs.Kit.{sym, ap, subst, ◌∙◌, Bool, true, false, List, [], append-nil, ℕ, arith, length, take}
-use Rattle.laws.specs.Kit.{drop}
+use Rattle.laws.specs.Kit.{sym, ap, subst, ◌∙◌, Bool, true, false, List, [], append-nil, ℕ, arith, length, take, drop}
 use Rattle.frame.specs.declared.Row.{Row}
 use Rattle.laws.proofs.Lay.{put_none}
 use Rattle.text.specs.Lines.{Line, row_line}
-use Rattle.record.specs.Step.{NextRead}
-use Rattle.record.specs.Step.{next_piece}
+use Rattle.record.specs.Step.{NextRead, next_piece}
 use Rattle.record.proofs.Ways.{rest_all}
 use Rattle.timing.specs.declared.Rules.{Rules}
 use Rattle.timing.specs.declared.State.{State}

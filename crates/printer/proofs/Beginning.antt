@@ -11,22 +11,19 @@ use Rattle.limits.specs.declared.Parameters.{Parameters}
 use Rattle.limits.specs.declared.Profile.{Profile}
 use Rattle.limits.specs.Paper.{set_up_refusal}
 use Rattle.limits.proofs.Editions.{in_one}
-use Rattle.record.specs.Step.{HeadRead, head_ready, head_refused}
+use Rattle.record.specs.Step.{HeadRead, head_ready, head_refused, head_piece, head_read}
 use Rattle.record.specs.declared.FileNumbers.{FileNumbers}
 use Rattle.timing.specs.declared.StreamNumbers.{StreamNumbers}
 use Rattle.record.specs.Paper.{heading, head_bytes, packets_in}
 use Rattle.record.specs.Walk.{numbers_of}
-use Rattle.record.specs.Step.{head_piece, head_read}
 use Rattle.record.specs.Pieces.{head_waits}
 use Rattle.record.proofs.Saying.{Stood, SaysHead, head_says, reads_refused, reads_packets}
 use Rattle.record.proofs.InPieces.{last_head, piece_head, head_alone}
-use Rattle.timing.specs.Answers.{SetUp}
+use Rattle.timing.specs.Answers.{SetUp, set_up_as}
 use Rattle.timing.specs.Step.{of_profile, rules_of, fresh_of}
-use Rattle.timing.specs.Answers.{set_up_as}
 use Rattle.timing.proofs.InRange.{sound_fresh}
-use Rattle.printer.specs.Step.{Opened, opened_refused, opened_ready}
+use Rattle.printer.specs.Step.{Opened, opened_refused, opened_ready, ready_by, ready_of, head_by, begin_of}
 use Rattle.printer.specs.Paper.{lines_of, stream_of, output_by, rest_of, output_of}
-use Rattle.printer.specs.Step.{ready_by, ready_of, head_by, begin_of}
 use Rattle.printer.specs.Drive.{Stands, rest_from}
 
 -- what an answer to the window w says of the file w ++ v

@@ -17,9 +17,8 @@ use Rattle.timing.specs.Answers.{answers_of, verdict_of}
 use Rattle.timing.specs.Range.{Sound}
 use Rattle.timing.proofs.InRange.{of_sound}
 use Rattle.printer.specs.declared.Walk.{Walk}
-use Rattle.printer.specs.Step.{Opened}
+use Rattle.printer.specs.Step.{Opened, opened_number, opened_offset, begin_of, take_of}
 use Rattle.printer.specs.Paper.{sum_line, rest_of, output_of, lines_of, output_by}
-use Rattle.printer.specs.Step.{opened_number, opened_offset, begin_of, take_of}
 use Rattle.printer.specs.Drive.{Stands, rest_from, Shows, Drives, last_call, call, Prints, refused, walked}
 use Rattle.printer.proofs.Carrying.{take_carries}
 use Rattle.printer.proofs.Inside.{take_inside}

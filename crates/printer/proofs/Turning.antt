@@ -10,10 +10,9 @@ use Rattle.packet.specs.Step.{number_of}
 use Rattle.frame.specs.declared.Row.{Row}
 use Rattle.text.specs.Lines.{line_room, row_line}
 use Rattle.record.specs.declared.Cursor.{Cursor}
-use Rattle.record.specs.Step.{NextRead, next_refused, next_packet, next_end, next_more}
+use Rattle.record.specs.Step.{NextRead, next_refused, next_packet, next_end, next_more, next_piece}
 use Rattle.record.specs.declared.Next.TheVariants.{Packet, End, More}
 use Rattle.record.specs.Paper.{packet_bytes}
-use Rattle.record.specs.Step.{next_piece}
 use Rattle.record.specs.Pieces.{taken, wants_more}
 use Rattle.record.proofs.Window.{read_within}
 use Rattle.record.proofs.InPieces.{piece_alone}

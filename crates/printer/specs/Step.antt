@@ -8,20 +8,17 @@ use Rattle.text.specs.Lines.{refusal_line, line_room}
 use Rattle.refusal.specs.Told.{Numbered}
 use Rattle.record.specs.declared.Cursor.{Cursor}
 use Rattle.record.specs.declared.FileNumbers.{FileNumbers}
-use Rattle.record.specs.Step.{HeadRead, next_refused, next_end, next_more}
-use Rattle.record.specs.Step.{NextRead}
+use Rattle.record.specs.Step.{HeadRead, next_refused, next_end, next_more, NextRead, head_piece, next_piece}
 use Rattle.record.specs.declared.Next.TheVariants.{Packet, End, More}
 use Rattle.record.specs.Paper.{packet_bytes, head_bytes, heading}
 use Rattle.record.specs.Walk.{numbers_of}
-use Rattle.record.specs.Step.{head_piece, next_piece}
 use Rattle.record.specs.Pieces.{wants_more}
 use Rattle.timing.specs.declared.Rules.{Rules}
 use Rattle.timing.specs.declared.State.{State}
-use Rattle.timing.specs.Answers.{SetUp}
+use Rattle.timing.specs.Answers.{SetUp, set_up_as}
 use Rattle.timing.specs.Step.{of_profile, rules_of, step_of, rows_of}
 use Rattle.timing.specs.Range.{in_range}
 use Rattle.timing.specs.Feed.{MakeAsks}
-use Rattle.timing.specs.Answers.{set_up_as}
 use Rattle.printer.specs.declared.Walk.{Walk}
 use Rattle.printer.specs.declared.TakeAnswer.{TakeAnswer}
 use Rattle.printer.specs.Paper.{row_lines, sum_line}

@@ -7,9 +7,8 @@ use Rattle.record.specs.Paper.{head_bytes}
 use Rattle.record.proofs.InPieces.{head_suffices}
 use Rattle.text.specs.Lines.{line_room, refusal_line}
 use Rattle.printer.specs.declared.Walk.{Walk}
-use Rattle.printer.specs.Step.{Opened}
+use Rattle.printer.specs.Step.{Opened, begin_of, take_of, Headed}
 use Rattle.printer.specs.Paper.{output_of}
-use Rattle.printer.specs.Step.{begin_of, take_of, Headed}
 use Rattle.printer.specs.Drive.{Stands, rest_from}
 use Rattle.printer.proofs.Inside.{take_inside, begin_headed}
 use Rattle.printer.proofs.Beginning.{Tells, begin_tells, Answered, head_answered, begin_answered}

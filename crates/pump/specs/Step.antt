@@ -3,9 +3,8 @@ use Rattle.std.specs.Prelude.{Ok, Err, Some, None}
 use Rattle.laws.specs.Kit.{Bool, List, ℕ, eqb}
 use Rattle.record.specs.Paper.{head_bytes}
 use Rattle.text.specs.Lines.{refusal_line}
-use Rattle.printer.specs.Step.{Opened}
+use Rattle.printer.specs.Step.{Opened, TakeOutcome, begin_of, take_of}
 use Rattle.printer.specs.Paper.{output_of}
-use Rattle.printer.specs.Step.{TakeOutcome, begin_of, take_of}
 use Rattle.window.specs.Step.{Did, waiting, refusing, going, Machine}
 use Rattle.pump.specs.declared.Stage.{Stage}
 use Rattle.pump.specs.declared.Stage.TheVariants.{Head, Walking}
