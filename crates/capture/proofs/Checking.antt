@@ -168,8 +168,8 @@ module _ {p : Setting} {s : List ℕ} {whole y : Seen} {at : ℕ} (i : Loop p s 
           ∙ ap (check_records y) (sym (whole_record p (drop at s) here))
           ∙ i.same
 
-      pub loop_next : refusal_of y told ≡ 0 → Loop p s whole (seen_of y told) (at + size)
-      loop_next z =
+      counts_on : refusal_of y told ≡ 0 → Loop p s whole (seen_of y told) (at + size)
+      counts_on z =
           let kept = seen_keeps y told i.no_more i.closed in
           record {
             same =
@@ -182,12 +182,15 @@ module _ {p : Setting} {s : List ℕ} {whole y : Seen} {at : ℕ} (i : Loop p s 
             closed = kept.closed;
           }
 
+      pub loop_next : {z : Seen} → Ok tt ≡ admitted_of y told → z ≡ seen_of y told → Loop p s whole z (at + size)
+      loop_next a q = rw q (counts_on (admitted_fine y told a))
+
 -- the loop begins behind the header
 pub loop_begins : (p : Setting) (s : List ℕ) (y : Seen) → header_bytes ≤ length s → y.records ≡ 0 → Room y → Loop p s y y header_bytes
 loop_begins p s y h z room =
     record { same = refl; within = h; counted = omega (arith, z); no_more = room.no_more; closed = room.closed }
 
-pub ruleset loop_laws = (loop_begins, loop_room, loop_cut, loop_stops, size_within, loop_refused, admitted_fine)
+pub ruleset loop_laws = (loop_begins, loop_room, loop_cut, loop_stops, size_within, loop_refused, loop_next, admitted_fine)
 
 -- ---- the whole capture, by its header
 

@@ -158,7 +158,8 @@ module _ (p : Setting) (last : Bool) where
       ahead_stops k = rw (ahead_is e) (go r k)
         where
           go : (r : Next) → ((n : ℕ) → r ≡ next.Skipped n → ⊥)
-              → ahead_next (λ n. ahead_by (length (drop used w)) p between (drop n (drop used w)) last (used + n) (skips + 1)) used skips (Ok r)
+              → ahead_next (λ n. ahead_by (length (drop used w)) p between (drop n (drop used w)) last (used + n) (skips + 1)) used skips
+              (Ok r)
               ≡ Ok (behind_by used skips r)
           go (next.Packet q n) k = refl
           go (next.Skipped n) k = absurd (k n refl)

@@ -9,8 +9,8 @@ ghost use Rattle.laws.specs.Kit.{true, drop};
 ghost use Rattle.endian.specs.Number.{Room};
 ghost use Rattle.capture.specs.Paper.{header_bytes, linked_by, magic_by, header_of, second_of, arrival_of, records_in, seen_from, check_records};
 ghost use Rattle.capture.specs.Paper.{checked_of};
-ghost use Rattle.capture.specs.Step.{format_in, opened_of, found_told, told_of, record_of, front_of, between, settled_by, passed_of, next_of};
-ghost use Rattle.capture.specs.Step.{sought_of, found_of, UsedFits, behind_by, ahead_told, ahead_of, Enough, refusal_of, admitted_of, seen_of};
+ghost use Rattle.capture.specs.Step.{format_in, opened_of, told_of, record_of, front_of, between, settled_by, passed_of, next_of, sought_of};
+ghost use Rattle.capture.specs.Step.{found_of, UsedFits, behind_by, ahead_told, ahead_of, Enough, refusal_of, admitted_of, seen_of};
 ghost use Rattle.capture.specs.Step.{Room as SeenRoom};
 ghost use Rattle.refusal.specs.Told.{by_number, told};
 
@@ -394,10 +394,8 @@ impl Cursor {
         let mut used = 0;
         let mut skipped = 0;
         loop {
-            let next = match cursor.read(setting, &window[used..], last) {
-                Ok(next) => next,
-                Err(refusal) => return Err(RefusedAhead { refusal, skipped }),
-            };
+            let read = cursor.read(setting, &window[used..], last);
+            let next = read.map_err(|refusal| RefusedAhead { refusal, skipped })?;
             let Next::Skipped { used: more } = next else {
                 return Ok(behind(next, used, skipped));
             };
@@ -415,13 +413,13 @@ impl Seen {
         ensures { told result ≡ admitted_of self said }
     {
         match said {
-            Told::Packet(packet) => match self.tally.past.admit(packet) {
-                Ok(()) => Ok(()),
-                Err(refusal) => Err(Refused {
+            Told::Packet(packet) => {
+                let past = self.tally.past;
+                past.admit(packet).map_err(|refusal| Refused {
                     refusal,
-                    place: self.tally.past.packets,
-                }),
-            },
+                    place: past.packets,
+                })
+            }
             Told::Skipped => Ok(()),
             Told::Late => Err(Refused {
                 refusal: Refusal::SubSecond,
@@ -460,15 +458,9 @@ impl Seen {
         let mut seen = self;
         let mut at = HEADER;
         loop {
-            let front = match setting.front(&s[at..], true) {
-                Ok(front) => front,
-                Err(refusal) => {
-                    return Err(Refused {
-                        refusal,
-                        place: seen.records,
-                    });
-                }
-            };
+            let place = seen.records;
+            let read = setting.front(&s[at..], true);
+            let front = read.map_err(|refusal| Refused { refusal, place })?;
             let Front::Record { told, size } = front else {
                 return Ok(seen);
             };

@@ -7,7 +7,6 @@ use Rattle.endian.specs.Number.{Bytes}
 use Rattle.limits.specs.Accepted.{KnownEdition}
 use Rattle.refusal.specs.Told.{Numbered}
 use Rattle.packet.specs.Step.{nothing, scan_of}
-use Rattle.headers.specs.declared.Handed.TheVariants.{Skipped}
 use Rattle.headers.specs.Paper.{HandedOn, on_at}
 use Rattle.headers.specs.Step.{handed_of}
 use Rattle.headers.proofs.Exactly as exactly
@@ -27,7 +26,6 @@ use Rattle.timing.specs.declared.State.{State}
 use Rattle.timing.specs.Step.{stated_of, first_stated, stated_refusal, rules_of, fresh_of}
 use Rattle.timing.specs.Range.{in_range}
 use Rattle.timing.specs.Feed.{feed_all}
-use Rattle.intake.specs.declared.Taken.TheVariants.{Refused}
 use Rattle.intake.specs.Paper.{records_of, packets_of, skipped_of, refused_by, capture_of, fed_as, taken_as, not_taken}
 use Rattle.intake.proofs.Feeding as call
 use Rattle.intake.proofs.Swapped as swapped

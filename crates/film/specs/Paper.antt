@@ -4,9 +4,7 @@ use Rattle.std.specs.Prelude.{◌∷◌, ◌++◌, Ok, Err}
 use Rattle.laws.specs.Kit.{false, List, [], map, ℕ, leb, eqb, pos, length, drop}
 use Rattle.laws.specs.Choose.{pick}
 use Rattle.packet.specs.Step.{nothing}
-use Rattle.capture.specs.Paper.{Checked, checked_refused}
-use Rattle.capture.specs.declared.Checked.TheVariants.{Refused}
-use Rattle.capture.specs.Paper.{seen_from, checked_of}
+use Rattle.capture.specs.Paper.{Checked, checked_refused, seen_from, checked_of}
 use Rattle.intake.specs.Paper.{records_of, packets_of, skipped_of}
 use Rattle.timing.specs.declared.StreamNumbers.{StreamNumbers}
 use Rattle.timing.specs.declared.Stated.{Stated}

@@ -17,7 +17,8 @@ use Rattle.timing.specs.declared.State.{State}
 use Rattle.timing.specs.Range.{in_range}
 use Rattle.timing.specs.Feed as F
 use Rattle.timing.proofs.Feeding.{nothing_fed}
-use Rattle.intake.specs.Paper.{Taken, records_of, packets_of, skipped_of, refused_by, accepted_as, room_for, by_check, capture_of, fed_as, taken_as, not_taken}
+use Rattle.intake.specs.Paper.{Taken, records_of, packets_of, skipped_of, refused_by, accepted_as, room_for, by_check, capture_of, fed_as}
+use Rattle.intake.specs.Paper.{taken_as, not_taken}
 use Rattle.intake.proofs.Reading.{seen, check_known}
 
 module _ (s : State) (rows : List ℤ) (port offset : ℕ) (b : List ℕ) where
@@ -131,7 +132,8 @@ refused_stays s t rows port offset number place b =
     go (in_range s) (checked_of port offset (seen_from s.past s.frames.begun) b)
   where
     go : (r : Bool) (x : Checked)
-        → (pick r (by_check s rows x (packets_of port offset b) (skipped_of port offset b)) (refused_by s rows 9 0)).answer ≡ not_taken number place t
+        → (pick r (by_check s rows x (packets_of port offset b) (skipped_of port offset b)) (refused_by s rows 9 0)).answer
+        ≡ not_taken number place t
         → (t ≡ s) × ((pick r (by_check s rows x (packets_of port offset b) (skipped_of port offset b)) (refused_by s rows 9 0)).rows ≡ rows)
     go true (Ok y) e =
         room_stays s t rows y.tally.closed number place (skipped_of port offset b) (packets_of port offset b) e

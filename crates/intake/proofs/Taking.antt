@@ -37,7 +37,8 @@ module _ (s : State) (rows : List ℤ) (port offset : ℕ) (b : List ℕ) where
       room_for_lem : room_for s rows y.tally.closed (packets_of port offset b) (skipped_of port offset b) ≡ capture_of s rows port offset b
       room_for_lem = by_check_lem (Ok y) f
 
-      pub taken_15 : length rows / row_width < y.tally.closed → TakeGives (capture_of s rows port offset b) (not_taken 15 s.past.packets s) rows
+      pub taken_15 : length rows / row_width < y.tally.closed
+          → TakeGives (capture_of s rows port offset b) (not_taken 15 s.past.packets s) rows
       taken_15 l =
           let n = y.tally.closed in
           let few : length rows < n * row_width = (div-lt_iff_lt-mul {k = row_width} {x = length rows} {y = n} (omega arith)).0 l in

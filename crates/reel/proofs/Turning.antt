@@ -289,7 +289,8 @@ module _ (reel : Reel) {used written next : ℕ} {out after : List ℕ} where
         fits = omega (arith, k.put.next);
       })
 
-  pub stop_end : {a : AheadRead} {m : ℕ} → a ≡ ahead_end m → written + line_room ≤ length out → Line (line_ahead reel a) written out next after
+  pub stop_end : {a : AheadRead} {m : ℕ} → a ≡ ahead_end m → written + line_room ≤ length out
+      → Line (line_ahead reel a) written out next after
       → TakeGives (stops_at a reel) used written out (record { reel = reel; used = used; written = next; ended = true }) after
   stop_end {a} e h l = rw e (line_ends h (rw e at l))
 

@@ -28,7 +28,8 @@ arrive-s-requires c =
 
 pub lay_row-at-requires : goal.lay_row-at-requires
 lay_row-at-requires c =
-    rw c.arrive-s.ensures (loop_lays as_numbers (first (goal.at.lay_row-at-requires c).In-Some).0 c.loop-found.invariant c.if-packet-eq1.true)
+    let on = first (goal.at.lay_row-at-requires c).In-Some in
+    rw c.arrive-s.ensures (loop_lays as_numbers on.0 c.loop-found.invariant c.if-packet-eq1.true)
 
 pub mark-s-requires : goal.mark-s-requires
 mark-s-requires c =
@@ -36,7 +37,8 @@ mark-s-requires c =
 
 pub loop-found-smaller-then-packet-eq1 : goal.loop-found-smaller-then-packet-eq1
 loop-found-smaller-then-packet-eq1 c =
-    omega (arith, (first (goal.at.loop-found-smaller-then-packet-eq1 c).In-Some).1, (first (goal.at.loop-found-smaller-then-packet-eq1 c).In-Some).2)
+    let on = first (goal.at.loop-found-smaller-then-packet-eq1 c).In-Some in
+    omega (arith, on.1, on.2)
 
 pub loop-found-preserved-then-packet-eq1 : goal.loop-found-preserved-then-packet-eq1
 loop-found-preserved-then-packet-eq1 c =
@@ -47,7 +49,8 @@ loop-found-preserved-then-packet-eq1 c =
 
 pub loop-found-smaller : goal.loop-found-smaller
 loop-found-smaller c =
-    omega (arith, (first (goal.at.loop-found-smaller c).In-Some).1, (first (goal.at.loop-found-smaller c).In-Some).2)
+    let on = first (goal.at.loop-found-smaller c).In-Some in
+    omega (arith, on.1, on.2)
 
 pub loop-found-preserved : goal.loop-found-preserved
 loop-found-preserved c =
