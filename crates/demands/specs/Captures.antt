@@ -40,9 +40,8 @@ use Rattle.reel.proofs.Wholly as wholly
 use Rattle.words.specs.declared.Numbers.{Numbers}
 use Rattle.words.specs.Paper.{as_given, asked_of}
 use Rattle.words.proofs.AsGiven as words
-use Rattle.window.specs.declared.End.{End}
-use Rattle.window.specs.declared.End.TheVariants.{Whole, Unread}
-use Rattle.window.specs.Run.{Front, WholeOutput, RunEnds}
+use Rattle.window.specs.declared.BrokenOff.TheVariants.{Unread}
+use Rattle.window.specs.Run.{Front, WholeOutput, End, RunEnds}
 use Rattle.window.proofs.Running as running
 use Rattle.spool.specs.Step.{machine}
 use Rattle.spool.proofs.Stages.{size, keeps}
@@ -165,11 +164,11 @@ module _ (what : Asked) where
   captures_front = running.ran_front (machine what) line_room size (keeps what)
 
   -- R17, X10: and all of it where the last line is out
-  pub captures_whole : {room : ℕ} {last : Bool} {file text : List ℕ} → RunEnds (machine what) room last file text Whole
+  pub captures_whole : {room : ℕ} {last : Bool} {file text : List ℕ} → RunEnds (machine what) room last file text (Ok tt)
       → WholeOutput (machine what) last file text
   captures_whole = running.ran_whole (machine what) line_room size (keeps what)
 
   -- R17, X10: and where the capture had ended no read has failed
   pub captures_ended : {room : ℕ} {last : Bool} {file text : List ℕ} {end : End} → RunEnds (machine what) room last file text end
-      → last ≡ true → end ≡ Unread → ⊥
+      → last ≡ true → end ≡ Err Unread → ⊥
   captures_ended = running.ran_ended

@@ -1,7 +1,7 @@
 -- The program's output. `output_of file` is what document 01 says is printed of a file (printer's Paper). First the lines themselves, then a
 -- file in pieces through calls of `Walk::take` (`Prints`, printer's Drive), then any run of the program, whatever its reads bring (`RunEnds`,
 -- window's Run): what it hands over to be written is that output, or a front of it where a read or a write failed.
-use Rattle.std.specs.Prelude.{◌≡◌, ◌⊎◌, ◌++◌, ◌≤◌, ◌<◌}
+use Rattle.std.specs.Prelude.{◌≡◌, ◌⊎◌, ◌++◌, ◌≤◌, ◌<◌, Ok, Err}
 use Rattle.laws.specs.Kit.{Bool, true, false, List, [], ℕ, length}
 use Rattle.laws.specs.Choose.{AllBelow}
 use Rattle.frame.specs.declared.Row.{Row}
@@ -21,9 +21,8 @@ use Rattle.printer.specs.Paper.{sum_line, output_of}
 use Rattle.printer.specs.Step.{opened_number, opened_offset, begin_of, take_of}
 use Rattle.printer.specs.Drive.{Prints}
 use Rattle.printer.proofs.Output as proved
-use Rattle.window.specs.declared.End.{End}
-use Rattle.window.specs.declared.End.TheVariants.{Whole, Unread}
-use Rattle.window.specs.Run.{Front, WholeOutput, RunEnds}
+use Rattle.window.specs.declared.BrokenOff.TheVariants.{Unread}
+use Rattle.window.specs.Run.{Front, WholeOutput, End, RunEnds}
 use Rattle.window.proofs.Running as running
 use Rattle.pump.specs.Step.{machine}
 use Rattle.pump.proofs.Stages.{size, keeps}
@@ -87,11 +86,11 @@ pub ran_front : {room : ℕ} {last : Bool} {file text : List ℕ} {end : End} �
 ran_front = running.ran_front machine line_room size keeps
 
 -- X10: and all of it where the last line is out
-pub ran_whole : {room : ℕ} {last : Bool} {file text : List ℕ} → RunEnds machine room last file text Whole
+pub ran_whole : {room : ℕ} {last : Bool} {file text : List ℕ} → RunEnds machine room last file text (Ok tt)
     → WholeOutput machine last file text
 ran_whole = running.ran_whole machine line_room size keeps
 
 -- X10: and where the file had ended no read has failed: the last line is out, or a write failed, or the turns were over
 pub ran_ended : {room : ℕ} {last : Bool} {file text : List ℕ} {end : End} → RunEnds machine room last file text end → last ≡ true
-    → end ≡ Unread → ⊥
+    → end ≡ Err Unread → ⊥
 ran_ended = running.ran_ended

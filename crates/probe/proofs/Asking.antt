@@ -1,6 +1,6 @@
 -- A call's number and place by what is found in turn: the words, the range, the scan, the room. So they depend on how many numbers are
 -- lent, and not on what they are.
-use Rattle.std.specs.Prelude.{◌≡◌, ◌⊎◌, ◌&&◌, ◌*◌, ◌/◌, ◌≤◌, ◌<◌, Err, Ok}
+use Rattle.std.specs.Prelude.{◌≡◌, ◌⊎◌, ◌&&◌, ◌*◌, ◌/◌, ◌≤◌, ◌<◌, Err, Ok, None, Some}
 use Rattle.laws.specs.Kit.{refl, sym, ap, ◌∙◌, inl, inr, Bool, true, false, List, ℕ, arith}
 use Rattle.laws.specs.Kit.{le-div_iff_mul-le, div-lt_iff_lt-mul, leb, ℤ, pos, length, take, replicate, length-replicate, le-leb, lt-leb}
 use Rattle.laws.specs.Choose.{pick}
@@ -15,18 +15,15 @@ use Rattle.timing.specs.Answers.{summary_width}
 use Rattle.timing.specs.Step.{rules_of, state_after}
 use Rattle.timing.specs.Range.{in_range}
 use Rattle.timing.specs.Feed.{Outcome, refused_by, accepted_as, by_scan, feed_of}
-use Rattle.probe.specs.declared.Answer.{Answer}
-use Rattle.probe.specs.declared.Held.{Held}
-use Rattle.probe.specs.declared.Held.TheVariants.{Known, Nothing}
-use Rattle.probe.specs.Words.{state_words, state_held_by}
+use Rattle.probe.specs.Words.{Held, state_words, state_held_by}
 use Rattle.probe.specs.Calls.{refused, accepted, by_fed, by_held, call_of, answer, asked, asked_of}
 
 -- ---- by what is found
 
-abbrev by_room : (room space packets closed : ℕ) → Answer
+abbrev by_room : (room space packets closed : ℕ) → Numbered
 by_room room space packets closed = pick (leb (closed * row_width) room && leb summary_width space) (answer 0 0) (answer 15 packets)
 
-abbrev by_scanned : (room space packets : ℕ) → Scanned → Answer
+abbrev by_scanned : (room space packets : ℕ) → Scanned → Numbered
 by_scanned room space packets (Ok closed) = by_room room space packets closed
 by_scanned room space packets (Err r) = answer r.number r.place
 
@@ -34,12 +31,12 @@ module _ (ts ss ms : List ℕ) where
   abbrev scanned : State → Scanned
   scanned s = scanned_of s.past s.frames.begun ts ss ms
 
-  abbrev answered : (room space : ℕ) → Held → Answer
-  answered room space (Known s) = pick (in_range s) (by_scanned room space s.past.packets (scanned s)) (answer 9 0)
-  answered room space Nothing = answer 9 0
+  abbrev answered : (room space : ℕ) → Held → Numbered
+  answered room space (Some s) = pick (in_range s) (by_scanned room space s.past.packets (scanned s)) (answer 9 0)
+  answered room space None = answer 9 0
 
   -- what `feed` answers of a scan, as the call tells it
-  abbrev fed : (words : List ℕ) (rows : List ℤ) (out : List ℕ) (s : State) → Outcome → Answer
+  abbrev fed : (words : List ℕ) (rows : List ℤ) (out : List ℕ) (s : State) → Outcome → Numbered
   fed words rows out s o = asked (by_fed words rows out s o.answer o.rows)
 
   told_by : (words : List ℕ) (rows : List ℤ) (out : List ℕ) → asked (call_of words rows out ts ss ms)
@@ -67,8 +64,8 @@ module _ (ts ss ms : List ℕ) where
       found s false x = refl
 
       go : (h : Held) → asked (by_held words rows out ts ss ms h) ≡ answered (length rows) (length out) h
-      go Nothing = refl
-      go (Known s) = found s (in_range s) (scanned s)
+      go None = refl
+      go (Some s) = found s (in_range s) (scanned s)
 
   asked_by : (words : List ℕ) (room space : ℕ) → asked_of words ts ss ms room space ≡ answered room space (state_held_by (take state_words words))
   unfolding asked_of
@@ -87,11 +84,11 @@ module _ (ts ss ms : List ℕ) where
     by_held_lem : {h : Held} → h ≡ state_held_by (take state_words words) → answered room space h ≡ asked_of words ts ss ms room space
     by_held_lem e = ap (answered room space) e ∙ sym (asked_by words room space)
 
-    pub asked_nothing : {h : Held} → h ≡ state_held_by (take state_words words) → h ≡ Nothing → answer 9 0 ≡ asked_of words ts ss ms room space
+    pub asked_nothing : {h : Held} → h ≡ state_held_by (take state_words words) → h ≡ None → answer 9 0 ≡ asked_of words ts ss ms room space
     asked_nothing e f = by_held_lem (sym f ∙ e)
 
-    module _ {h : Held} {s : State} (e : h ≡ state_held_by (take state_words words)) (f : h ≡ Known s) where
-      known : answered room space (Known s) ≡ asked_of words ts ss ms room space
+    module _ {h : Held} {s : State} (e : h ≡ state_held_by (take state_words words)) (f : h ≡ Some s) where
+      known : answered room space (Some s) ≡ asked_of words ts ss ms room space
       known = by_held_lem (sym f ∙ e)
 
       pub asked_9 : in_range s ≡ false → answer 9 0 ≡ asked_of words ts ss ms room space

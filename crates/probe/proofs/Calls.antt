@@ -1,7 +1,8 @@
 -- The ways out of set-up and of a call, one law each, from what the code has found.
-use Rattle.std.specs.Prelude.{◌≡◌, ◌≤◌, ◌<◌, Ok}
+use Rattle.std.specs.Prelude.{◌≡◌, ◌≤◌, ◌<◌, Ok, Err, None, Some}
 use Rattle.laws.specs.Kit.{refl, sym, ap, ◌∙◌, List, ℕ, arith, ℤ, length, take, length-take, sets, ne_eqb, le-leb, lt-leb}
 use Rattle.laws.proofs.Choose.{second, before}
+use Rattle.refusal.specs.Told.{Numbered}
 use Rattle.timing.specs.declared.Stated.{Stated}
 use Rattle.timing.specs.declared.State.{State}
 use Rattle.timing.specs.Feed.{Fed, not_fed}
@@ -9,10 +10,7 @@ use Rattle.timing.specs.Step.{stated_of, stated_refusal, fresh_of}
 use Rattle.timing.specs.Answers.{summary_width, summary_of}
 use Rattle.timing.specs.Feed.{feed_of, FeedGives}
 use Rattle.timing.proofs.Feeding.{refused_stays}
-use Rattle.probe.specs.declared.Answer.{Answer}
-use Rattle.probe.specs.declared.Held.{Held}
-use Rattle.probe.specs.declared.Held.TheVariants.{Known, Nothing}
-use Rattle.probe.specs.Words.{state_words, words_of, state_held_by}
+use Rattle.probe.specs.Words.{Held, state_words, words_of, state_held_by}
 use Rattle.probe.specs.Calls.{words_number, set_up_left, SetUpGives, CallOutcome, refused, accepted, by_fed, by_held, call_of, CallGives, asked_of}
 use Rattle.probe.proofs.RoundTrip.{length_words, only_words_hold}
 use Rattle.probe.proofs.Asking.{by_lengths}
@@ -53,7 +51,7 @@ is t e = record {
   out_is = ap (λ (x : CallOutcome). x.out) e;
 }
 
-pub enough_words : (words : List ℕ) {h : Held} {s : State} → h ≡ state_held_by (take state_words words) → h ≡ Known s → state_words ≤ length words
+pub enough_words : (words : List ℕ) {h : Held} {s : State} → h ≡ state_held_by (take state_words words) → h ≡ Some s → state_words ≤ length words
 enough_words words {s = s} e f =
     let w = ap length (only_words_hold (take state_words words) s (sym e ∙ f)) in
     omega (arith, w, length_words s, length-take state_words words)
@@ -63,7 +61,7 @@ module _ (words : List ℕ) (rows : List ℤ) (out ts ss ms : List ℕ) where
   unfolding call_of
   by_held_lem e = ap (by_held words rows out ts ss ms) e
 
-  pub no_state : {h : Held} → h ≡ state_held_by (take state_words words) → h ≡ Nothing → CallGives (call_of words rows out ts ss ms) 9 words rows out
+  pub no_state : {h : Held} → h ≡ state_held_by (take state_words words) → h ≡ None → CallGives (call_of words rows out ts ss ms) 9 words rows out
   no_state e f = is (refused words rows out 9 0) (by_held_lem (sym f ∙ e))
 
   -- where there is no room for the summary the call is refused, whatever the words hold
@@ -75,26 +73,26 @@ module _ (words : List ℕ) (rows : List ℤ) (out ts ss ms : List ℕ) where
       fed : (s : State) (b : Fed) (after : List ℤ) → by_fed words rows out s b after
           ≡ refused words rows out (by_fed words rows out s b after).number (by_fed words rows out s b after).place
       fed s (Ok t) after = rw (lt-leb summary_width (length out) h)
-      fed s (not_fed number place t) after = refl
+      fed s (Err r) after = refl
 
       go : (x : Held) → by_held words rows out ts ss ms x
           ≡ refused words rows out (by_held words rows out ts ss ms x).number (by_held words rows out ts ss ms x).place
-      go (Known s) = fed s (feed_of s rows ts ss ms).answer (feed_of s rows ts ss ms).rows
-      go Nothing = refl
+      go (Some s) = fed s (feed_of s rows ts ss ms).answer (feed_of s rows ts ss ms).rows
+      go None = refl
 
-  pub no_summary : {a : Answer} → length out < summary_width → a ≡ asked_of words ts ss ms (length rows) (length out)
+  pub no_summary : {a : Numbered} → length out < summary_width → a ≡ asked_of words ts ss ms (length rows) (length out)
       → CallGives (call_of words rows out ts ss ms) a.number words rows out
   no_summary h e =
       let told = call_of words rows out ts ss ms in
       let r = is (refused words rows out told.number told.place) (sym (short h)) in
       record {
-        number_is = ap (λ (x : Answer). x.number) (e ∙ by_lengths ts ss ms words rows out);
+        number_is = ap (λ (x : Numbered). x.number) (e ∙ by_lengths ts ss ms words rows out);
         words_are = r.words_are;
         rows_are = r.rows_are;
         out_is = r.out_is;
       }
 
-  module _ {h : Held} {s : State} {b : Fed} {after : List ℤ} (e : h ≡ state_held_by (take state_words words)) (f : h ≡ Known s)
+  module _ {h : Held} {s : State} {b : Fed} {after : List ℤ} (e : h ≡ state_held_by (take state_words words)) (f : h ≡ Some s)
       (g : FeedGives (feed_of s rows ts ss ms) b after) where
     by_fed_lem : by_fed words rows out s b (feed_of s rows ts ss ms).rows ≡ call_of words rows out ts ss ms
     by_fed_lem = ap (λ (z : Fed). by_fed words rows out s z (feed_of s rows ts ss ms).rows) g.answer_is ∙ by_held_lem (sym f ∙ e)

@@ -1,6 +1,6 @@
 -- From call to call: what an accepted call leaves are the words of the state that `feed` gives, and the next call reads that state. The
 -- numbers that have fewer than 64 bits still fit: a packet changes the timestamp alone, and to its own.
-use Rattle.std.specs.Prelude.{◌≡◌, ◌∷◌, ◌≤◌, ◌<◌}
+use Rattle.std.specs.Prelude.{◌≡◌, ◌∷◌, ◌≤◌, ◌<◌, Some}
 use Rattle.laws.specs.Kit.{sym, ap, ◌∙◌, subst, Bool, true, false, List, [], ℕ, arith, eqb, length, take, drop, sets}
 use Rattle.laws.specs.Kit.{take_at}
 use Rattle.laws.specs.Choose.{pick}
@@ -17,7 +17,6 @@ use Rattle.timing.specs.declared.Rules.{Rules}
 use Rattle.timing.specs.declared.State.{State}
 use Rattle.timing.specs.Step.{gone_of, arrive_of, mark_of, step_of, state_after}
 use Rattle.timing.proofs.Running.{step_numbers}
-use Rattle.probe.specs.declared.Held.TheVariants.{Known}
 use Rattle.probe.specs.Words.{state_words, words_of, state_held_by}
 use Rattle.probe.specs.Dealt.{Stamped}
 use Rattle.probe.proofs.RoundTrip.{Narrow, length_words, words_hold}
@@ -60,7 +59,7 @@ narrow_after (p ∷ l) rules s h f = narrow_after l rules (step_of rules s p) h.
 
 -- ---- words that were laid in front are read again
 
-pub laid_hold : (words : List ℕ) (s : State) → state_words ≤ length words → Narrow s → state_held_by (take state_words (sets words 0 (words_of s))) ≡ Known s
+pub laid_hold : (words : List ℕ) (s : State) → state_words ≤ length words → Narrow s → state_held_by (take state_words (sets words 0 (words_of s))) ≡ Some s
 laid_hold words s h f =
     let long = length_words s in
     ap (λ (l : List ℕ). state_held_by (take state_words l)) (sets_front (words_of s) words (omega arith))

@@ -1,5 +1,5 @@
 -- What the C functions over a state in words do: each from what `feed` does, by the words that carry its state.
-use Rattle.std.specs.Prelude.{◌≡◌, ◌∷◌, ◌≤◌, Ok}
+use Rattle.std.specs.Prelude.{◌≡◌, ◌∷◌, ◌≤◌, Ok, Err, None, Some}
 use Rattle.laws.specs.Kit.{refl, sym, ap, ◌∙◌, subst, Bool, true, false, List, [], map, ℕ, arith, leb, ℤ, length}
 use Rattle.laws.specs.Kit.{take, sets, le-leb}
 use Rattle.laws.specs.Choose.{pick}
@@ -8,7 +8,7 @@ use Rattle.limits.proofs.Editions.{in_fine}
 use Rattle.timing.specs.declared.StreamNumbers.{StreamNumbers}
 use Rattle.timing.specs.declared.Stated.{Stated}
 use Rattle.timing.specs.declared.State.{State}
-use Rattle.timing.specs.Feed.{Fed, not_fed}
+use Rattle.timing.specs.Feed.{Fed}
 use Rattle.timing.specs.Step.{set_up_of, stated_of, stated_as, stated_refusal, rules_of, fresh_of, numbers}
 use Rattle.timing.specs.History.{AcceptedHistory, reached, rows_of_all}
 use Rattle.timing.specs.Answers.{summary_width, fed_number, fed_place}
@@ -16,9 +16,7 @@ use Rattle.timing.specs.Feed.{Outcome, feed_of, all_of, writes, Deals, none, cal
 use Rattle.timing.proofs.Stating.{stated_back, stated_as_lem, stated_fine}
 use Rattle.timing.proofs.Feeding.{accepted_from, feed_slices}
 use Rattle.timing.proofs.Accepting.{dealt}
-use Rattle.probe.specs.declared.Held.{Held}
-use Rattle.probe.specs.declared.Held.TheVariants.{Known, Nothing}
-use Rattle.probe.specs.Words.{state_words, state_held_by, Holds, HoldNone}
+use Rattle.probe.specs.Words.{Held, state_words, state_held_by, Holds, HoldNone}
 use Rattle.probe.specs.Calls.{words_number, set_up_left, CallOutcome, refused, accepted, by_fed, by_held, call_of, Unchanged}
 use Rattle.probe.specs.Dealt.{Lent, lent_packets, as_call, AllWhole, told, Dealt, no_call, one_call}
 use Rattle.probe.proofs.RoundTrip.{Narrow}
@@ -58,11 +56,11 @@ module _ (words : List ℕ) (rows : List ℤ) (out ts ss ms : List ℕ) where
       fed : (s : State) (b : Fed) (after : List ℤ) → ((by_fed words rows out s b after).number ≡ 0 → ⊥)
           → Unchanged words rows out (by_fed words rows out s b after)
       fed s (Ok t) after n = room s.past.packets t after (leb summary_width (length out)) n
-      fed s (not_fed number place t) after n = (refl, refl, refl)
+      fed s (Err r) after n = (refl, refl, refl)
 
       go : (h : Held) → ((by_held words rows out ts ss ms h).number ≡ 0 → ⊥) → Unchanged words rows out (by_held words rows out ts ss ms h)
-      go (Known s) n = fed s (feed_of s rows ts ss ms).answer (feed_of s rows ts ss ms).rows n
-      go Nothing n = (refl, refl, refl)
+      go (Some s) n = fed s (feed_of s rows ts ss ms).answer (feed_of s rows ts ss ms).rows n
+      go None n = (refl, refl, refl)
 
   -- words that hold no state are 9 at place 0
   pub no_state_9 : HoldNone words
@@ -80,7 +78,7 @@ module _ (words : List ℕ) (rows : List ℤ) (out ts ss ms : List ℕ) where
         go : (b : Fed) (after : List ℤ) → ((by_fed words rows out s b after).number ≡ fed_number b)
             × ((by_fed words rows out s b after).place ≡ fed_place b)
         go (Ok t) after = rw (le-leb summary_width (length out) nine) (refl, refl)
-        go (not_fed number place t) after = (refl, refl)
+        go (Err r) after = (refl, refl)
 
     -- and where it accepts: its state's words, its rows, and the nine numbers of that state
     pub as_accepted : (t : State) (after : List ℤ) → feed_of s rows ts ss ms ≡ record { answer = Ok t; rows = after }
@@ -117,4 +115,4 @@ dealt_over_c_calls h f words enough cs w all room =
     let begun = set_up_holds (stated_as h.stream) words f (stated_as_lem h.stream ∙ h.set_up) enough in
     carried cs (fresh_of h.stream) _ (set_up_left (stated_as h.stream) words) _ (dealt h (map as_call cs) all room) w
     (narrow_fresh h.stream f h.set_up)
-    (begun.1 ∙ ap (λ (x : StreamNumbers). Known (fresh_of x)) (stated_back h.stream))
+    (begun.1 ∙ ap (λ (x : StreamNumbers). Some (fresh_of x)) (stated_back h.stream))

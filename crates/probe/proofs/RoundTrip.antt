@@ -1,5 +1,5 @@
 -- A state's words and back, both ways: reading undoes writing field by field, and only a state's own words are taken for it.
-use Rattle.std.specs.Prelude.{◌≡◌, ◌%◌, ◌<◌}
+use Rattle.std.specs.Prelude.{◌≡◌, ◌%◌, ◌<◌, None, Some}
 use Rattle.laws.specs.Kit.{refl, sym, ap, ◌∙◌, Bool, true, false, List, ℕ, arith, mod-eq_of_lt, eqb, length, take}
 use Rattle.laws.specs.Kit.{length-take}
 use Rattle.laws.specs.Choose.{pick}
@@ -7,7 +7,7 @@ use Rattle.bucket.specs.declared.Network.{Network}
 use Rattle.bucket.specs.declared.Network.TheVariants.{Pass, Burst}
 use Rattle.bucket.specs.Paper.{network_number, network_first, network_last}
 use Rattle.frame.specs.declared.Buffer.{Buffer}
-use Rattle.frame.specs.declared.Buffer.TheVariants.{None, Under, Over, Broken, Pass as BufferPass}
+use Rattle.frame.specs.declared.Buffer.TheVariants.{None as NoBuffer, Under, Over, Broken, Pass as BufferPass}
 use Rattle.frame.specs.Paper.{buffer_number, buffer_frame, buffer_place}
 use Rattle.timing.specs.declared.State.{State}
 use Rattle.laws.specs.Every.{flag}
@@ -16,13 +16,12 @@ use Rattle.limits.specs.declared.Profile.{Profile}
 use Rattle.limits.specs.declared.Profile.TheVariants.{Video, Compressed, Interlaced}
 use Rattle.limits.specs.Paper.{profile_kind, profile_of, given}
 use Rattle.limits.specs.Steps.{ParametersHeld}
-use Rattle.probe.specs.declared.Held.TheVariants.{Known, Nothing}
 use Rattle.probe.specs.Words.{state_words, words_of, network_in, buffer_in, state_in, same, state_held_by}
 use Rattle.probe.proofs.Alike.{alike, alike_only, unequal}
 
 -- ---- what the comparison says of the words
 
-held_by : (w : List ℕ) {t : Bool} → same (words_of (state_in w)) w ≡ t → state_held_by w ≡ pick t (Known (state_in w)) Nothing
+held_by : (w : List ℕ) {t : Bool} → same (words_of (state_in w)) w ≡ t → state_held_by w ≡ pick t (Some (state_in w)) None
 unfolding state_held_by
 held_by w e = rw e
 
@@ -31,17 +30,17 @@ module _ (w : List ℕ) {s : State} {again : List ℕ} {t : Bool} (r : s ≡ sta
   compared : same (words_of (state_in w)) w ≡ t
   compared = sym (c ∙ ap (λ (l : List ℕ). same l w) (a ∙ ap words_of r))
 
-  pub held_known : t ≡ true → Known s ≡ state_held_by w
-  held_known e = ap Known r ∙ sym (held_by w (compared ∙ e))
+  pub held_known : t ≡ true → Some s ≡ state_held_by w
+  held_known e = ap Some r ∙ sym (held_by w (compared ∙ e))
 
-  pub held_nothing : t ≡ false → Nothing ≡ state_held_by w
+  pub held_nothing : t ≡ false → None ≡ state_held_by w
   held_nothing e = sym (held_by w (compared ∙ e))
 
 pub length_words : (s : State) → length (words_of s) ≡ state_words
 unfolding words_of
 length_words s = refl
 
-pub too_few : (words : List ℕ) → length words < state_words → state_held_by (take state_words words) ≡ Nothing
+pub too_few : (words : List ℕ) → length words < state_words → state_held_by (take state_words words) ≡ None
 too_few words h =
     let w = take state_words words in
     held_by w (unequal (words_of (state_in w)) w (λ e. omega (arith, length_words (state_in w), length-take state_words words)))
@@ -59,7 +58,7 @@ network_again Pass = refl
 network_again (Burst r) = refl
 
 buffer_again : (x : Buffer) → buffer_in (buffer_number x) (buffer_frame x) (buffer_place x) ≡ x
-buffer_again None = refl
+buffer_again NoBuffer = refl
 buffer_again BufferPass = refl
 buffer_again (Under p) = refl
 buffer_again (Over p) = refl
@@ -104,17 +103,17 @@ read_again s f =
     )
 
 -- a state's words hold it
-pub words_hold : (s : State) → Narrow s → state_held_by (words_of s) ≡ Known s
+pub words_hold : (s : State) → Narrow s → state_held_by (words_of s) ≡ Some s
 words_hold s f =
     let again = read_again s f in
-    held_by (words_of s) (ap (λ (t : State). same (words_of t) (words_of s)) again ∙ alike (words_of s)) ∙ ap Known again
+    held_by (words_of s) (ap (λ (t : State). same (words_of t) (words_of s)) again ∙ alike (words_of s)) ∙ ap Some again
 
 -- ---- and only they do
 
-pub only_words_hold : (w : List ℕ) (s : State) → state_held_by w ≡ Known s → w ≡ words_of s
+pub only_words_hold : (w : List ℕ) (s : State) → state_held_by w ≡ Some s → w ≡ words_of s
 unfolding state_held_by
 only_words_hold w s e = go (same (words_of (state_in w)) w) refl e
   where
-    go : (t : Bool) → same (words_of (state_in w)) w ≡ t → pick t (Known (state_in w)) Nothing ≡ Known s → w ≡ words_of s
+    go : (t : Bool) → same (words_of (state_in w)) w ≡ t → pick t (Some (state_in w)) None ≡ Some s → w ≡ words_of s
     go true q e = let is : state_in w ≡ s = cc in sym (alike_only (words_of (state_in w)) w q) ∙ ap words_of is
     go false q e = let z : ◌≡◌ {A = ℕ} 0 1 = cc in absurd (omega arith)

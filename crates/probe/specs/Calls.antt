@@ -1,17 +1,16 @@
 -- The C functions over a state in words: the number that comes back, its place, and what the lent slices hold then.
-use Rattle.std.specs.Prelude.{◌≡◌, Ok}
+use Rattle.std.specs.Prelude.{◌≡◌, Result, Ok, Err, Some, None}
 use Rattle.laws.specs.Kit.{List, ℕ, leb, eqb, ℤ, pos, length, take, replicate, sets}
 use Rattle.laws.specs.Choose.{pick, or_else}
+use Rattle.refusal.specs.declared.Refused.{Refused}
+use Rattle.refusal.specs.Told.{Numbered, numbered}
 use Rattle.timing.specs.declared.Stated.{Stated}
 use Rattle.timing.specs.declared.State.{State}
-use Rattle.timing.specs.Feed.{Fed, not_fed}
+use Rattle.timing.specs.Feed.{Fed}
 use Rattle.timing.specs.Step.{stated_of, stated_refusal, fresh_of}
 use Rattle.timing.specs.Answers.{summary_width, summary_with, summary_of}
 use Rattle.timing.specs.Feed.{feed_of}
-use Rattle.probe.specs.declared.Answer.{Answer}
-use Rattle.probe.specs.declared.Held.{Held}
-use Rattle.probe.specs.declared.Held.TheVariants.{Known, Nothing}
-use Rattle.probe.specs.Words.{state_words, words_of, state_held_by}
+use Rattle.probe.specs.Words.{state_words, words_of, Held, state_held_by}
 
 -- ---- set-up
 
@@ -50,13 +49,13 @@ module _ (words : List ℕ) (rows : List ℤ) (out : List ℕ) where
   -- X8: what `feed` answers from the state s; where it accepts, 15 after all else if fewer than nine numbers are lent for the summary
   abbrev pub by_fed : State → Fed → List ℤ → CallOutcome
   by_fed s (Ok t) after = pick (leb summary_width (length out)) (accepted t after) (refused 15 s.past.packets)
-  by_fed s (not_fed number place t) after = refused number place
+  by_fed s (Err r) after = refused r.number r.place
 
   module _ (ts ss ms : List ℕ) where
     -- X7, N4: "9 exactly a state [..] with a number outside its range": so words that hold no state are 9 too
     abbrev pub by_held : Held → CallOutcome
-    by_held (Known s) = by_fed s (feed_of s rows ts ss ms).answer (feed_of s rows ts ss ms).rows
-    by_held Nothing = refused 9 0
+    by_held (Some s) = by_fed s (feed_of s rows ts ss ms).answer (feed_of s rows ts ss ms).rows
+    by_held None = refused 9 0
 
     unfoldable pub call_of : CallOutcome
     unfolding state_held_by feed_of words_of summary_with
@@ -73,13 +72,19 @@ pub record CallGives (told : CallOutcome) (number : ℕ) (words : List ℕ) (row
   pub rows_are : rows ≡ told.rows
   pub out_is : out ≡ told.out
 
-abbrev pub answer : ℕ → ℕ → Answer
+-- a number and a place
+abbrev pub answer : ℕ → ℕ → Numbered
 answer number place = record { number = number; place = place }
 
-abbrev pub asked : CallOutcome → Answer
+abbrev pub asked : CallOutcome → Numbered
 asked told = answer told.number told.place
 
+-- the code's answer, told so: 0 and 0 where nothing is refused
+abbrev pub asked_told : {A : Type 0} → Result A Refused → Numbered
+asked_told (Ok _) = answer 0 0
+asked_told (Err r) = numbered r
+
 -- number and place of a call that lends so many row numbers and so many of the summary; what they are does not matter, so let them be 0
-unfoldable pub asked_of : (words ts ss ms : List ℕ) (room space : ℕ) → Answer
+unfoldable pub asked_of : (words ts ss ms : List ℕ) (room space : ℕ) → Numbered
 unfolding call_of
 asked_of words ts ss ms room space = asked (call_of words (replicate room (pos 0)) (replicate space 0) ts ss ms)

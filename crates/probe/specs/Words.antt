@@ -1,5 +1,5 @@
 -- A state as words, one for each of its numbers in the order of docs/STATE.md, and the state that lent words hold.
-use Rattle.std.specs.Prelude.{◌≡◌, ◌&&◌, ◌∷◌, ◌%◌}
+use Rattle.std.specs.Prelude.{◌≡◌, ◌&&◌, ◌∷◌, ◌%◌, Option, Some, None}
 use Rattle.laws.specs.Kit.{Bool, true, false, List, [], ℕ, eqb, get_or, take}
 use Rattle.laws.specs.Choose.{pick}
 use Rattle.laws.specs.Every.{values}
@@ -10,15 +10,13 @@ use Rattle.bucket.specs.Paper.{network_number, network_first, network_last}
 use Rattle.frame.specs.declared.Frame.{Frame}
 use Rattle.frame.specs.declared.Frames.{Frames}
 use Rattle.frame.specs.declared.Buffer.{Buffer}
-use Rattle.frame.specs.declared.Buffer.TheVariants.{None, Under, Over, Broken, Pass as BufferPass}
+use Rattle.frame.specs.declared.Buffer.TheVariants.{None as NoBuffer, Under, Over, Broken, Pass as BufferPass}
 use Rattle.frame.specs.Paper.{buffer_number, buffer_frame, buffer_place}
 use Rattle.timing.specs.declared.StreamNumbers.{StreamNumbers}
 use Rattle.timing.specs.declared.State.{State}
 use Rattle.limits.specs.Paper.{profile_of, given}
 use Rattle.timing.specs.Step.{stream_with}
 use Rattle.timing.specs.Range.{table}
-use Rattle.probe.specs.declared.Held.{Held}
-use Rattle.probe.specs.declared.Held.TheVariants.{Known, Nothing}
 
 -- ---- the words of a state
 
@@ -49,7 +47,7 @@ network_in number first last = pick (eqb number 0) Pass (Burst (record { first =
 
 abbrev pub buffer_in : (number frame place : ℕ) → Buffer
 buffer_in number frame place =
-    pick (eqb number 0) None
+    pick (eqb number 0) NoBuffer
     (pick (eqb number 1) BufferPass
     (pick (eqb number 2) (Under (record { frame = frame; place = place }))
     (pick (eqb number 3) (Over (record { frame = frame; place = place })) (Broken (record { frame = frame; kind = place })))))
@@ -107,15 +105,19 @@ same [] (y ∷ ys) = false
 same (x ∷ xs) [] = false
 same (x ∷ xs) (y ∷ ys) = eqb x y && same xs ys
 
+-- what lent words hold: a state, or nothing that is one
+abbrev pub Held : Type 0
+Held = Option State
+
 -- X7: words hold a state exactly where they are the words of the state that they are read as, no more and no fewer
 unfoldable pub state_held_by : List ℕ → Held
 unfolding words_of state_in same
-state_held_by w = pick (same (words_of (state_in w)) w) (Known (state_in w)) Nothing
+state_held_by w = pick (same (words_of (state_in w)) w) (Some (state_in w)) None
 
 -- lent words hold a state: the first of them, as many as a state has
 abbrev pub Holds : List ℕ → State → Type 0
-Holds words s = state_held_by (take state_words words) ≡ Known s
+Holds words s = state_held_by (take state_words words) ≡ Some s
 
 -- or none
 abbrev pub HoldNone : List ℕ → Type 0
-HoldNone words = state_held_by (take state_words words) ≡ Nothing
+HoldNone words = state_held_by (take state_words words) ≡ None

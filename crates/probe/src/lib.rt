@@ -3,44 +3,26 @@
 // It knows set-up and feeding, and which number of a state stands in which word. It must never measure anything itself.
 #![tactic(auto)]
 
-ghost use Rattle.std.specs.Prelude.{◌≡◌, ◌≤◌};
+ghost use Rattle.std.specs.Prelude.{◌≡◌, ◌≤◌, Err};
 ghost use Rattle.laws.specs.Kit.{true, length, take, sets};
 ghost use Rattle.laws.specs.Every.{flag as flag_of};
+ghost use Rattle.refusal.specs.Told.{number_in};
 ghost use Rattle.limits.specs.Paper.{given};
 ghost use Rattle.timing.specs.Answers.{summary_of};
 ghost use Rattle.timing.specs.Range.{in_range};
 ghost use Rattle.probe.specs.Words.{state_words, verdict_words, words_of, same as same_of, state_held_by};
 ghost use Rattle.probe.specs.Words.{numbers_in, network_in, bucket_in, open_in, buffer_in, frames_in, state_in};
-ghost use Rattle.probe.specs.Calls.{SetUpGives, call_of, CallGives, answer, asked_of};
+ghost use Rattle.probe.specs.Calls.{SetUpGives, call_of, CallGives, asked_told, asked_of};
 
 use bucket::{Bucket, Network, Run};
 use frame::{BrokenFrame, Buffer, Frame, Frames, Place};
 use limits::Parameters;
-use packet::{Past, Scanned};
-use timing::{Fed, Judged, SUMMARY, State, Stated, StreamNumbers};
+use packet::Past;
+use refusal::{Refusal, Refused};
+use timing::{SUMMARY, State, Stated, StreamNumbers};
 
 // How many words a state is.
 const WORDS: usize = 35;
-
-// What lent words hold: a state, or nothing that is one.
-#[derive(Clone, Copy, Debug, PartialEq, Eq)]
-enum Held {
-    Known(State),
-    Nothing,
-}
-
-// Document 01's number, 0 where the call is accepted, and the place.
-#[derive(Clone, Copy, Debug, PartialEq, Eq)]
-struct Answer {
-    number: u8,
-    place: u64,
-}
-
-fn told(number: u8, place: u64) -> Answer
-    ensures { result ≡ answer number place }
-{
-    Answer { number, place }
-}
 
 // Document 01's numbers for the network answer and for the buffer answer.
 fn verdict_words(s: State) -> [u64; 6]
@@ -235,22 +217,22 @@ fn same(a: &[u64], b: &[u64]) -> bool
     true
 }
 
-// The state whose words stand in front. They are read, written again and compared, so that each range of a field, each flag and
+// The state whose words stand in front; or they are no state's. They are read, written again and compared, so that each range of a field, each flag and
 // each answer is tested in one place.
 #[tactic(auto, using(crate::proofs::RoundTrip::too_few, crate::proofs::RoundTrip::held_known, crate::proofs::RoundTrip::held_nothing))]
-fn read(words: &[u64]) -> Held
+fn read(words: &[u64]) -> Option<State>
     ensures { result ≡ state_held_by (take state_words words.now) }
 {
     if words.len() < WORDS {
-        return Held::Nothing;
+        return None;
     }
     let front = &words[..WORDS];
     let s = state_in(front);
     let again = words_of(s);
     if same(&again, front) {
-        return Held::Known(s);
+        return Some(s);
     }
-    Held::Nothing
+    None
 }
 
 // Numbers in front of a lent slice; what stands behind them stays.
@@ -274,16 +256,20 @@ fn summarise(s: State, out: &mut [u64])
     requires { (9 ≤ length out.old) × (in_range s ≡ true) }
     ensures { out.new ≡ sets out.old 0 (summary_of s) }
 {
-    match s.verdict() {
-        Judged::Given(verdict) => {
-            let nine = verdict.summary(s.past.packets, s.frames.closed, s.bucket.peak);
-            lay(&nine, out);
-        }
-        Judged::Refused(_) => {}
+    if let Ok(verdict) = s.verdict() {
+        let nine = verdict.summary(s.past.packets, s.frames.closed, s.bucket.peak);
+        lay(&nine, out);
     }
 }
 
-// What a call is answered that lends room for so many row numbers and so many of the summary. It writes nothing.
+fn refused(refusal: Refusal, place: u64) -> Result<(), Refused>
+    ensures { result ≡ Err (record { refusal = refusal; place = place }) }
+{
+    Err(Refused { refusal, place })
+}
+
+// Whether a call is accepted that lends room for so many row numbers and so many of the summary; else 9, 10, 11 to 14 or 15, in that order
+// (N10). It writes nothing.
 fn ask(
     words: &[u64],
     arrivals: &[u64],
@@ -291,25 +277,43 @@ fn ask(
     markers: &[u8],
     room: usize,
     space: usize,
-) -> Answer
-    ensures { result ≡ asked_of words.now arrivals.now stamps.now markers.now room space }
+) -> Result<(), Refused>
+    ensures { asked_told result ≡ asked_of words.now arrivals.now stamps.now markers.now room space }
 {
-    let Held::Known(s) = read(words) else {
-        return told(9, 0);
+    let Some(s) = read(words) else {
+        return refused(Refusal::State, 0);
     };
     if !s.in_range() {
-        return told(9, 0);
+        return refused(Refusal::State, 0);
     }
-    match s.past.scan(s.frames.begun, arrivals, stamps, markers) {
-        Scanned::Fine(closed) => {
-            let few = space < SUMMARY;
-            if room / frame::ROW < closed || few {
-                return told(15, s.past.packets);
-            }
-            told(0, 0)
-        }
-        Scanned::Refused(r) => told(r.number, r.place),
+    let closed = s.past.scan(s.frames.begun, arrivals, stamps, markers)?;
+    let few = space < SUMMARY;
+    if room / frame::ROW < closed || few {
+        return refused(Refusal::Room, s.past.packets);
     }
+    Ok(())
+}
+
+// What C is told: 0, or the refusal's number.
+fn code(answer: Result<(), Refusal>) -> u32
+    ensures { result ≡ number_in answer }
+{
+    match answer {
+        Ok(()) => 0,
+        Err(refusal) => u32::from(refusal.number()),
+    }
+}
+
+// The fresh state's words in front; or 22, 1 to 8, then 15 for too few words, and nothing written (X8, N2).
+fn set_up(stated: Stated, state: &mut [u64]) -> Result<(), Refusal>
+    ensures { SetUpGives stated state.old (number_in result) state.new }
+{
+    stated.check()?;
+    if state.len() < WORDS {
+        return Err(Refusal::Room);
+    }
+    lay_words(stated.numbers().fresh(), state);
+    Ok(())
 }
 
 // A stream set up: 22 for a kind that stands for no profile, 1 to 8, then 15 for too few words, and nothing written; or 0, and the fresh
@@ -344,15 +348,38 @@ pub extern "C" fn vtiming_set_up(
         parameters: told,
         edition,
     };
-    let number = stated.refusal();
-    if number != 0 {
-        return u32::from(number);
+    code(set_up(stated, state))
+}
+
+// What a call writes; or 9, 10, 11 to 14, then 15, and nothing written (X8, N10).
+fn feed(
+    state: &mut [u64],
+    arrivals: &[u64],
+    stamps: &[u32],
+    markers: &[u8],
+    rows: &mut [i64],
+    out: &mut [u64],
+) -> Result<(), Refusal>
+    ensures { CallGives (call_of state.old rows.old out.old arrivals.now stamps.now
+        markers.now) (number_in result) state.new rows.new out.new }
+{
+    if out.len() < SUMMARY {
+        return match ask(state, arrivals, stamps, markers, rows.len(), out.len()) {
+            Ok(()) => Ok(()),
+            Err(r) => Err(r.refusal),
+        };
     }
-    if state.len() < WORDS {
-        return 15;
+    let Some(s) = read(state) else {
+        return Err(Refusal::State);
+    };
+    match s.feed(arrivals, stamps, markers, rows) {
+        Ok(next) => {
+            lay_words(next, state);
+            summarise(next, out);
+            Ok(())
+        }
+        Err(r) => Err(r.refusal),
     }
-    lay_words(stated.numbers().fresh(), state);
-    0
 }
 
 // A call's packets: 9, 10, 11 to 14, then 15 for too few row numbers or fewer than nine of the summary, and nothing written; or 0,
@@ -369,21 +396,7 @@ pub extern "C" fn vtiming_feed(
     ensures { CallGives (call_of state.old rows.old out.old arrivals.now stamps.now
         markers.now) result state.new rows.new out.new }
 {
-    if out.len() < SUMMARY {
-        let answer = ask(state, arrivals, stamps, markers, rows.len(), out.len());
-        return u32::from(answer.number);
-    }
-    let Held::Known(s) = read(state) else {
-        return 9;
-    };
-    match s.feed(arrivals, stamps, markers, rows) {
-        Fed::Accepted(next) => {
-            lay_words(next, state);
-            summarise(next, out);
-            0
-        }
-        Fed::Refused { number, .. } => u32::from(number),
-    }
+    code(feed(state, arrivals, stamps, markers, rows, out))
 }
 
 // The twin: the place of that refusal, for so many row numbers and so many of the summary.
@@ -399,5 +412,8 @@ pub extern "C" fn vtiming_feed_place(
     ensures { result ≡ (asked_of state.now arrivals.now stamps.now markers.now room space
         ).place }
 {
-    ask(state, arrivals, stamps, markers, room, space).place
+    match ask(state, arrivals, stamps, markers, room, space) {
+        Ok(()) => 0,
+        Err(r) => r.place,
+    }
 }

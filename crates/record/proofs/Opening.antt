@@ -1,6 +1,6 @@
 -- The check of a whole file from its first byte: what its head makes of it.
-use Rattle.std.specs.Prelude.{◌≡◌, ◌∷◌, ◌<◌, Ok, Err, Some, None}
-use Rattle.laws.specs.Kit.{refl, sym, ap, subst, ◌∙◌, List, [], ℕ, arith, ℕ_discrete, drop, ne_eqb}
+use Rattle.std.specs.Prelude.{◌≡◌, ◌<◌, Err}
+use Rattle.laws.specs.Kit.{refl, sym, ap, subst, ◌∙◌, List, ℕ, arith, ℕ_discrete, drop, ne_eqb}
 use Rattle.limits.specs.declared.Parameters.{Parameters}
 use Rattle.limits.specs.declared.Profile.{Profile}
 use Rattle.limits.specs.Paper.{set_up_refusal, edition_refusal, set_up_in}

@@ -1,7 +1,7 @@
 -- One turn of the walk over a file, by what the cursor answers: a packet goes into the tally or is refused, and anything else ends
 -- the walk. What an answer says of the bytes is in Saying.
 use Rattle.std.specs.Prelude.{◌≡◌, ◌∷◌, ◌+◌, ◌^◌, ◌≤◌, ◌<◌, Ok, Err}
-use Rattle.laws.specs.Kit.{refl, sym, ap, subst, ◌∙◌, List, [], ℕ, arith, mod-eq_of_lt, length, drop}
+use Rattle.laws.specs.Kit.{refl, sym, ap, subst, ◌∙◌, List, ℕ, arith, mod-eq_of_lt, length, drop}
 use Rattle.laws.specs.Kit.{length-drop, drop-drop}
 use Rattle.laws.specs.Fold.{fold}
 use Rattle.laws.proofs.Choose.{second, before}

@@ -3,8 +3,6 @@
 use Rattle.std.specs.Prelude.{◌≡◌, ◌∷◌, ◌+◌, ◌-◌, ◌≤◌, ◌<◌, Ok, Err}
 use Rattle.laws.specs.Kit.{refl, sym, ap, subst, ◌∙◌, Bool, true, false, List, [], ℕ, zero, suc, arith}
 use Rattle.laws.specs.Kit.{length, take, drop, length-drop, length-append, length-sets, drop-drop, eqb, ltb, eq-eqb, ne_eqb, lt-ltb, le-ltb}
-use types.Run.{OneOf, miss}
-use denote.Enum.Declared.{tag_of}
 use Rattle.laws.specs.Choose.{pick}
 use Rattle.laws.specs.Lay.{Put}
 use Rattle.laws.proofs.Lay.{put_length, sets_join}
@@ -14,7 +12,6 @@ use Rattle.text.specs.Lines.{line_room, Line, refusal_line}
 use Rattle.capture.specs.declared.Cursor.{Cursor}
 use Rattle.capture.specs.Step.{AheadRead, ahead_packet, ahead_end, ahead_refused, ahead_wait}
 use Rattle.capture.specs.declared.Ahead.TheVariants.{Packet, Wait, End}
-use Rattle.capture.specs.contracts.Ahead.{the_type}
 use Rattle.capture.specs.Step.{between, ahead_of}
 use Rattle.capture.proofs.Ways.{rest_all}
 use Rattle.timing.specs.declared.Rules.{Rules}
@@ -33,6 +30,10 @@ use Rattle.reel.specs.Step.{AheadFits, TakeGives}
 use Rattle.reel.proofs.Shown.{Inside, ahead_inside}
 
 -- ---- one turn, by the definition
+
+-- no packet lies ahead
+abbrev pub NoPacket : AheadRead → Type 0
+NoPacket r = (p : packet.Packet) (m n : ℕ) → r ≡ ahead_packet p m n → ⊥
 
 module _ (rules : Rules) (last : Bool) where
   -- any number of turns that is enough
@@ -69,12 +70,12 @@ module _ (rules : Rules) (last : Bool) where
       unfolding roll_by
       roll_ahead = rw (le-ltb room line_room h, e)
 
-      roll_stops : OneOf (1 ∷ 2 ∷ 3 ∷ []) (tag_of the_type r) → roll_of rules reel w last room ≡ stops_at r reel
+      roll_stops : NoPacket r → roll_of rules reel w last room ≡ stops_at r reel
       roll_stops k = roll_ahead ∙ go r k
         where
-          go : (r : AheadRead) → OneOf (1 ∷ 2 ∷ 3 ∷ []) (tag_of the_type r)
+          go : (r : AheadRead) → NoPacket r
               → ahead_by rules reel room (λ next n left. roll_by (length w) rules next (drop n w) last left) r ≡ stops_at r reel
-          go (Ok (Packet p m n)) k = absurd (miss (1 ∷ 2 ∷ 3 ∷ []) 0 tt k)
+          go (Ok (Packet p m n)) k = absurd (k p m n refl)
           go (Ok (Wait d m n)) k = refl
           go (Ok (End m)) k = refl
           go (Err r) k = refl
@@ -193,7 +194,7 @@ module _ {rules : Rules} {reel₀ : Reel} {w : List ℕ} {last : Bool} {out₀ :
       stops_full h = stops (roll_full rules last reel (drop used w) _ h)
 
       module _ {a : AheadRead} (h : line_room ≤ length out - written) (e : ahead_of reel.setting reel.cursor (drop used w) last ≡ a) where
-        pub stops_ahead : OneOf (1 ∷ 2 ∷ 3 ∷ []) (tag_of the_type a) → TakeGives (stops_at a reel) used written out r after → Ended r after
+        pub stops_ahead : NoPacket a → TakeGives (stops_at a reel) used written out r after → Ended r after
         stops_ahead k = stops (roll_stops rules last reel (drop used w) _ h e k)
 
         pub stops_refused : {p : packet.Packet} {m n number : ℕ} → a ≡ ahead_packet p m n → number ≡ number_of reel.state.past p

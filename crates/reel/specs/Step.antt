@@ -1,5 +1,5 @@
 -- A capture in pieces, step by step: what its start answers, and what a call takes of a window and writes; what the contracts cite.
-use Rattle.std.specs.Prelude.{◌≡◌, ◌++◌, ◌+◌, ◌-◌, ◌≤◌, ◌<◌, Err, Ok, Some, None}
+use Rattle.std.specs.Prelude.{◌≡◌, ◌++◌, ◌+◌, ◌-◌, ◌≤◌, ◌<◌, Result, Err, Ok, Option, Some, None}
 use Rattle.laws.specs.Kit.{Bool, true, false, List, [], ℕ, zero, suc, ltb, leb, eqb, length, drop, sets}
 use Rattle.laws.specs.Choose.{pick}
 use Rattle.packet.specs.declared.Packet as packet
@@ -20,16 +20,27 @@ use Rattle.printer.specs.Paper.{row_lines}
 use Rattle.reel.specs.declared.Asked.{Asked}
 use Rattle.reel.specs.declared.Reel.{Reel}
 use Rattle.reel.specs.declared.TakeAnswer.{TakeAnswer}
-use Rattle.reel.specs.declared.Threaded.{Threaded}
-use Rattle.reel.specs.declared.Threaded.TheVariants as threaded
 use Rattle.reel.specs.Paper.{counted, captured_line, lines_of}
 
 -- ---- the start of a capture
 
+-- R16: more bytes are wanted, or the reel behind the header, or the number of the refusal
+abbrev pub Threaded : Type 0
+Threaded = Result (Option Reel) ℕ
+
+abbrev pub threaded_ready : Reel → Threaded
+threaded_ready reel = Ok (Some reel)
+
+abbrev pub threaded_more : Threaded
+threaded_more = Ok None
+
+abbrev pub threaded_refused : ℕ → Threaded
+threaded_refused number = Err number
+
 abbrev pub open_by : Asked → State → Opened → Threaded
-open_by a s (Ok None) = threaded.More
-open_by a s (Err number) = threaded.Refused number
-open_by a s (Ok (Some f)) = threaded.Ready (record {
+open_by a s (Ok None) = threaded_more
+open_by a s (Err number) = threaded_refused number
+open_by a s (Ok (Some f)) = threaded_ready (record {
   setting = record { format = f; port = a.port; offset = a.offset };
   cursor = between;
   state = s;
@@ -41,8 +52,8 @@ unfoldable pub ready_of : Asked → State → List ℕ → Bool → Threaded
 ready_of a s w last = open_by a s (opened_of w last)
 
 abbrev pub set_up_by : Asked → List ℕ → Bool → SetUp → Threaded
-set_up_by a w last (Ok s) = pick (leb a.offset 99) (ready_of a s w last) (threaded.Refused 33)
-set_up_by a w last (Err number) = threaded.Refused number
+set_up_by a w last (Ok s) = pick (leb a.offset 99) (ready_of a s w last) (threaded_refused 33)
+set_up_by a w last (Err number) = threaded_refused number
 
 unfoldable pub begin_of : Asked → List ℕ → Bool → Threaded
 begin_of a w last = set_up_by a w last (stated_up a.stated)

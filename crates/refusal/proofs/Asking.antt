@@ -1,7 +1,7 @@
 -- Two questions in a row, told by their numbers: the first that refuses decides, and where it is fine the second does.
 use Rattle.std.specs.Prelude.{◌≡◌, ℕ, Result, Ok, Err}
 use Rattle.std.specs.Result.{result_and}
-use Rattle.laws.specs.Kit.{sym, ◌∙◌, arith, eq-eqb, ne_eqb}
+use Rattle.laws.specs.Kit.{sym, ne_eqb}
 use Rattle.laws.specs.Choose.{or_else}
 use Rattle.refusal.specs.declared.Refusal.{Refusal}
 use Rattle.refusal.specs.Refusal.{number}

@@ -1,8 +1,7 @@
 -- The words of a call, one after the other: the number at a place stands there.
-use Rattle.std.specs.Prelude.{◌≡◌, ◌+◌, ◌≤◌, ◌<◌, Result, Ok, Err}
+use Rattle.std.specs.Prelude.{◌≡◌, ◌+◌, ◌≤◌, ◌<◌, Result, Ok, Err, Some}
 use Rattle.std.specs.Result.{IfOk, result_unwrap_or}
 use Rattle.laws.specs.Kit.{List, ℕ, arith, get_or}
-use Rattle.words.specs.declared.Word.TheVariants.{Number}
 use Rattle.vcapture.specs.Asking.{StandsAt}
 
 -- an answer of some bytes, or of none where there is no answer
@@ -12,4 +11,4 @@ within_or_none m k (Err q) h e = omega (arith, e)
 
 -- so many numbers stand at the first places
 abbrev pub Stand : List ℕ → ℕ → Type 0
-Stand numbers k = (j : ℕ) → j < k → StandsAt (j + 1) (Number (get_or numbers j 0))
+Stand numbers k = (j : ℕ) → j < k → StandsAt (j + 1) (Some (get_or numbers j 0))

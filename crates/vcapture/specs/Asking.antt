@@ -1,13 +1,9 @@
 -- What the program was called with: the number that stands at a place, and what the eleven ask.
-use Rattle.std.specs.Prelude.{◌≡◌, ◌≤◌}
+use Rattle.std.specs.Prelude.{◌≡◌, ◌≤◌, None, Some}
 use Rattle.laws.specs.Kit.{List, ℕ}
 use Rattle.window.specs.Said.{Argued}
-use Rattle.words.specs.declared.Word.{Word}
-use Rattle.words.specs.declared.Word.TheVariants.{NoNumber, Number}
 use Rattle.words.specs.declared.Numbers.{Numbers}
-use Rattle.words.specs.declared.Given.{Given}
-use Rattle.words.specs.declared.Given.TheVariants.{NoCall}
-use Rattle.words.specs.Paper.{word_of, given_of}
+use Rattle.words.specs.Paper.{Word, Given, word_of, given_of}
 
 -- the word at a place is this number, or none
 pub record StandsAt (place : ℕ) (r : Word) : Type 0 where
@@ -17,19 +13,19 @@ pub record StandsAt (place : ℕ) (r : Word) : Type 0 where
 
 -- R17: "Eleven numbers are its arguments, in this order: port, offset, rate, schedule, class, height, n, MAXUDP, TRO, profile, edition."
 pub record Numbered (x : Numbers) : Type 0 where
-  pub port : StandsAt 1 (Number x.port)
-  pub offset : StandsAt 2 (Number x.offset)
-  pub rate : StandsAt 3 (Number x.rate)
-  pub schedule : StandsAt 4 (Number x.schedule)
-  pub class : StandsAt 5 (Number x.class)
-  pub height : StandsAt 6 (Number x.height)
-  pub n : StandsAt 7 (Number x.n)
-  pub maxudp : StandsAt 8 (Number x.maxudp)
-  pub tro : StandsAt 9 (Number x.tro)
-  pub profile : StandsAt 10 (Number x.profile)
-  pub edition : StandsAt 11 (Number x.edition)
+  pub port : StandsAt 1 (Some x.port)
+  pub offset : StandsAt 2 (Some x.offset)
+  pub rate : StandsAt 3 (Some x.rate)
+  pub schedule : StandsAt 4 (Some x.schedule)
+  pub class : StandsAt 5 (Some x.class)
+  pub height : StandsAt 6 (Some x.height)
+  pub n : StandsAt 7 (Some x.n)
+  pub maxudp : StandsAt 8 (Some x.maxudp)
+  pub tro : StandsAt 9 (Some x.tro)
+  pub profile : StandsAt 10 (Some x.profile)
+  pub edition : StandsAt 11 (Some x.edition)
 
 -- R18: "A word that is no number [..] is no call at all"; else the eleven ask what they ask
 pub data AskGives : Given → Type 0 where
-  no_number : (place : ℕ) → 1 ≤ place → place ≤ 11 → StandsAt place NoNumber → AskGives NoCall
+  no_number : (place : ℕ) → 1 ≤ place → place ≤ 11 → StandsAt place None → AskGives None
   numbered : (x : Numbers) → Numbered x → AskGives (given_of x)

@@ -1,13 +1,12 @@
 -- A run, by reads of any size: what was handed over is a front of the file's output, and all of it where the last line is out.
-use Rattle.std.specs.Prelude.{◌≡◌, ◌++◌, ◌+◌, ◌-◌}
+use Rattle.std.specs.Prelude.{◌≡◌, ◌++◌, ◌+◌, ◌-◌, Ok, Err}
 use Rattle.laws.specs.Kit.{sym, ap, ◌∙◌, Bool, true, false, List, [], append-nil, append_assoc, ℕ}
 use Rattle.laws.specs.Kit.{arith, length, take, drop, take-add}
 use Rattle.laws.proofs.Choose.{false_true}
 use Rattle.window.specs.declared.Span.{Span}
-use Rattle.window.specs.declared.End.{End}
-use Rattle.window.specs.declared.End.TheVariants.{Whole, Unwritten, Unread, TurnsOver}
+use Rattle.window.specs.declared.BrokenOff.TheVariants.{Unwritten, Unread, TurnsOver}
 use Rattle.window.specs.Step.{Fits, shown, onward, settled_of, grown, Machine, step_at}
-use Rattle.window.specs.Run.{ReadIn, came_in, Reaches, begins, steps, reads, Front, WholeOutput, RunEnds, whole, unwritten, unread, turns_over}
+use Rattle.window.specs.Run.{ReadIn, came_in, Reaches, begins, steps, reads, Front, WholeOutput, End, RunEnds, whole, unwritten, unread, turns_over}
 use Rattle.window.proofs.Showing.{onward_shown, used_fits}
 use Rattle.window.proofs.Keeping.{Keeps}
 
@@ -79,18 +78,18 @@ module _ {S : Type 0} (m : Machine S) (line size : ℕ) (keeps : Keeps m line si
   ran_front (turns_over r) = so_far r
 
   -- and all of it where the last line is out
-  pub ran_whole : {room : ℕ} {last : Bool} {file text : List ℕ} → RunEnds m room last file text Whole → WholeOutput m last file text
+  pub ran_whole : {room : ℕ} {last : Bool} {file text : List ℕ} → RunEnds m room last file text (Ok tt) → WholeOutput m last file text
   ran_whole {room} (whole {s} {h} {w} {file} {text} r d e) = step_ends s h w file text room (reaches_holds r) e
 
 -- and where the file had ended no read has failed: the last line is out, or a write failed, or the turns were over
 abbrev is_unread : End → Bool
-is_unread Whole = false
-is_unread Unwritten = false
-is_unread Unread = true
-is_unread TurnsOver = false
+is_unread (Ok u) = false
+is_unread (Err Unwritten) = false
+is_unread (Err Unread) = true
+is_unread (Err TurnsOver) = false
 
 pub ran_ended : {S : Type 0} {m : Machine S} {room : ℕ} {last : Bool} {file text : List ℕ} {end : End} → RunEnds m room last file text end
-    → last ≡ true → end ≡ Unread → ⊥
+    → last ≡ true → end ≡ Err Unread → ⊥
 ran_ended (whole r d e) l f = false_true (ap is_unread f)
 ran_ended (unwritten r d) l f = false_true (ap is_unread f)
 ran_ended (unread r g h) l f = false_true (sym g ∙ l)

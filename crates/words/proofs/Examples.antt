@@ -1,5 +1,5 @@
 -- Words and numbers, computed: the rule's own height of 65,536, and the greatest and the shortest of what is a number.
-use Rattle.std.specs.Prelude.{◌≡◌}
+use Rattle.std.specs.Prelude.{◌≡◌, None, Some}
 use Rattle.laws.specs.Kit.{refl, [], ℕ}
 use Rattle.laws.specs.Fold.{fold}
 use Rattle.limits.specs.Paper.{rate_of, frame_length, class_of, packets_fit, tro_fits, first_no, set_up_refusal, edition_refusal, set_up_in, profile_of}
@@ -7,26 +7,25 @@ use Rattle.timing.specs.Step.{stated_refusal}
 use Rattle.limits.specs.Paper.{is_profile, profile_refusal}
 use Rattle.text.specs.Decimal.{codes}
 use Rattle.words.specs.declared.Numbers.{Numbers}
-use Rattle.words.specs.declared.Word.TheVariants.{NoNumber, Number}
 use Rattle.words.specs.Paper.{is_all_digits, number_in, word_of, asked_of}
 
-pub greatest : word_of (codes "9999999999999999999") ≡ Number 9999999999999999999
+pub greatest : word_of (codes "9999999999999999999") ≡ Some 9999999999999999999
 unfolding word_of number_in is_all_digits fold
 greatest = refl
 
-pub zeros_lead : word_of (codes "007") ≡ Number 7
+pub zeros_lead : word_of (codes "007") ≡ Some 7
 unfolding word_of number_in is_all_digits fold
 zeros_lead = refl
 
-pub twenty : word_of (codes "10000000000000000000") ≡ NoNumber
+pub twenty : word_of (codes "10000000000000000000") ≡ None
 unfolding word_of
 twenty = refl
 
-pub none : word_of [] ≡ NoNumber
+pub none : word_of [] ≡ None
 unfolding word_of
 none = refl
 
-pub a_point : word_of (codes "1.5") ≡ NoNumber
+pub a_point : word_of (codes "1.5") ≡ None
 unfolding word_of number_in is_all_digits
 a_point = refl
 

@@ -1,10 +1,9 @@
 -- What a place takes of a number. By whether it fits.
-use Rattle.std.specs.Prelude.{◌≡◌, ◌+◌, ◌≤◌, ◌<◌, Result, Ok, Err}
+use Rattle.std.specs.Prelude.{◌≡◌, ◌+◌, ◌≤◌, ◌<◌, Result, Ok, Err, None, Some}
 use Rattle.std.specs.Result.{OkIff, result_unwrap_or}
 use Rattle.laws.specs.Kit.{◌∙◌, ℕ, arith, le-leb, lt-leb}
 use Rattle.reel.specs.declared.Asked.{Asked}
 use Rattle.words.specs.declared.Numbers.{Numbers}
-use Rattle.words.specs.declared.Given.TheVariants as call
 use Rattle.words.specs.Paper.{placed, asked_of, given_of}
 
 pub fits : (most instead x : ℕ) → x ≤ most → x ≡ placed most instead x
@@ -21,10 +20,10 @@ in_place most instead x y (Err q) h e = e ∙ too_large most instead x (omega (a
 
 -- ---- each way out of the code
 
-pub no_call : (x : Numbers) → ¬ (x.port < 65536) → call.NoCall ≡ given_of x
+pub no_call : (x : Numbers) → ¬ (x.port < 65536) → None ≡ given_of x
 unfolding given_of
 no_call x h = rw (lt-leb x.port 65535 (omega (arith, h)))
 
-pub a_call : (x : Numbers) {a : Asked} → x.port < 65536 → a ≡ asked_of x → call.Asked a ≡ given_of x
+pub a_call : (x : Numbers) {a : Asked} → x.port < 65536 → a ≡ asked_of x → Some a ≡ given_of x
 unfolding given_of
 a_call x h e = rw (le-leb x.port 65535 (omega arith), e)

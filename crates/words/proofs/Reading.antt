@@ -1,18 +1,16 @@
 -- One byte of a word after another: a digit goes on, another byte is the end, and k digits spell less than 10^k. By the word's first byte.
-use Rattle.std.specs.Prelude.{◌≡◌, ◌+◌, ◌-◌, ◌*◌, ◌^◌, ◌≤◌, ◌<◌}
+use Rattle.std.specs.Prelude.{◌≡◌, ◌+◌, ◌-◌, ◌*◌, ◌^◌, ◌≤◌, ◌<◌, None, Some}
 use Rattle.laws.specs.Kit.{refl, true, false, List, ℕ, zero, suc, arith, pow-suc}
 use native.Mathlib.Numerals.{add-one}
 use Rattle.laws.specs.Kit.{leb, length, drop, get_or, drop-cons, drop_of_length-le, le-leb, lt-leb, leb-true}
 use Rattle.laws.specs.Choose.{pick}
 use Rattle.laws.specs.Fold.{fold}
 use Rattle.laws.proofs.Every.{and_left, and_right}
-use Rattle.words.specs.declared.Word.{Word}
-use Rattle.words.specs.declared.Word.TheVariants.{NoNumber, Number}
-use Rattle.words.specs.Paper.{is_digit, is_all_digits, number_in, most_digits, word_of}
+use Rattle.words.specs.Paper.{Word, is_digit, is_all_digits, number_in, most_digits, word_of}
 
 -- what is still to be read, after digits that spell x
 unfoldable pub read_on : ℕ → List ℕ → Word
-read_on x w = pick (is_all_digits w) (Number (fold (λ x c. x * 10 + (c - 48)) x w)) NoNumber
+read_on x w = pick (is_all_digits w) (Some (fold (λ x c. x * 10 + (c - 48)) x w)) None
 
 pub from_nothing : (w : List ℕ) → read_on 0 w ≡ number_in w
 unfolding number_in read_on
@@ -23,11 +21,11 @@ pub goes_on : (w : List ℕ) (x k : ℕ) → k < length w → is_digit (get_or w
 unfolding read_on is_all_digits fold
 goes_on w x k h e = rw (drop-cons w k 0 h, e, add-one)
 
-pub stops : (w : List ℕ) (x k : ℕ) → k < length w → is_digit (get_or w k 0) ≡ false → read_on x (drop k w) ≡ NoNumber
+pub stops : (w : List ℕ) (x k : ℕ) → k < length w → is_digit (get_or w k 0) ≡ false → read_on x (drop k w) ≡ None
 unfolding read_on is_all_digits
 stops w x k h e = rw (drop-cons w k 0 h, e)
 
-pub ends : (w : List ℕ) (x k : ℕ) → length w ≤ k → read_on x (drop k w) ≡ Number x
+pub ends : (w : List ℕ) (x k : ℕ) → length w ≤ k → read_on x (drop k w) ≡ Some x
 unfolding read_on is_all_digits fold
 ends w x k h = rw (drop_of_length-le w h)
 
@@ -54,11 +52,11 @@ pub ruleset bytes = (from_nothing, goes_on, stops, ends, below_next, below_all)
 
 -- ---- each way out of the code
 
-pub no_byte : (w : List ℕ) → length w ≡ 0 → word_of w ≡ NoNumber
+pub no_byte : (w : List ℕ) → length w ≡ 0 → word_of w ≡ None
 unfolding word_of
 no_byte w e = rw e
 
-pub too_long : (w : List ℕ) → most_digits < length w → word_of w ≡ NoNumber
+pub too_long : (w : List ℕ) → most_digits < length w → word_of w ≡ None
 unfolding word_of
 too_long w h = rw (le-leb 1 (length w) (omega arith), lt-leb (length w) most_digits h)
 

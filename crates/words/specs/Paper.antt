@@ -1,15 +1,11 @@
 -- The words of a call of the program for captures, as rule R18 has them: what number a word is, and what eleven numbers ask.
-use Rattle.std.specs.Prelude.{◌≡◌, ◌&&◌, ◌∷◌, ◌≤◌}
+use Rattle.std.specs.Prelude.{◌≡◌, ◌&&◌, ◌∷◌, ◌≤◌, Option, Some, None}
 use Rattle.laws.specs.Kit.{Bool, true, List, [], ℕ, leb, length}
 use Rattle.laws.specs.Choose.{pick}
 use Rattle.limits.specs.Paper.{within, given}
 use Rattle.text.specs.Decimal.{value, Digits}
 use Rattle.reel.specs.declared.Asked.{Asked}
-use Rattle.words.specs.declared.Word.{Word}
-use Rattle.words.specs.declared.Word.TheVariants.{NoNumber, Number}
 use Rattle.words.specs.declared.Numbers.{Numbers}
-use Rattle.words.specs.declared.Given.{Given}
-use Rattle.words.specs.declared.Given.TheVariants as call
 
 -- one of `0` to `9`
 abbrev pub is_digit : ℕ → Bool
@@ -19,9 +15,17 @@ unfoldable pub is_all_digits : List ℕ → Bool
 is_all_digits [] = true
 is_all_digits (c ∷ cs) = is_digit c && is_all_digits cs
 
+-- the number that a word is, or none
+abbrev pub Word : Type 0
+Word = Option ℕ
+
+-- what eleven numbers ask; or they are no call
+abbrev pub Given : Type 0
+Given = Option Asked
+
 -- the number that digits spell in base ten, with or without leading zeros
 unfoldable pub number_in : List ℕ → Word
-number_in w = pick (is_all_digits w) (Number (value w)) NoNumber
+number_in w = pick (is_all_digits w) (Some (value w)) None
 
 -- every number of so many digits lies within 64 bits (below_all, proofs/Reading.antt)
 abbrev pub most_digits : ℕ
@@ -29,7 +33,7 @@ most_digits = 19
 
 -- R18: "A word that is no number": it is one if it has 1 to 19 bytes and each is a digit
 unfoldable pub word_of : List ℕ → Word
-word_of w = pick (within 1 most_digits (length w)) (number_in w) NoNumber
+word_of w = pick (within 1 most_digits (length w)) (number_in w) None
 
 -- what it is that a word is a number, with no test; both ways: proofs/Spelling.antt
 pub record Spells (w : List ℕ) (n : ℕ) : Type 0 where
@@ -84,4 +88,4 @@ asked_of x = record {
 
 -- R18: ".. or a port above 65,535, is no call at all"
 unfoldable pub given_of : Numbers → Given
-given_of x = pick (leb x.port 65535) (call.Asked (asked_of x)) call.NoCall
+given_of x = pick (leb x.port 65535) (Some (asked_of x)) None

@@ -11,13 +11,6 @@ use limits::Parameters;
 use reel::Asked;
 use timing::Stated;
 
-// The number that a word is; or it is none.
-#[derive(Clone, Copy, Debug, PartialEq, Eq)]
-pub enum Word {
-    NoNumber,
-    Number { value: u64 },
-}
-
 // The eleven numbers in the order of the words.
 #[derive(Clone, Copy, Debug, PartialEq, Eq)]
 pub struct Numbers {
@@ -34,52 +27,45 @@ pub struct Numbers {
     pub edition: u64,
 }
 
-// What they ask; or they are no call.
-#[derive(Clone, Copy, Debug, PartialEq, Eq)]
-pub enum Given {
-    NoCall,
-    Asked(Asked),
-}
-
 // Every number of so many digits lies within 64 bits.
 const DIGITS: usize = 19;
 
 // The digits from the left, up to the first byte that is none.
 #[tactic(auto, using(crate::proofs::Reading::bytes))]
-fn number_in(word: &[u8]) -> Word
+fn number_in(word: &[u8]) -> Option<u64>
     requires { length word.now ≤ most_digits }
     ensures { result ≡ number_in word.now }
 {
     let mut value = 0;
     for &c in word {
         if !c.is_ascii_digit() {
-            return Word::NoNumber;
+            return None;
         }
         value = value * 10 + u64::from(c - b'0');
     }
-    Word::Number { value }
+    Some(value)
 }
 
-// An empty word is no number, nor is one that might leave 64 bits.
+// The number that a word is (R18). An empty word is none, nor is one that might leave 64 bits.
 #[tactic(auto, using(crate::proofs::Reading::ways_out))]
-pub fn number_of(word: &[u8]) -> Word
+pub fn number_of(word: &[u8]) -> Option<u64>
     ensures { result ≡ word_of word.now }
 {
     if word.is_empty() || DIGITS < word.len() {
-        return Word::NoNumber;
+        return None;
     }
     number_in(word)
 }
 
-// What stands instead of a number that does not fit is refused by the same refusal. A TRO of all ones would be the default.
+// What they ask; none where they are no call (R18). What stands instead of a number that does not fit is refused by the same refusal. A TRO of all ones would be the default.
 // No port can be told instead of one that does not fit: it would be another stream.
-pub fn given_by(numbers: Numbers) -> Given
+pub fn given_by(numbers: Numbers) -> Option<Asked>
     ensures { result ≡ given_of numbers }
 {
     let Ok(port) = u16::try_from(numbers.port) else {
-        return Given::NoCall;
+        return None;
     };
-    Given::Asked(Asked {
+    Some(Asked {
         stated: Stated {
             kind: u8::try_from(numbers.profile).unwrap_or(u8::MAX),
             parameters: Parameters {

@@ -1,10 +1,10 @@
 -- A whole file: its head, and its packets, each by the law of its answer.
-use Rattle.std.specs.Prelude.{◌≡◌, Ok, Some}
+use Rattle.std.specs.Prelude.{◌≡◌, Ok}
 use Rattle.std.proofs.lemmas.Result.{err_from_is_err_and}
 use Rattle.laws.specs.Kit.{sym, ap, ◌∙◌, arith}
 use Rattle.refusal.specs.Told.{told}
 use Rattle.refusal.proofs.Telling.{number_some}
-use Rattle.record.specs.Step.{head_read, head_ready}
+use Rattle.record.specs.Step.{head_ready}
 use Rattle.record.proofs.Opening.{head_stops, head_never_more, opens_refused, opens_fine}
 use Rattle.record.proofs.check.Goals as goal
 use Rattle.record.proofs.check.Goals.{In-Some}

@@ -1,5 +1,5 @@
 -- The kinds that stand for a profile.
-use Rattle.laws.specs.Kit.{sym, ◌∙◌}
+use Rattle.laws.specs.Kit.{◌∙◌}
 use Rattle.limits.proofs.Profiles.{profile_known_by}
 use Rattle.record.specs.Paper.{is_parameters}
 use Rattle.record.proofs.is_parameters.Goals as goal

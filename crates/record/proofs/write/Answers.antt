@@ -1,8 +1,6 @@
 -- The writer: refused, nothing is stored; else the stores are the whole file's, one after the other.
-use Rattle.std.specs.Prelude.{◌≡◌, Ok, Err}
 use Rattle.std.proofs.lemmas.Result.{err_from_is_err_and}
-use Rattle.laws.specs.Kit.{refl, sym, ap, ◌∙◌, arith, length}
-use Rattle.refusal.specs.Told.{told}
+use Rattle.laws.specs.Kit.{refl, arith}
 use Rattle.record.proofs.Writing.{same_slices, was_written, leaves_all, writes_file}
 use Rattle.record.proofs.write.Goals as goal
 

@@ -2,7 +2,6 @@
 use Rattle.std.specs.Prelude.{Ok}
 use Rattle.std.proofs.lemmas.Result.{err_from_is_err_and}
 use Rattle.laws.specs.Kit.{sym, ap, ◌∙◌}
-use Rattle.refusal.specs.Told.{told}
 use Rattle.report.proofs.Asking.{asked_refused, asked_room, asked_15}
 use Rattle.report.proofs.ask.Goals as goal
 

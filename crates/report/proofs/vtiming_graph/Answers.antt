@@ -1,5 +1,5 @@
 -- The graph's refusal, then the room, then the three stores: one law each (Calls).
-use Rattle.laws.specs.Kit.{sym, ap, ◌∙◌}
+use Rattle.laws.specs.Kit.{ap, ◌∙◌}
 use Rattle.refusal.specs.Told.{by_number}
 use Rattle.report.proofs.Calls.{drawn_of, draws_refused}
 use Rattle.report.proofs.vtiming_graph.Goals as goal

@@ -1,5 +1,5 @@
 -- Set-up's refusal, then the room, then the four stores: one law each (Calls).
-use Rattle.laws.specs.Kit.{sym, ◌∙◌, arith}
+use Rattle.laws.specs.Kit.{sym, arith}
 use Rattle.refusal.proofs.Telling.{number_some}
 use Rattle.report.proofs.Calls.{limits_refused, limits_short, limits_done}
 use Rattle.report.proofs.vtiming_limits.Goals as goal

@@ -1,5 +1,5 @@
 -- What is asked has the offset.
-use Rattle.laws.specs.Kit.{sym, ap, ◌∙◌}
+use Rattle.laws.specs.Kit.{sym, ap}
 use Rattle.report.specs.Paper.{Answer}
 use Rattle.report.proofs.Asking.{asked_answer}
 use Rattle.report.proofs.vtiming_measure_offset.Goals as goal

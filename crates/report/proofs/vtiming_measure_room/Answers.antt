@@ -1,5 +1,5 @@
 -- The check's count of frames is how long the report is; at most 1,000,000,000 of them, so that nothing overflows (Asking).
-use Rattle.laws.specs.Kit.{sym, ◌∙◌, arith}
+use Rattle.laws.specs.Kit.{sym, arith}
 use Rattle.report.proofs.Asking.{room_fine, few_closed, room_refused}
 use Rattle.report.proofs.vtiming_measure_room.Goals as goal
 
