@@ -9,7 +9,7 @@ ghost use Rattle.laws.specs.Kit.{true, drop};
 ghost use Rattle.endian.specs.Number.{Room};
 ghost use Rattle.capture.specs.Paper.{header_bytes, linked_by, magic_by, header_of, second_of, arrival_of, records_in, seen_from, check_records};
 ghost use Rattle.capture.specs.Paper.{checked_of};
-ghost use Rattle.capture.specs.Step.{format_in, opened_of, told_of, record_of, front_of, between, settled_by, passed_of, next_of, sought_of};
+ghost use Rattle.capture.specs.Step.{format_in, opened_of, told_of, front_of, between, settled_by, passed_of, next_of, sought_of};
 ghost use Rattle.capture.specs.Step.{found_of, UsedFits, behind_by, ahead_told, ahead_of, Enough, refusal_of, admitted_of, seen_of};
 ghost use Rattle.capture.specs.Step.{Room as SeenRoom};
 ghost use Rattle.refusal.specs.Told.{by_number, told};
@@ -227,18 +227,9 @@ impl Setting {
         }
     }
 
-    // A record that stands in front, with as many of its bytes as can matter.
-    fn record_in(self, window: &[u8], captured: usize) -> Front
-        requires { Enough self.format window.now captured }
-        ensures { result ≡ record_of self window.now }
-    {
-        Front::Record {
-            told: self.told(window, captured),
-            size: RECORD + captured,
-        }
-    }
-
     // What stands in front of `window`, between two records; `last`: no more will come, and a record that ends before is refused by 31.
+    // The setting is taken apart and put together again, so that its parts are read as they are: else the code reads it in odd pieces for
+    // each record.
     #[tactic(auto, unfolding(crate::specs::Step::front_of))]
     pub fn front(self, window: &[u8], last: bool) -> Result<Front, Refusal>
         ensures { by_number result ≡ front_of self window.now last }
@@ -253,15 +244,21 @@ impl Setting {
                 Ok(Front::More)
             };
         }
-        let captured = read32_by(self.format.order, window, 8) as usize;
-        if captured <= window.len() - RECORD {
-            return Ok(self.record_in(window, captured));
-        }
-        if last {
+        let format = self.format;
+        let captured = read32_by(format.order, window, 8) as usize;
+        let shown = window.len() - RECORD;
+        if last && shown < captured {
             return Err(Refusal::CutCapture);
         }
-        if MATTER <= window.len() - RECORD {
-            return Ok(self.record_in(window, captured));
+        if captured <= shown || MATTER <= shown {
+            let setting = Setting {
+                format,
+                port: self.port,
+                offset: self.offset,
+            };
+            let told = setting.told(window, captured);
+            let size = RECORD + captured;
+            return Ok(Front::Record { told, size });
         }
         Ok(Front::More)
     }
