@@ -247,7 +247,11 @@ impl Setting {
             return Ok(if last { Front::End } else { Front::More });
         }
         if window.len() < RECORD {
-            return if last { Err(Refusal::CutCapture) } else { Ok(Front::More) };
+            return if last {
+                Err(Refusal::CutCapture)
+            } else {
+                Ok(Front::More)
+            };
         }
         let captured = read32_by(self.format.order, window, 8) as usize;
         if captured <= window.len() - RECORD {
@@ -474,13 +478,7 @@ impl Seen {
 // One pass over a whole capture that copies nothing and writes nothing: what came before its packets, and whether a marker did. Refused by
 // 33, 30, then record by record 31, 32 and 12 to 14, with the place (R8, R9).
 #[tactic(auto, using(crate::proofs::Checking::opening), unfolding(crate::specs::Paper::checked_of))]
-pub fn check(
-    past: Past,
-    begun: bool,
-    port: u16,
-    offset: u32,
-    s: &[u8],
-) -> Result<Seen, Refused>
+pub fn check(past: Past, begun: bool, port: u16, offset: u32, s: &[u8]) -> Result<Seen, Refused>
     ensures { told result ≡ checked_of port offset (seen_from past begun) s.now }
 {
     if 99 < offset {

@@ -262,7 +262,8 @@ module _ (t : Stated) (port offset : ℕ) (b : List ℕ) where
 
   -- ---- the room
 
-  pub room_refused : {r : Checked} {n place : ℕ} → r ≡ capture_checked t port offset b → r ≡ checked_refused n place → 0 ≡ capture_room t port offset b
+  pub room_refused : {r : Checked} {n place : ℕ} → r ≡ capture_checked t port offset b → r ≡ checked_refused n place
+      → 0 ≡ capture_room t port offset b
   unfolding capture_room
   room_refused e f = rw (← e, f)
 

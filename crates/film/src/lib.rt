@@ -37,17 +37,12 @@ struct Counts {
 
 // Set-up, then one pass that checks the capture and counts its frames. It writes nothing. Refused as set-up and the check refuse.
 #[tactic(auto, unfolding(crate::specs::Paper::capture_checked))]
-fn check_capture(
-    stated: Stated,
-    port: u16,
-    offset: u32,
-    capture: &[u8],
-) -> Result<Seen, Refused>
+fn check_capture(stated: Stated, port: u16, offset: u32, capture: &[u8]) -> Result<Seen, Refused>
     ensures { told result ≡ capture_checked stated port offset capture.now }
 {
-    if let Err(refusal) = stated.check() {
-        return Err(Refused { refusal, place: 0 });
-    }
+    stated
+        .check()
+        .map_err(|refusal| Refused { refusal, place: 0 })?;
     capture::check(Past::none(), false, port, offset, capture)
 }
 
