@@ -91,6 +91,10 @@ or_video kind = go (is_profile kind) refl
     go false e (Ok p) f = let same = rw e at f in absurd (cc)
     go false e (Err d) f = sym (none_of kind e)
 
+pub neither_of : (kind : ℕ) → (kind ≡ 3 → ⊥) → (kind ≡ 4 → ⊥) → Video ≡ profile_of kind
+unfolding profile_of
+neither_of kind n m = rw (ne_eqb kind 3 n, ne_eqb kind 4 m)
+
 -- N1: 22 refuses exactly the kinds that choose none
 pub profile_fine : (kind : ℕ) → profile_refusal kind ≡ 0 → is_profile kind ≡ true
 unfolding profile_refusal

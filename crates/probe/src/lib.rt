@@ -217,8 +217,8 @@ fn same(a: &[u64], b: &[u64]) -> bool
     true
 }
 
-// The state whose words stand in front; or they are no state's. They are read, written again and compared, so that each range of a field, each flag and
-// each answer is tested in one place.
+// The state whose words stand in front; none where they are no state's (X7). They are read, written again and compared, so that each range of
+// a field, each flag and each answer is tested in one place.
 #[tactic(auto, using(crate::proofs::RoundTrip::too_few, crate::proofs::RoundTrip::held_known, crate::proofs::RoundTrip::held_nothing))]
 fn read(words: &[u64]) -> Option<State>
     ensures { result ≡ state_held_by (take state_words words.now) }
@@ -262,6 +262,7 @@ fn summarise(s: State, out: &mut [u64])
     }
 }
 
+// A call that is refused, and the place.
 fn refused(refusal: Refusal, place: u64) -> Result<(), Refused>
     ensures { result ≡ Err (record { refusal = refusal; place = place }) }
 {

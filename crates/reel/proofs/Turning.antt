@@ -1,6 +1,6 @@
 -- One turn of a call: whatever ends what is left of the window, from the reel and the lines so far, ends the whole call (Loop). A packet
 -- that is taken (Here) is a turn of the measurement's one loop (timing's Running) with rows as lines; at all else the call stops.
-use Rattle.std.specs.Prelude.{◌≡◌, ◌∷◌, ◌+◌, ◌-◌, ◌≤◌, ◌<◌, Ok, Err}
+use Rattle.std.specs.Prelude.{◌≡◌, ◌+◌, ◌-◌, ◌≤◌, ◌<◌, Ok, Err}
 use Rattle.laws.specs.Kit.{refl, sym, ap, subst, ◌∙◌, Bool, true, false, List, [], ℕ, zero, suc, arith}
 use Rattle.laws.specs.Kit.{length, take, drop, length-drop, length-append, length-sets, drop-drop, eqb, ltb, eq-eqb, ne_eqb, lt-ltb, le-ltb}
 use Rattle.laws.specs.Choose.{pick}

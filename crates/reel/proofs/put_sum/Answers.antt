@@ -1,5 +1,5 @@
 -- The line is that of the verdict which the state was asked for, whichever case it is.
-use Rattle.laws.specs.Kit.{sym, ap, ◌∙◌}
+use Rattle.laws.specs.Kit.{ap}
 use Rattle.printer.proofs.Answers.{line_is}
 use Rattle.reel.specs.Paper.{judged_line, captured_line}
 use Rattle.reel.proofs.put_sum.Goals as goal
