@@ -77,7 +77,8 @@ module _ (a : Asked) (w v : List ℕ) (last : Bool) (l : last ≡ true → v ≡
     unfolding output_of
     by_header e = rw (eq-eqb (stated_refusal a.stated) 0 fine, le-leb a.offset 99 h, e)
 
-    opens_tells : (long : header_bytes ≤ length w) (k : Header) → header_of w ≡ k → Tells a w v (open_by a (fresh_of (stated_of a.stated)) (opened_by (format_in k)))
+    opens_tells : (long : header_bytes ≤ length w) (k : Header) → header_of w ≡ k
+        → Tells a w v (open_by a (fresh_of (stated_of a.stated)) (opened_by (format_in k)))
     unfolding rest_from
     opens_tells long (capture f) e = (
       record { sound = sound_fresh (stated_of a.stated) (stated_fine a.stated fine).1; records = omega arith; skipped = omega arith },

@@ -15,6 +15,7 @@ pub goes_on : {a b n : ℕ} → 0 ≡ a → n ≡ b → n ≡ or_else a b
 goes_on e f = rw (sym e) f
 
 -- both asked, and then joined
-pub number_in_both : {A B : Type 0} {m n : ℕ} (a : Result A Refusal) (b : Result B Refusal) → number_in a ≡ m → number_in b ≡ n → number_in (result_and a b) ≡ or_else m n
+pub number_in_both : {A B : Type 0} {m n : ℕ} (a : Result A Refusal) (b : Result B Refusal) → number_in a ≡ m → number_in b ≡ n
+    → number_in (result_and a b) ≡ or_else m n
 number_in_both (Ok x) b e f = goes_on e f
 number_in_both (Err r) b e f = stops_at _ r e

@@ -34,7 +34,8 @@ returns-in-Err c =
     let at = c.loop-item in
     let number = ap number_in c.in-Err.is in
     rw c.refused_at.ensures
-    (sym (refuses _ _ (omega arith) (here (goal.at.returns-in-Err c).In-Packet) _ at.tally _ (sym c.admit.ensures ∙ number) (omega (arith, number_some c.in-Err.refusal)))
+    (sym (refuses _ _ (omega arith) (here (goal.at.returns-in-Err c).In-Packet) _ at.tally _ (sym c.admit.ensures ∙ number)
+      (omega (arith, number_some c.in-Err.refusal)))
     ∙ at.invariant.0)
 
 pub with-tally-requires : goal.with-tally-requires
