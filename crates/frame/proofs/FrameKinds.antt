@@ -27,6 +27,8 @@ module _ (f : Frame) (n : ℕ) where
   unfolding kind_of
   kind_whole h k d = rw (le-ltb f.held n h, le-ltb n f.held k, eq-eqb f.differs 0 d)
 
+pub ruleset kinds = (kind_short, kind_long, kind_stamp, kind_whole)
+
 pub kind_small : (f : Frame) (n : ℕ) → kind_of f n ≤ 3
 unfolding kind_of
 kind_small f n =

@@ -216,7 +216,7 @@ impl Frame {
     }
 
     // 1 short, 2 long, 3 stamp, 0 whole: tried in this order.
-    #[tactic(auto, using(crate::proofs::FrameKinds::kind_short, crate::proofs::FrameKinds::kind_long, crate::proofs::FrameKinds::kind_stamp, crate::proofs::FrameKinds::kind_whole))]
+    #[tactic(auto, using(crate::proofs::FrameKinds::kinds))]
     pub fn kind(self, n: u64) -> u64
         ensures { result ≡ kind_of self n }
     {

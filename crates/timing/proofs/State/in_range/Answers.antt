@@ -11,8 +11,10 @@ use Rattle.timing.proofs.State.in_range.Goals as goal
 pub returns-then-is_err : goal.returns-then-is_err
 unfolding after
 returns-then-is_err c =
-    let some = λ z. number_of_err c.check.result (sym c.is_err.ensures.value ∙ c.if-is_err.true) (c.check.ensures ∙ z) in
-    rw (by_parts c.args.self, ne_eqb _ 0 some)
+    rw (
+      by_parts c.args.self,
+      ne_eqb _ 0 (λ z. number_of_err c.check.result (sym c.is_err.ensures.value ∙ c.if-is_err.true) (c.check.ensures ∙ z)),
+    )
 
 pub in_range-requires-3 : goal.in_range-requires-3
 in_range-requires-3 c =
