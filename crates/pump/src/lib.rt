@@ -11,7 +11,7 @@ ghost use Rattle.printer.specs.Step.{begin_of, take_of};
 
 use printer::{Opened, Walk};
 use record::HEAD_BYTES;
-use window::{Span, Told};
+use window::{Next, Span, Told};
 
 // The version byte and the parameters are still wanted, or the walk behind them.
 #[derive(Clone, Copy, Debug, PartialEq, Eq)]
@@ -38,8 +38,7 @@ fn open(span: Span, window: &[u8], out: &mut [u8]) -> Stepped
             told: Told {
                 span,
                 written: 0,
-                wants: true,
-                over: false,
+                next: Next::Read,
             },
         },
         Opened::Refused { number, offset } => Stepped {
@@ -47,8 +46,7 @@ fn open(span: Span, window: &[u8], out: &mut [u8]) -> Stepped
             told: Told {
                 span,
                 written: text::put_refusal(number, offset, out, 0),
-                wants: false,
-                over: true,
+                next: Next::End,
             },
         },
         Opened::Ready(walk) => Stepped {
@@ -56,8 +54,7 @@ fn open(span: Span, window: &[u8], out: &mut [u8]) -> Stepped
             told: Told {
                 span: span.past(HEAD_BYTES),
                 written: 0,
-                wants: false,
-                over: false,
+                next: Next::Step,
             },
         },
     }
@@ -75,8 +72,7 @@ fn walk_on(walk: Walk, span: Span, window: &[u8], out: &mut [u8]) -> Stepped
         told: Told {
             span: span.past(taken.used),
             written: taken.written,
-            wants: taken.used == 0,
-            over: taken.ended,
+            next: Next::after(taken.used, taken.ended),
         },
     }
 }

@@ -11,7 +11,7 @@ ghost use Rattle.reel.specs.Step.{begin_of, take_of};
 
 use capture::HEADER;
 use reel::{Asked, Reel, Threaded};
-use window::{Span, Told};
+use window::{Next, Span, Told};
 
 // The header is still wanted, or the reel behind it.
 #[derive(Clone, Copy, Debug, PartialEq, Eq)]
@@ -39,8 +39,7 @@ fn lead(asked: Asked, span: Span, window: &[u8], out: &mut [u8]) -> Stepped
             told: Told {
                 span,
                 written: 0,
-                wants: true,
-                over: false,
+                next: Next::Read,
             },
         },
         Threaded::Refused { number } => Stepped {
@@ -48,8 +47,7 @@ fn lead(asked: Asked, span: Span, window: &[u8], out: &mut [u8]) -> Stepped
             told: Told {
                 span,
                 written: text::put_refusal(number, 0, out, 0),
-                wants: false,
-                over: true,
+                next: Next::End,
             },
         },
         Threaded::Ready(reel) => Stepped {
@@ -57,8 +55,7 @@ fn lead(asked: Asked, span: Span, window: &[u8], out: &mut [u8]) -> Stepped
             told: Told {
                 span: span.past(HEADER),
                 written: 0,
-                wants: false,
-                over: false,
+                next: Next::Step,
             },
         },
     }
@@ -76,8 +73,7 @@ fn roll_on(reel: Reel, span: Span, window: &[u8], out: &mut [u8]) -> Stepped
         told: Told {
             span: span.past(taken.used),
             written: taken.written,
-            wants: taken.used == 0,
-            over: taken.ended,
+            next: Next::after(taken.used, taken.ended),
         },
     }
 }
