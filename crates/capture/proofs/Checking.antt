@@ -1,36 +1,89 @@
 -- One turn of the check of a whole capture, by what stands in front: a record is refused or counted, and anything else ends it. By what
 -- was told.
-use Rattle.std.specs.Prelude.{◌≡◌, ◌+◌, ◌-◌, ◌≤◌, ◌<◌}
+use Rattle.std.specs.Prelude.{◌≡◌, ◌+◌, ◌-◌, ◌≤◌, ◌<◌, Option, Some, None, Result, Err, Ok}
 use Rattle.laws.specs.Kit.{refl, sym, ap, subst, ◌∙◌, Bool, true, false, List, ℕ, arith}
 use Rattle.std.proofs.lemmas.List.{take_rest}
-use Rattle.laws.specs.Kit.{length, take, drop, drop-drop, length-drop, ltb, eq-eqb, ne_eqb, lt-leb, le-leb, ltb-false}
+use Rattle.laws.specs.Kit.{length, take, drop, drop-drop, length-drop, ltb, eq-eqb, ne_eqb, lt-leb, le-leb, ltb-false, ℕ_discrete}
 use Rattle.laws.specs.Choose.{pick}
 use Rattle.packet.specs.declared.Packet as packet
 use Rattle.packet.specs.Step.{number_of, Countable}
 use Rattle.packet.proofs.Refusals.{accepted}
 use Rattle.packet.proofs.Turn.{tally_keeps}
+use Rattle.endian.specs.declared.Order.TheVariants.{Big, Little}
 use Rattle.capture.specs.declared.Setting.{Setting}
 use Rattle.capture.specs.declared.Format.{Format}
-use Rattle.capture.specs.declared.Opened.{Opened}
-use Rattle.capture.specs.declared.Opened.TheVariants as opened
+use Rattle.refusal.specs.declared.Refusal.{Refusal}
+use Rattle.refusal.specs.Refusal.{number}
+use Rattle.refusal.specs.Told.{Numbered, number_in}
+use Rattle.refusal.proofs.Telling.{number_some}
+use Rattle.capture.specs.Step.{format_in, front_record, FrontRead}
 use Rattle.capture.specs.declared.Told.{Told}
 use Rattle.capture.specs.declared.Told.TheVariants.{Packet, Skipped, Late}
 use Rattle.capture.specs.declared.Front.{Front}
 use Rattle.capture.specs.declared.Front.TheVariants as front
 use Rattle.capture.specs.declared.Seen.{Seen}
-use Rattle.capture.specs.declared.Checked.TheVariants.{Refused}
-use Rattle.capture.specs.Paper.{header_bytes, record_bytes, Header, capture, unknown, header_of, checked_of}
+use Rattle.capture.specs.Paper.{header_bytes, record_bytes, Header, capture, unknown, header_of, magic_by, checked_of, checked_refused}
 use Rattle.capture.specs.Paper.{Records, records_in, check_all, check_records}
-use Rattle.capture.specs.Step.{opened_by, opened_of, front_of, tell_by, refusal_of, refused_at, seen_of, closing, Room}
+use Rattle.capture.specs.Step.{front_of, tell_by, refusal_of, refused_at, admitted_of, seen_of, Room}
 use Rattle.capture.proofs.Records.{Says, front_says, records_end, whole_size, whole_record}
 
+-- ---- whether a record is accepted
+
+module _ (y : Seen) {told : Told} where
+  pub admit_packet : {p : packet.Packet} {r : Result Unit Refusal} → told ≡ Packet p → number_in r ≡ number_of y.tally.past p → r ≡ Ok tt
+      → Ok tt ≡ admitted_of y told
+  unfolding admitted_of refusal_of
+  admit_packet {p} e f g = rw e (rw (eq-eqb (number_of y.tally.past p) 0 (sym f ∙ rw g refl)))
+
+  pub admit_stops : {p : packet.Packet} {r : Result Unit Refusal} {x : Refusal} → told ≡ Packet p → number_in r ≡ number_of y.tally.past p
+      → r ≡ Err x → Err (record { number = number x; place = y.tally.past.packets }) ≡ admitted_of y told
+  unfolding admitted_of refusal_of refused_at
+  admit_stops {p} {r} {x} e f g =
+      let same : number x ≡ number_of y.tally.past p = sym (ap number_in g) ∙ f in
+      rw e (rw (ne_eqb (number_of y.tally.past p) 0 (λ z. number_some x (same ∙ z)), same))
+
+  pub admit_skipped : told ≡ Skipped → Ok tt ≡ admitted_of y told
+  unfolding admitted_of refusal_of
+  admit_skipped e = rw e refl
+
+  pub admit_late : told ≡ Late → Err (record { number = 32; place = y.records }) ≡ admitted_of y told
+  unfolding admitted_of refusal_of refused_at
+  admit_late e = rw e refl
+
+pub ruleset admitting = (admit_packet, admit_stops, admit_skipped, admit_late)
+
+pub admitted_fine : (y : Seen) (told : Told) → Ok tt ≡ admitted_of y told → refusal_of y told ≡ 0
+unfolding admitted_of
+admitted_fine y told e = go (ℕ_discrete (refusal_of y told) 0)
+  where
+    go : Dec (refusal_of y told ≡ 0) → refusal_of y told ≡ 0
+    go (yes z) = z
+    go (no n) =
+        let f : ◌≡◌ {A = Result Unit Numbered} (Ok tt) (Err (record { number = refusal_of y told; place = refused_at y told })) =
+        rw (ne_eqb (refusal_of y told) 0 n) at e in
+        let z : ◌≡◌ {A = ℕ} 0 1 = cc in
+        absurd (omega arith)
+
 -- a record that is refused
-pub check_refused : (y : Seen) (told : Told) (r : Records) → (refusal_of y told ≡ 0 → ⊥)
-    → refused_at y told ≡ check_records y (tell_by told r)
-unfolding refusal_of refused_at check_all
-check_refused y (Packet p) r n = rw (ne_eqb (number_of y.tally.past p) 0 n)
-check_refused y Skipped r n = absurd (n refl)
-check_refused y Late r n = refl
+pub check_refused : (y : Seen) (told : Told) (r : Records) {x : Numbered} → Err x ≡ admitted_of y told
+    → Err x ≡ check_records y (tell_by told r)
+unfolding admitted_of refusal_of refused_at check_all
+check_refused y (Packet p) r {x} e = go (ℕ_discrete (number_of y.tally.past p) 0)
+  where
+    go : Dec (number_of y.tally.past p ≡ 0) → Err x ≡ check_records y (tell_by (Packet p) r)
+    go (yes z) =
+        let f : ◌≡◌ {A = Result Unit Numbered} (Err x) (Ok tt) = rw (eq-eqb (number_of y.tally.past p) 0 z) at e in
+        let z : ◌≡◌ {A = ℕ} 0 1 = cc in
+        absurd (omega arith)
+    go (no n) =
+        let f : ◌≡◌ {A = Result Unit Numbered} (Err x) (Err (record { number = number_of y.tally.past p; place = y.tally.past.packets })) =
+        rw (ne_eqb (number_of y.tally.past p) 0 n) at e in
+        let same : x ≡ record { number = number_of y.tally.past p; place = y.tally.past.packets } = cc in
+        rw (ne_eqb (number_of y.tally.past p) 0 n, same)
+check_refused y Skipped r e = let z : ◌≡◌ {A = ℕ} 0 1 = cc in absurd (omega arith)
+check_refused y Late r {x} e =
+    let same : x ≡ record { number = 32; place = y.records } = cc in
+    rw same
 
 -- and one that is not
 pub check_goes : (y : Seen) (told : Told) (r : Records) → refusal_of y told ≡ 0
@@ -40,18 +93,22 @@ check_goes y (Packet p) r e = rw (eq-eqb (number_of y.tally.past p) 0 e)
 check_goes y Skipped r e = refl
 check_goes y Late r e = absurd (omega arith)
 
--- where no record stands
-check_stops : (p : Setting) (y : Seen) (l : List ℕ) (f : Front) → ((told : Told) (size : ℕ) → f ≡ front.Record told size → ⊥)
-    → front_of p l true ≡ f → closing y f ≡ check_records y (records_in p l)
-unfolding closing check_all
-check_stops p y l f k e = go f k (subst (Says p l true) e (front_says p l true))
-  where
-    go : (f : Front) → ((told : Told) (size : ℕ) → f ≡ front.Record told size → ⊥) → Says p l true f
-        → closing y f ≡ check_records y (records_in p l)
-    go (front.Record told size) k s = absurd (k told size refl)
-    go front.End k s = rw (records_end p l s.1)
-    go front.More k s = let z : ◌≡◌ {A = ℕ} 0 1 = (let t = s.0 in cc) in absurd (omega arith)
-    go front.Cut k s = rw s.1
+-- where no record stands: at the end, or where the file is cut short
+module _ (p : Setting) (y : Seen) (l : List ℕ) where
+  check_stops : (f : Front) → ((told : Told) (size : ℕ) → f ≡ front.Record told size → ⊥) → front_of p l true ≡ Ok f
+      → Ok y ≡ check_records y (records_in p l)
+  unfolding check_all
+  check_stops f k e = go f k (subst (Says p l true) e (front_says p l true))
+    where
+      go : (f : Front) → ((told : Told) (size : ℕ) → f ≡ front.Record told size → ⊥) → Says p l true (Ok f)
+          → Ok y ≡ check_records y (records_in p l)
+      go (front.Record told size) k s = absurd (k told size refl)
+      go front.End k s = rw (records_end p l s.1)
+      go front.More k s = let z : ◌≡◌ {A = ℕ} 0 1 = (let t = s.0 in cc) in absurd (omega arith)
+
+  check_cut : {n : ℕ} → front_of p l true ≡ Err n → checked_refused n y.records ≡ check_records y (records_in p l)
+  unfolding check_all
+  check_cut e = let s = subst (Says p l true) e (front_says p l true) in rw s.1
 
 -- ---- what is counted
 
@@ -86,79 +143,80 @@ module _ {p : Setting} {s : List ℕ} {whole y : Seen} {at : ℕ} (i : Loop p s 
   loop_room h = record { few = omega (arith, i.within, i.counted); no_more = i.no_more; closed = i.closed }
 
   -- by what stands in front of the rest of the file
-  module _ {f : Front} (e : f ≡ front_of p (take (length s - at) (drop at s)) true) where
-    in_front : front_of p (drop at s) true ≡ f
-    in_front = sym (e ∙ rw (take_rest s at))
+  in_front : {f : FrontRead} → f ≡ front_of p (take (length s - at) (drop at s)) true → front_of p (drop at s) true ≡ f
+  in_front e = sym (e ∙ rw (take_rest s at))
 
+  pub loop_cut : {n : ℕ} → Err n ≡ front_of p (take (length s - at) (drop at s)) true
+      → checked_refused n y.records ≡ check_records whole (records_in p (drop header_bytes s))
+  loop_cut e = check_cut p y (drop at s) (in_front e) ∙ i.same
+
+  module _ {f : Front} (e : Ok f ≡ front_of p (take (length s - at) (drop at s)) true) where
     pub loop_stops : ((told : Told) (size : ℕ) → f ≡ front.Record told size → ⊥)
-        → closing y f ≡ check_records whole (records_in p (drop header_bytes s))
-    loop_stops k = check_stops p y (drop at s) f k in_front ∙ i.same
+        → Ok y ≡ check_records whole (records_in p (drop header_bytes s))
+    loop_stops k = check_stops p y (drop at s) f k (in_front e) ∙ i.same
 
-    module _ {told : Told} {size : ℕ} (g : f ≡ front.Record told size) where
+    module _ {told : Told} {size : ℕ} (is_record : f ≡ front.Record told size) where
+      here : front_of p (drop at s) true ≡ front_record told size
+      here = in_front e ∙ rw is_record
+
       pub size_within : (record_bytes ≤ size) × (at + size ≤ length s)
-      size_within = let w = whole_size p (drop at s) (in_front ∙ g) in (w.0, omega (arith, w.1, length-drop at s, i.within))
+      size_within = let w = whole_size p (drop at s) here in (w.0, omega (arith, w.1, length-drop at s, i.within))
 
-      pub loop_refused : (refusal_of y told ≡ 0 → ⊥) → refused_at y told ≡ check_records whole (records_in p (drop header_bytes s))
-      loop_refused n =
+      pub loop_refused : {r : Numbered} → Err r ≡ admitted_of y told → Err r ≡ check_records whole (records_in p (drop header_bytes s))
+      loop_refused {r} n =
           check_refused y told (records_in p (drop size (drop at s))) n
-          ∙ ap (check_records y) (sym (whole_record p (drop at s) (in_front ∙ g)))
+          ∙ ap (check_records y) (sym (whole_record p (drop at s) here))
           ∙ i.same
 
-      pub loop_next : refusal_of y told ≡ 0 → Loop p s whole (seen_of y told) (at + size)
-      loop_next z =
+      counts_on : refusal_of y told ≡ 0 → Loop p s whole (seen_of y told) (at + size)
+      counts_on z =
           let kept = seen_keeps y told i.no_more i.closed in
           record {
             same =
                 rw (← drop-drop size at s)
                 (sym (check_goes y told (records_in p (drop size (drop at s))) z)
-                ∙ ap (check_records y) (sym (whole_record p (drop at s) (in_front ∙ g))) ∙ i.same);
+                ∙ ap (check_records y) (sym (whole_record p (drop at s) here)) ∙ i.same);
             within = size_within.1;
             counted = omega (arith, kept.records, size_within.0, i.counted);
             no_more = kept.no_more;
             closed = kept.closed;
           }
 
+      pub loop_next : {z : Seen} → Ok tt ≡ admitted_of y told → z ≡ seen_of y told → Loop p s whole z (at + size)
+      loop_next a q = rw q (counts_on (admitted_fine y told a))
+
 -- the loop begins behind the header
 pub loop_begins : (p : Setting) (s : List ℕ) (y : Seen) → header_bytes ≤ length s → y.records ≡ 0 → Room y → Loop p s y y header_bytes
 loop_begins p s y h z room =
     record { same = refl; within = h; counted = omega (arith, z); no_more = room.no_more; closed = room.closed }
 
-pub ruleset loop_laws = (loop_begins, loop_room, loop_stops, size_within, loop_refused)
+pub ruleset loop_laws = (loop_begins, loop_room, loop_cut, loop_stops, size_within, loop_refused, loop_next, admitted_fine)
 
 -- ---- the whole capture, by its header
 
-opened_whole : (s : List ℕ) → opened_of s true ≡ opened_by (header_of s)
-unfolding opened_of header_of
-opened_whole s = go (ltb (length s) header_bytes) refl
-  where
-    go : (t : Bool) → ltb (length s) header_bytes ≡ t
-        → pick t opened.Unknown (opened_by (header_of s)) ≡ opened_by (header_of s)
-    go true e = rw e
-    go false e = refl
-
--- what was opened is what the header says
-module _ (s : List ℕ) {r : Opened} (e : r ≡ opened_of s true) where
-  pub header_known : {f : Format} → r ≡ opened.Capture f → header_of s ≡ capture f
-  header_known {f} g = go (header_of s) (sym g ∙ e ∙ opened_whole s)
+-- what was read is what the header says
+module _ (s : List ℕ) {r : Option Format} (e : r ≡ format_in (header_of s)) where
+  pub header_known : {f : Format} → r ≡ Some f → header_of s ≡ capture f
+  header_known {f} g = go (header_of s) (sym g ∙ e)
     where
-      go : (header : Header) → opened.Capture f ≡ opened_by header → header ≡ capture f
+      go : (header : Header) → Some f ≡ format_in header → header ≡ capture f
       go (capture k) q = let same : f ≡ k = cc in rw same
       go unknown q = let z : ◌≡◌ {A = ℕ} 0 1 = cc in absurd (omega arith)
 
-  pub header_unknown : ((f : Format) → r ≡ opened.Capture f → ⊥) → header_of s ≡ unknown
-  header_unknown k = go (header_of s) (e ∙ opened_whole s)
+  pub header_unknown : r ≡ None → header_of s ≡ unknown
+  header_unknown g = go (header_of s) (sym g ∙ e)
     where
-      go : (header : Header) → r ≡ opened_by header → header ≡ unknown
-      go (capture f) g = absurd (k f g)
-      go unknown g = refl
+      go : (header : Header) → None ≡ format_in header → header ≡ unknown
+      go (capture f) q = let z : ◌≡◌ {A = ℕ} 0 1 = cc in absurd (omega arith)
+      go unknown q = refl
 
 module _ (port offset : ℕ) (y : Seen) (s : List ℕ) where
-  pub check_offset : 99 < offset → Refused 33 0 ≡ checked_of port offset y s
+  pub check_offset : 99 < offset → checked_refused 33 0 ≡ checked_of port offset y s
   unfolding checked_of
   check_offset h = rw (lt-leb offset 99 h)
 
   module _ (h : offset ≤ 99) where
-    pub check_unknown : header_of s ≡ unknown → Refused 30 0 ≡ checked_of port offset y s
+    pub check_unknown : header_of s ≡ unknown → checked_refused 30 0 ≡ checked_of port offset y s
     unfolding checked_of
     check_unknown e = rw (le-leb offset 99 h, e)
 
@@ -168,11 +226,11 @@ module _ (port offset : ℕ) (y : Seen) (s : List ℕ) where
     check_capture e = rw (le-leb offset 99 h, e)
 
 -- a capture has its header
-pub capture_long : (s : List ℕ) {r : Opened} {f : Format} → r ≡ opened_of s true → r ≡ opened.Capture f → header_bytes ≤ length s
-unfolding opened_of
+pub capture_long : (s : List ℕ) {r : Option Format} {f : Format} → r ≡ format_in (header_of s) → r ≡ Some f → header_bytes ≤ length s
+unfolding header_of
 capture_long s {r} {f} e g = go (ltb (length s) header_bytes) refl (sym g ∙ e)
   where
-    go : (t : Bool) → ltb (length s) header_bytes ≡ t → opened.Capture f ≡ pick t opened.Unknown (opened_by (header_of s))
+    go : (t : Bool) → ltb (length s) header_bytes ≡ t → Some f ≡ format_in (pick t unknown (magic_by Big s (magic_by Little s unknown)))
         → header_bytes ≤ length s
     go true q z = let y : ◌≡◌ {A = ℕ} 0 1 = cc in absurd (omega arith)
     go false q z = ltb-false (length s) header_bytes q

@@ -1,6 +1,6 @@
 -- However a capture is cut into windows, the reader gives what the whole gives: what it says of a window and what is left for later are,
 -- together, the rest of the file from where it stood. By what was told, and by the bytes that are still to pass.
-use Rattle.std.specs.Prelude.{◌≡◌, ◌++◌, ◌+◌, ◌-◌, ◌≤◌, ◌<◌}
+use Rattle.std.specs.Prelude.{◌≡◌, ◌++◌, ◌+◌, ◌-◌, ◌≤◌, ◌<◌, Ok, Err}
 use Rattle.laws.specs.Kit.{refl, sym, ap, ◌∙◌, Bool, true, false, List, [], append-nil, ℕ, arith, ltb}
 use Rattle.laws.specs.Kit.{eqb, length, drop, length-append, drop-append-le, drop-length, dec_le, eq-eqb, ne_eqb, lt-ltb, le-ltb, eqb-true}
 use Rattle.laws.specs.Kit.{eqb-false, ltb-true, ltb-false}
@@ -10,10 +10,9 @@ use Rattle.headers.specs.Step.{matter}
 use Rattle.capture.specs.declared.Setting.{Setting}
 use Rattle.capture.specs.declared.Told.{Told}
 use Rattle.capture.specs.declared.Told.TheVariants.{Packet, Skipped, Late}
-use Rattle.capture.specs.declared.Front.{Front}
+use Rattle.capture.specs.Step.{FrontRead, front_record, NextRead}
 use Rattle.capture.specs.declared.Front.TheVariants as front
 use Rattle.capture.specs.declared.Cursor.{Cursor}
-use Rattle.capture.specs.declared.Next.{Next}
 use Rattle.capture.specs.declared.Next.TheVariants as next
 use Rattle.capture.specs.Paper.{record_bytes, stopped, none, records_in}
 use Rattle.capture.specs.Step.{front_of, between, settled_by, passed_of, begun_by, next_of, tell_by, rest_from}
@@ -89,7 +88,7 @@ module _ (p : Setting) (w v : List ℕ) (last : Bool) (end : last ≡ true → v
         (λ e. settled_keeps (ltb-false (length w) c.left e))
 
   -- a record that begins
-  record_rest : {told : Told} {size : ℕ} → front_of p w last ≡ front.Record told size
+  record_rest : {told : Told} {size : ℕ} → front_of p w last ≡ front_record told size
       → records_in p (w ++ v) ≡ rest_from p (record { left = size; told = told }) (w ++ v)
   record_rest {told} {size} e = go (dec_le size (length (w ++ v)))
     where
@@ -102,12 +101,12 @@ module _ (p : Setting) (w v : List ℕ) (last : Bool) (end : last ≡ true → v
       go (no n) =
           record_cut p w v last e (omega arith) ∙ sym (rest_cut p (record { left = size; told = told }) (w ++ v) some (omega arith))
 
-  carried : (c d : Cursor) (r : Next) → rest_from p c (w ++ v) ≡ rest_from p d (w ++ v) → Keeps p d w v r → Keeps p c w v r
-  carried c d (next.Packet q used) e k = (k.0, k.1, e ∙ k.2)
-  carried c d (next.Skipped used) e k = (k.0, k.1, e ∙ k.2)
-  carried c d (next.More x used) e k = (k.0, e ∙ k.1)
-  carried c d next.End e k = e ∙ k
-  carried c d (next.Refused n) e k = e ∙ k
+  carried : (c d : Cursor) (r : NextRead) → rest_from p c (w ++ v) ≡ rest_from p d (w ++ v) → Keeps p d w v r → Keeps p c w v r
+  carried c d (Ok (next.Packet q used)) e k = (k.0, k.1, e ∙ k.2)
+  carried c d (Ok (next.Skipped used)) e k = (k.0, k.1, e ∙ k.2)
+  carried c d (Ok (next.More x used)) e k = (k.0, e ∙ k.1)
+  carried c d (Ok next.End) e k = e ∙ k
+  carried c d (Err n) e k = e ∙ k
 
   begun_keeps : (c : Cursor) → c.left ≡ 0 → Keeps p c w v (begun_by w last (front_of p w last))
   begun_keeps c z = go (front_of p w last) refl (front_says p w last)
@@ -115,13 +114,13 @@ module _ (p : Setting) (w v : List ℕ) (last : Bool) (end : last ≡ true → v
       all : rest_from p c (w ++ v) ≡ records_in p (w ++ v)
       all = rest_between p c (w ++ v) z
 
-      go : (f : Front) → front_of p w last ≡ f → Says p w last f → Keeps p c w v (begun_by w last f)
-      go (front.Record told size) e s =
+      go : (f : FrontRead) → front_of p w last ≡ f → Says p w last f → Keeps p c w v (begun_by w last f)
+      go (Ok (front.Record told size)) e s =
           let d : Cursor = record { left = size; told = told } in
           carried c d (passed_of d w last) (all ∙ record_rest e) (passed_keeps d (omega (arith, size_some p w v last e)))
-      go front.End e s = all ∙ records_end p (w ++ v) (ap length (ends s.0) ∙ s.1)
-      go front.More e s = (omega arith, all ∙ sym (rest_between p between (w ++ v) refl))
-      go front.Cut e s = all ∙ ap (records_in p) (ends s.0) ∙ s.1
+      go (Ok front.End) e s = all ∙ records_end p (w ++ v) (ap length (ends s.0) ∙ s.1)
+      go (Ok front.More) e s = (omega arith, all ∙ sym (rest_between p between (w ++ v) refl))
+      go (Err n) e s = all ∙ ap (records_in p) (ends s.0) ∙ s.1
 
   -- R14: whatever it says
   pub next_keeps : (c : Cursor) → Keeps p c w v (next_of p c w last)
@@ -133,12 +132,12 @@ module _ (p : Setting) (w v : List ℕ) (last : Bool) (end : last ≡ true → v
 
 -- ---- more is wanted only where less than 178 bytes are shown, or all of them are used; and never of the last
 
-abbrev pub Waits : List ℕ → Bool → Next → Type 0
-Waits w last (next.Packet q used) = Unit
-Waits w last (next.Skipped used) = Unit
-Waits w last (next.More d used) = (last ≡ false) × ((used ≡ 0 → length w < record_bytes + matter) × (used ≤ length w))
-Waits w last next.End = last ≡ true
-Waits w last (next.Refused n) = Unit
+abbrev pub Waits : List ℕ → Bool → NextRead → Type 0
+Waits w last (Ok (next.Packet q used)) = Unit
+Waits w last (Ok (next.Skipped used)) = Unit
+Waits w last (Ok (next.More d used)) = (last ≡ false) × ((used ≡ 0 → length w < record_bytes + matter) × (used ≤ length w))
+Waits w last (Ok next.End) = last ≡ true
+Waits w last (Err n) = Unit
 
 pub passed_waits : (c : Cursor) (w : List ℕ) (last : Bool) → Waits w last (passed_of c w last)
 unfolding passed_of
@@ -157,8 +156,8 @@ unfolding next_of
 next_waits p c w last =
     pick_either (Waits w last) (eqb c.left 0) (λ e. go (front_of p w last) (front_says p w last)) (λ e. passed_waits c w last)
   where
-    go : (f : Front) → Says p w last f → Waits w last (begun_by w last f)
-    go (front.Record told size) s = passed_waits (record { left = size; told = told }) w last
-    go front.End s = s.0
-    go front.More s = (s.0, (λ z. s.1, omega arith))
-    go front.Cut s = tt
+    go : (f : FrontRead) → Says p w last f → Waits w last (begun_by w last f)
+    go (Ok (front.Record told size)) s = passed_waits (record { left = size; told = told }) w last
+    go (Ok front.End) s = s.0
+    go (Ok front.More) s = (s.0, (λ z. s.1, omega arith))
+    go (Err r) s = tt

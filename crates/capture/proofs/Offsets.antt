@@ -1,9 +1,8 @@
 -- Arrivals with offset k are those with offset 0, k seconds later, and all else is the same. By the records.
-use Rattle.std.specs.Prelude.{◌≡◌, ◌+◌, ◌*◌}
+use Rattle.std.specs.Prelude.{◌≡◌, ◌+◌, ◌*◌, Some, None}
 use Rattle.laws.specs.Kit.{refl, Bool, true, false, List, ℕ, zero, suc, arith, eqb, length, drop}
 use Rattle.laws.specs.Choose.{pick}
-use Rattle.headers.specs.declared.Handed.{Handed}
-use Rattle.headers.specs.declared.Handed.TheVariants.{On, Skipped}
+use Rattle.headers.specs.Paper.{Handed}
 use Rattle.headers.specs.Step.{handed_of}
 use Rattle.capture.specs.declared.Format.{Format}
 use Rattle.capture.specs.Paper.{record_bytes, seconds_at, sub_at, captured_at, frame_at, arrival_of, cut_short, late, found_by, found_at, done}
@@ -18,8 +17,8 @@ module _ (f : Format) (port k : ℕ) where
     where
       go : (h : Handed) → found_by (arrival_of (asked f port k) (seconds_at f l) (sub_at f l)) h
           ≡ later k (found_by (arrival_of (asked f port 0) (seconds_at f l) (sub_at f l)) h)
-      go (On stamp marker) = rw (arrival_later (seconds_at f l) (sub_at f l))
-      go Skipped = refl
+      go (Some r) = rw (arrival_later (seconds_at f l) (sub_at f l))
+      go None = refl
 
   records_later : (n : ℕ) (l : List ℕ) → records_by n (asked f port k) l ≡ later_all k (records_by n (asked f port 0) l)
   unfolding records_by all_later

@@ -1,13 +1,12 @@
 -- The capture file, in the request's words: its header, its records, and what becomes of each. A list of bytes is read from its front: `l`
 -- is the rest of a file from one record on. This page is what a reader must believe of captures.
-use Rattle.std.specs.Prelude.{◌||◌, ◌∷◌, ◌+◌, ◌-◌, ◌*◌}
+use Rattle.std.specs.Prelude.{◌||◌, ◌∷◌, ◌+◌, ◌-◌, ◌*◌, Some, None, Result, Ok, Err}
 use Rattle.laws.specs.Kit.{Bool, true, false, List, [], ℕ, zero, suc, ltb, leb, eqb, length, take, drop}
 use Rattle.laws.specs.Choose.{pick}
 use Rattle.endian.specs.declared.Order.{Order}
 use Rattle.endian.specs.declared.Order.TheVariants.{Big, Little}
 use Rattle.endian.specs.Order.{number_by}
-use Rattle.headers.specs.declared.Handed.{Handed}
-use Rattle.headers.specs.declared.Handed.TheVariants.{On, Skipped}
+use Rattle.headers.specs.Paper.{Handed}
 use Rattle.headers.specs.Step.{handed_of}
 use Rattle.packet.specs.declared.Packet.{Packet}
 use Rattle.packet.specs.declared.Past.{Past}
@@ -15,8 +14,7 @@ use Rattle.packet.specs.Step.{number_of, tallied}
 use Rattle.capture.specs.declared.Format.{Format}
 use Rattle.capture.specs.declared.Setting.{Setting}
 use Rattle.capture.specs.declared.Seen.{Seen}
-use Rattle.capture.specs.declared.Checked.{Checked}
-use Rattle.capture.specs.declared.Checked.TheVariants.{Fine, Refused}
+use Rattle.refusal.specs.Told.{Numbered}
 
 -- ---- the header
 
@@ -97,8 +95,8 @@ pub data Found : Type 0 where
   skipped : Found
 
 abbrev pub found_by : ℕ → Handed → Found
-found_by t (On stamp marker) = packet (record { time = t; stamp = stamp; marker = marker })
-found_by t Skipped = skipped
+found_by t (Some r) = packet (record { time = t; stamp = r.stamp; marker = r.marker })
+found_by t None = skipped
 
 abbrev pub found_at : Setting → List ℕ → Found
 found_at p l =
@@ -176,14 +174,21 @@ with_packet y p = record { tally = tallied y.tally p; records = y.records + 1; s
 abbrev pub with_skipped : Seen → Seen
 with_skipped y = record { tally = y.tally; records = y.records + 1; skipped = y.skipped + 1 }
 
+-- R8: a whole capture: what was seen of it, or the number and the place of its first refusal
+abbrev pub Checked : Type 0
+Checked = Result Seen Numbered
+
+abbrev pub checked_refused : ℕ → ℕ → Checked
+checked_refused number place = Err (record { number = number; place = place })
+
 -- R8, R9: "then record by record 31 [..], 32 [..], 12 to 14 of the packet handed on"; "31 and 32 the capture record from 0 [..], 12 to 14
 -- the packet's place in the history"
 unfoldable pub check_all : Seen → List Found → Ending → Checked
-check_all y [] done = Fine y
-check_all y [] (stopped number) = Refused number y.records
+check_all y [] done = Ok y
+check_all y [] (stopped number) = checked_refused number y.records
 check_all y (packet p ∷ xs) e =
     pick (eqb (number_of y.tally.past p) 0) (check_all (with_packet y p) xs e)
-    (Refused (number_of y.tally.past p) y.tally.past.packets)
+    (checked_refused (number_of y.tally.past p) y.tally.past.packets)
 check_all y (skipped ∷ xs) e = check_all (with_skipped y) xs e
 
 abbrev pub check_records : Seen → Records → Checked
@@ -191,8 +196,8 @@ check_records y r = check_all y r.found r.ending
 
 abbrev pub check_headed : Header → ℕ → ℕ → Seen → List ℕ → Checked
 check_headed (capture f) port offset y s = check_records y (records_in (record { format = f; port = port; offset = offset }) (drop header_bytes s))
-check_headed unknown port offset y s = Refused 30 0
+check_headed unknown port offset y s = checked_refused 30 0
 
 -- R8, R9: "33 (offset above 99), also of an empty capture; 30 [..]; then record by record"
 unfoldable pub checked_of : ℕ → ℕ → Seen → List ℕ → Checked
-checked_of port offset y s = pick (leb offset 99) (check_headed (header_of s) port offset y s) (Refused 33 0)
+checked_of port offset y s = pick (leb offset 99) (check_headed (header_of s) port offset y s) (checked_refused 33 0)

@@ -9,13 +9,15 @@ ghost use Rattle.laws.specs.Kit.{true, drop};
 ghost use Rattle.endian.specs.Number.{Room};
 ghost use Rattle.capture.specs.Paper.{header_bytes, linked_by, magic_by, header_of, second_of, arrival_of, records_in, seen_from, check_records};
 ghost use Rattle.capture.specs.Paper.{checked_of};
-ghost use Rattle.capture.specs.Step.{opened_by, opened_of, found_told, told_of, record_of, front_of, between, settled_by, passed_of, next_of};
-ghost use Rattle.capture.specs.Step.{sought_of, found_of, UsedFits, behind_by, ahead_of, Enough, refusal_of, refused_at, seen_of, closing};
+ghost use Rattle.capture.specs.Step.{format_in, opened_of, told_of, front_of, between, settled_by, passed_of, next_of, sought_of};
+ghost use Rattle.capture.specs.Step.{found_of, UsedFits, behind_by, ahead_told, ahead_of, Enough, refusal_of, admitted_of, seen_of};
 ghost use Rattle.capture.specs.Step.{Room as SeenRoom};
+ghost use Rattle.refusal.specs.Told.{by_number, told};
 
 use endian::{Order, read32_by};
-use headers::{Handed, MATTER};
+use headers::MATTER;
 use packet::{Packet, Past, Tally};
+use refusal::{Refusal, Refused};
 
 // How a file writes its numbers: which byte stands first, and whether sub-seconds are nanoseconds or microseconds.
 #[derive(Clone, Copy, Debug, PartialEq, Eq)]
@@ -32,15 +34,8 @@ pub struct Setting {
     pub offset: u32,
 }
 
-// The header: more bytes are wanted; no header that is known; or the capture's format.
-#[derive(Clone, Copy, Debug, PartialEq, Eq)]
-pub enum Opened {
-    More,
-    Unknown,
-    Capture { format: Format },
-}
-
 // What a record says, once its captured bytes have passed: a packet that is handed on; another frame; or a sub-second of a second or more.
+// An enum of its own, and no Result: a cursor keeps it until the bytes have passed, and it is no refusal before (R14).
 #[derive(Clone, Copy, Debug, PartialEq, Eq)]
 pub enum Told {
     Packet(Packet),
@@ -49,13 +44,12 @@ pub enum Told {
 }
 
 // What stands in front of a window, between two records. A record's size is that of its header and its captured bytes, of which the
-// window may show the first only. More is answered where more may come, and Cut where none will.
+// window may show the first only. More is answered where more may come; where none will, the record is refused as cut short.
 #[derive(Clone, Copy, Debug, PartialEq, Eq)]
 pub enum Front {
     Record { told: Told, size: usize },
     End,
     More,
-    Cut,
 }
 
 // Where the reader stands: between two records, or within one, of which so many bytes are still to pass before it counts.
@@ -72,11 +66,10 @@ pub enum Next {
     Skipped { used: usize },
     More { cursor: Cursor, used: usize },
     End,
-    Refused { number: u8 },
 }
 
-// What lies ahead of the reader in a window, behind so many records that are skipped: a packet; the end of what is shown; the end of the
-// file; or a refusal.
+// What lies ahead of the reader in a window, behind so many records that are skipped: a packet; the end of what is shown; or the end of
+// the file.
 #[derive(Clone, Copy, Debug, PartialEq, Eq)]
 pub enum Ahead {
     Packet {
@@ -92,17 +85,20 @@ pub enum Ahead {
     End {
         skipped: u64,
     },
-    Refused {
-        number: u8,
-        skipped: u64,
-    },
 }
 
-// The next packet that is handed on, and where the record behind it stands; or there is none.
+// A record that is refused there, and how many records that are skipped come before it.
 #[derive(Clone, Copy, Debug, PartialEq, Eq)]
-pub enum Sought {
-    Packet { packet: Packet, next: usize },
-    Nothing,
+pub struct RefusedAhead {
+    pub refusal: Refusal,
+    pub skipped: u64,
+}
+
+// A packet that is handed on, and where the record behind it stands.
+#[derive(Clone, Copy, Debug, PartialEq, Eq)]
+pub struct HandedOn {
+    pub packet: Packet,
+    pub next: usize,
 }
 
 // The records so far: the packets handed on, how many records were read, and how many were skipped.
@@ -111,13 +107,6 @@ pub struct Seen {
     pub tally: Tally,
     pub records: u64,
     pub skipped: u64,
-}
-
-// A whole capture: nothing is refused; or the number and the place of its first refusal.
-#[derive(Clone, Copy, Debug, PartialEq, Eq)]
-pub enum Checked {
-    Fine(Seen),
-    Refused { number: u8, place: u64 },
 }
 
 // The bytes of the header, and of a record before its captured ones.
@@ -131,26 +120,24 @@ const NANOSECONDS: u32 = 0xa1b23c4d;
 
 const ETHERNET: u32 = 1;
 
-// The link type, once the order is known.
+// The format, once the order is known, where the link type is Ethernet.
 #[tactic(auto, unfolding(crate::specs::Paper::linked_by))]
-fn linked(order: Order, nano: bool, s: &[u8]) -> Opened
+fn linked(order: Order, nano: bool, s: &[u8]) -> Option<Format>
     requires { Room header_bytes s.now 0 }
-    ensures { result ≡ opened_by (linked_by order nano s.now) }
+    ensures { result ≡ format_in (linked_by order nano s.now) }
 {
     if read32_by(order, s, 20) != ETHERNET {
-        return Opened::Unknown;
+        return None;
     }
-    Opened::Capture {
-        format: Format { order, nano },
-    }
+    Some(Format { order, nano })
 }
 
 //  0       4         20     24
 //  | magic |         | link |
 #[tactic(auto, unfolding(crate::specs::Paper::header_of, crate::specs::Paper::magic_by))]
-fn known(s: &[u8]) -> Opened
+fn known(s: &[u8]) -> Option<Format>
     requires { Room header_bytes s.now 0 }
-    ensures { result ≡ opened_by (header_of s.now) }
+    ensures { result ≡ format_in (header_of s.now) }
 {
     let big = read32_by(Order::Big, s, 0);
     if big == MICROSECONDS {
@@ -166,18 +153,33 @@ fn known(s: &[u8]) -> Opened
     if little == NANOSECONDS {
         return linked(Order::Little, true, s);
     }
-    Opened::Unknown
+    None
 }
 
-// The header of a file, of which `window` shows the first bytes; `last`: no more will come.
+// The format of a whole capture, or none where its header is not known.
+#[tactic(auto, unfolding(crate::specs::Paper::header_of))]
+pub fn format_of(s: &[u8]) -> Option<Format>
+    ensures { result ≡ format_in (header_of s.now) }
+{
+    if s.len() < HEADER {
+        return None;
+    }
+    known(s)
+}
+
+// The header of a file, of which `window` shows the first bytes; `last`: no more will come. The capture's format, or none where more bytes
+// are wanted; or 30 (R8).
 #[tactic(auto, unfolding(crate::specs::Step::opened_of))]
-pub fn open(window: &[u8], last: bool) -> Opened
-    ensures { result ≡ opened_of window.now last }
+pub fn open(window: &[u8], last: bool) -> Result<Option<Format>, Refusal>
+    ensures { by_number result ≡ opened_of window.now last }
 {
     if window.len() < HEADER {
-        return if last { Opened::Unknown } else { Opened::More };
+        return if last { Err(Refusal::Header) } else { Ok(None) };
     }
-    known(window)
+    match known(window) {
+        Some(format) => Ok(Some(format)),
+        None => Err(Refusal::Header),
+    }
 }
 
 impl Format {
@@ -216,80 +218,81 @@ impl Setting {
             return Told::Late;
         }
         match headers::hand_on_front(&window[RECORD..], captured, self.port) {
-            Handed::On { stamp, marker } => Told::Packet(Packet {
+            Some(rtp) => Told::Packet(Packet {
                 time: self.arrival(read32_by(order, window, 0), sub),
-                stamp,
-                marker,
+                stamp: rtp.stamp,
+                marker: rtp.marker,
             }),
-            Handed::Skipped => Told::Skipped,
+            None => Told::Skipped,
         }
     }
 
-    // A record that stands in front, with as many of its bytes as can matter.
-    fn record_in(self, window: &[u8], captured: usize) -> Front
-        requires { Enough self.format window.now captured }
-        ensures { result ≡ record_of self window.now }
-    {
-        Front::Record {
-            told: self.told(window, captured),
-            size: RECORD + captured,
-        }
-    }
-
-    // What stands in front of `window`, between two records; `last`: no more will come.
+    // What stands in front of `window`, between two records; `last`: no more will come, and a record that ends before is refused by 31.
+    // The setting is taken apart and put together again, so that its parts are read as they are: else the code reads it in odd pieces for
+    // each record.
     #[tactic(auto, unfolding(crate::specs::Step::front_of))]
-    pub fn front(self, window: &[u8], last: bool) -> Front
-        ensures { result ≡ front_of self window.now last }
+    pub fn front(self, window: &[u8], last: bool) -> Result<Front, Refusal>
+        ensures { by_number result ≡ front_of self window.now last }
     {
         if window.is_empty() {
-            return if last { Front::End } else { Front::More };
+            return Ok(if last { Front::End } else { Front::More });
         }
         if window.len() < RECORD {
-            return if last { Front::Cut } else { Front::More };
+            return if last {
+                Err(Refusal::CutCapture)
+            } else {
+                Ok(Front::More)
+            };
         }
-        let captured = read32_by(self.format.order, window, 8) as usize;
-        if captured <= window.len() - RECORD {
-            return self.record_in(window, captured);
+        let format = self.format;
+        let captured = read32_by(format.order, window, 8) as usize;
+        let shown = window.len() - RECORD;
+        if last && shown < captured {
+            return Err(Refusal::CutCapture);
         }
-        if last {
-            return Front::Cut;
+        if captured <= shown || MATTER <= shown {
+            let setting = Setting {
+                format,
+                port: self.port,
+                offset: self.offset,
+            };
+            let told = setting.told(window, captured);
+            let size = RECORD + captured;
+            return Ok(Front::Record { told, size });
         }
-        if MATTER <= window.len() - RECORD {
-            return self.record_in(window, captured);
-        }
-        Front::More
+        Ok(Front::More)
     }
 }
 
 // A record that is not skipped ends the search for a packet.
 #[tactic(auto, unfolding(crate::specs::Step::found_of))]
-fn found(told: Told, next: usize) -> Sought
+fn found(told: Told, next: usize) -> Option<HandedOn>
     ensures { result ≡ found_of told next }
 {
     let Told::Packet(packet) = told else {
-        return Sought::Nothing;
+        return None;
     };
-    Sought::Packet { packet, next }
+    Some(HandedOn { packet, next })
 }
 
 impl Setting {
-    // The next packet of a whole file that is handed on, from the record at `from` on: skipped records are passed over, and a record that
-    // is refused ends it.
+    // The next packet of a whole file that is handed on, from the record at `from` on, or none: skipped records are passed over, and a
+    // record that is refused ends it.
     #[tactic(auto, using(crate::proofs::Seeking::seek_laws))]
-    pub fn seek(self, s: &[u8], from: usize) -> Sought
+    pub fn seek(self, s: &[u8], from: usize) -> Option<HandedOn>
         ensures { result ≡ sought_of self from s.now }
     {
         let mut at = from;
         while at < s.len() {
-            let Front::Record { told, size } = self.front(&s[at..], true) else {
-                return Sought::Nothing;
+            let Ok(Front::Record { told, size }) = self.front(&s[at..], true) else {
+                return None;
             };
             let Told::Skipped = told else {
                 return found(told, at + size);
             };
             at += size;
         }
-        Sought::Nothing
+        None
     }
 }
 
@@ -304,59 +307,58 @@ impl Cursor {
         }
     }
 
-    // All bytes of the record have passed.
-    fn settle(self) -> Next
-        ensures { result ≡ settled_by self.told self.left }
+    // All bytes of the record have passed: now it counts, or is refused by 32.
+    fn settle(self) -> Result<Next, Refusal>
+        ensures { by_number result ≡ settled_by self.told self.left }
     {
         match self.told {
-            Told::Packet(packet) => Next::Packet {
+            Told::Packet(packet) => Ok(Next::Packet {
                 packet,
                 used: self.left,
-            },
-            Told::Skipped => Next::Skipped { used: self.left },
-            Told::Late => Next::Refused { number: 32 },
+            }),
+            Told::Skipped => Ok(Next::Skipped { used: self.left }),
+            Told::Late => Err(Refusal::SubSecond),
         }
     }
 
-    // Some bytes of the record, or all that are left of it.
+    // Some bytes of the record, or all that are left of it; 31 where the last of them are too few.
     #[tactic(auto, unfolding(crate::specs::Step::passed_of))]
-    fn pass(self, window: &[u8], last: bool) -> Next
-        ensures { result ≡ passed_of self window.now last }
+    fn pass(self, window: &[u8], last: bool) -> Result<Next, Refusal>
+        ensures { by_number result ≡ passed_of self window.now last }
     {
         if self.left <= window.len() {
             return self.settle();
         }
         if last {
-            return Next::Refused { number: 31 };
+            return Err(Refusal::CutCapture);
         }
-        Next::More {
+        Ok(Next::More {
             cursor: Cursor {
                 left: self.left - window.len(),
                 ..self
             },
             used: window.len(),
-        }
+        })
     }
 
-    // What the bytes say that come next, of which `window` shows the first; `last`: no more will come.
+    // What the bytes say that come next, of which `window` shows the first; `last`: no more will come. Refused by 31 or 32.
     #[tactic(auto, unfolding(crate::specs::Step::next_of))]
-    pub fn read(self, setting: Setting, window: &[u8], last: bool) -> Next
-        ensures { result ≡ next_of setting self window.now last }
+    pub fn read(self, setting: Setting, window: &[u8], last: bool) -> Result<Next, Refusal>
+        ensures { by_number result ≡ next_of setting self window.now last }
     {
         if self.left != 0 {
             return self.pass(window, last);
         }
-        match setting.front(window, last) {
+        match setting.front(window, last)? {
             Front::Record { told, size } => {
                 let cursor = Cursor { left: size, told };
                 cursor.pass(window, last)
             }
-            Front::End => Next::End,
-            Front::More => Next::More {
+            Front::End => Ok(Next::End),
+            Front::More => Ok(Next::More {
                 cursor: Cursor::start(),
                 used: 0,
-            },
-            Front::Cut => Next::Refused { number: 31 },
+            }),
         }
     }
 }
@@ -380,23 +382,23 @@ fn behind(next: Next, used: usize, skipped: u64) -> Ahead
             used: used + more,
         },
         Next::End => Ahead::End { skipped },
-        Next::Refused { number } => Ahead::Refused { number, skipped },
     }
 }
 
 impl Cursor {
-    // The same over all skipped records of the window: so a call that waits for packets passes them over at once.
+    // The same over all skipped records of the window: so a call that waits for packets passes them over at once. Refused by 31 or 32.
     #[tactic(auto, using(crate::proofs::Looking::ahead_laws))]
-    pub fn ahead(self, setting: Setting, window: &[u8], last: bool) -> Ahead
-        ensures { result ≡ ahead_of setting self window.now last }
+    pub fn ahead(self, setting: Setting, window: &[u8], last: bool) -> Result<Ahead, RefusedAhead>
+        ensures { ahead_told result ≡ ahead_of setting self window.now last }
     {
         let mut cursor = self;
         let mut used = 0;
         let mut skipped = 0;
         loop {
-            let next = cursor.read(setting, &window[used..], last);
+            let read = cursor.read(setting, &window[used..], last);
+            let next = read.map_err(|refusal| RefusedAhead { refusal, skipped })?;
             let Next::Skipped { used: more } = next else {
-                return behind(next, used, skipped);
+                return Ok(behind(next, used, skipped));
             };
             used += more;
             skipped += 1;
@@ -406,33 +408,24 @@ impl Cursor {
 }
 
 impl Seen {
-    // The number by which a record is refused, 0 where it is not.
-    #[tactic(auto, unfolding(crate::specs::Step::refusal_of))]
-    fn refusal(self, told: Told) -> u8
-        ensures { result ≡ refusal_of self told }
+    // Whether a record is accepted; else 12 to 14 at its packet's place in the history, or 32 at the record's own (R8, R9).
+    #[tactic(auto, using(crate::proofs::Checking::admitting))]
+    fn admit(self, said: Told) -> Result<(), Refused>
+        ensures { told result ≡ admitted_of self said }
     {
-        match told {
-            Told::Packet(packet) => self.tally.past.refusal(packet),
-            Told::Skipped => 0,
-            Told::Late => 32,
-        }
-    }
-
-    // The answer where a record is refused: at its packet's place in the history, or at the record's own.
-    #[tactic(auto, unfolding(crate::specs::Step::refused_at))]
-    fn refused(self, told: Told) -> Checked
-        ensures { result ≡ refused_at self told }
-    {
-        match told {
-            Told::Packet(packet) => Checked::Refused {
-                number: self.tally.past.refusal(packet),
-                place: self.tally.past.packets,
-            },
-            Told::Skipped => Checked::Fine(self),
-            Told::Late => Checked::Refused {
-                number: 32,
+        match said {
+            Told::Packet(packet) => {
+                let past = self.tally.past;
+                past.admit(packet).map_err(|refusal| Refused {
+                    refusal,
+                    place: past.packets,
+                })
+            }
+            Told::Skipped => Ok(()),
+            Told::Late => Err(Refused {
+                refusal: Refusal::SubSecond,
                 place: self.records,
-            },
+            }),
         }
     }
 
@@ -457,58 +450,45 @@ impl Seen {
         }
     }
 
-    // The answer where no record stands: at the end, or where the file is cut short.
-    #[tactic(auto, unfolding(crate::specs::Step::closing))]
-    fn close(self, front: Front) -> Checked
-        ensures { result ≡ closing self front }
-    {
-        let Front::Cut = front else {
-            return Checked::Fine(self);
-        };
-        Checked::Refused {
-            number: 31,
-            place: self.records,
-        }
-    }
-
-    // The records behind the header, up to the end or the first that is refused.
+    // The records behind the header, up to the end or the first that is refused, by 31, 32 or 12 to 14.
     #[tactic(auto, using(crate::proofs::Checking::loop_laws))]
-    fn check_records(self, setting: Setting, s: &[u8]) -> Checked
+    fn check_records(self, setting: Setting, s: &[u8]) -> Result<Seen, Refused>
         requires { Room header_bytes s.now 0 × (self.records ≡ 0) × SeenRoom self }
-        ensures { result ≡ check_records self (records_in setting (drop header_bytes s.now)) }
+        ensures { told result ≡ check_records self (records_in setting (drop header_bytes s.now)) }
     {
         let mut seen = self;
         let mut at = HEADER;
         loop {
-            let front = setting.front(&s[at..], true);
+            let place = seen.records;
+            let read = setting.front(&s[at..], true);
+            let front = read.map_err(|refusal| Refused { refusal, place })?;
             let Front::Record { told, size } = front else {
-                return seen.close(front);
+                return Ok(seen);
             };
-            if seen.refusal(told) != 0 {
-                return seen.refused(told);
-            }
+            seen.admit(told)?;
             seen = seen.with(told);
             at += size;
         }
     }
 }
 
-// One pass over a whole capture that copies nothing and writes nothing: what came before its packets, and whether a marker did.
+// One pass over a whole capture that copies nothing and writes nothing: what came before its packets, and whether a marker did. Refused by
+// 33, 30, then record by record 31, 32 and 12 to 14, with the place (R8, R9).
 #[tactic(auto, using(crate::proofs::Checking::opening), unfolding(crate::specs::Paper::checked_of))]
-pub fn check(past: Past, begun: bool, port: u16, offset: u32, s: &[u8]) -> Checked
-    ensures { result ≡ checked_of port offset (seen_from past begun) s.now }
+pub fn check(past: Past, begun: bool, port: u16, offset: u32, s: &[u8]) -> Result<Seen, Refused>
+    ensures { told result ≡ checked_of port offset (seen_from past begun) s.now }
 {
     if 99 < offset {
-        return Checked::Refused {
-            number: 33,
+        return Err(Refused {
+            refusal: Refusal::Offset,
             place: 0,
-        };
+        });
     }
-    let Opened::Capture { format } = open(s, true) else {
-        return Checked::Refused {
-            number: 30,
+    let Some(format) = format_of(s) else {
+        return Err(Refused {
+            refusal: Refusal::Header,
             place: 0,
-        };
+        });
     };
     let seen = Seen {
         tally: Tally {

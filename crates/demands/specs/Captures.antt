@@ -1,13 +1,12 @@
 -- What is done with a network capture. First a frame and its headers (`handed_of`, headers' Step), then a capture call (`capture_of`, intake's
 -- Paper; what a capture holds is `records_of` and `packets_of` there), its reader in pieces, the C function (`capture_answer` and
 -- `capture_filled`, film's Paper), and any run of the program for captures, of which `output_of` of reel's Paper says what it prints.
-use Rattle.std.specs.Prelude.{◌≡◌, ◌+◌, ◌≤◌, ◌<◌, Err, Ok}
+use Rattle.std.specs.Prelude.{◌≡◌, ◌+◌, ◌≤◌, ◌<◌, Err, Ok, None}
 use Rattle.laws.specs.Kit.{refl, ◌∙◌, Bool, true, false, List, [], ℕ, min, ℤ, length, get_or, ne_eqb}
 use Rattle.endian.specs.Number.{Bytes}
 use Rattle.limits.specs.Accepted.{KnownEdition}
 use Rattle.refusal.specs.Told.{Numbered}
 use Rattle.packet.specs.Step.{nothing, scan_of}
-use Rattle.headers.specs.declared.Handed.TheVariants.{Skipped}
 use Rattle.headers.specs.Paper.{HandedOn, on_at}
 use Rattle.headers.specs.Step.{handed_of}
 use Rattle.headers.proofs.Exactly as exactly
@@ -27,8 +26,7 @@ use Rattle.timing.specs.declared.State.{State}
 use Rattle.timing.specs.Step.{stated_of, first_stated, stated_refusal, rules_of, fresh_of}
 use Rattle.timing.specs.Range.{in_range}
 use Rattle.timing.specs.Feed.{feed_all}
-use Rattle.intake.specs.declared.Taken.TheVariants.{Accepted, Refused}
-use Rattle.intake.specs.Paper.{records_of, packets_of, skipped_of, refused_by, capture_of, fed_as}
+use Rattle.intake.specs.Paper.{records_of, packets_of, skipped_of, refused_by, capture_of, fed_as, taken_as, not_taken}
 use Rattle.intake.proofs.Feeding as call
 use Rattle.intake.proofs.Swapped as swapped
 use Rattle.report.specs.Paper.{answer}
@@ -55,7 +53,7 @@ pub handed_on : (b : List ℕ) (n port ip udp rtp end : ℕ) → HandedOn b n po
 handed_on b n port ip udp rtp end c = exactly.handed_so c
 
 -- R4, R7: and where they hold at no places "every other frame is skipped"
-pub skipped_else : (b : List ℕ) (n port : ℕ) → ((ip udp rtp end : ℕ) → HandedOn b n port ip udp rtp end → ⊥) → handed_of b n port ≡ Skipped
+pub skipped_else : (b : List ℕ) (n port : ℕ) → ((ip udp rtp end : ℕ) → HandedOn b n port ip udp rtp end → ⊥) → handed_of b n port ≡ None
 skipped_else = exactly.skipped_so
 
 -- R14: only the first 162 bytes of a frame can matter: two with as many captured bytes that agree on these are handed on alike
@@ -84,7 +82,7 @@ module _ (s : State) (rows : List ℤ) (port offset : ℕ) (b : List ℕ) where
   capture_30 = call.capture_30 s rows port offset b
 
   -- R11: "refused, with number and place, state and rows as they were"
-  pub refused_stays : (t : State) (number place : ℕ) → (capture_of s rows port offset b).answer ≡ Refused number place t
+  pub refused_stays : (t : State) (number place : ℕ) → (capture_of s rows port offset b).answer ≡ not_taken number place t
       → (t ≡ s) × ((capture_of s rows port offset b).rows ≡ rows)
   refused_stays t number place = call.refused_stays s t rows port offset number place b
 
@@ -111,7 +109,7 @@ module _ (s : State) (rows : List ℤ) (port offset : ℕ) (b : List ℕ) where
 
     -- R10: "A capture of exactly 24 bytes, or of skipped frames only, is accepted and changes nothing."
     pub nothing_handed : in_range s ≡ true → offset ≤ 99 → (records_of port offset b).ending ≡ done → packets_of port offset b ≡ []
-        → capture_of s rows port offset b ≡ record { answer = Accepted s 0 (skipped_of port offset b); rows = rows }
+        → capture_of s rows port offset b ≡ record { answer = taken_as s 0 (skipped_of port offset b); rows = rows }
     nothing_handed e h = call.nothing_handed s rows port offset b e h known
 
     -- R12: "a capture and the same capture in the other order have the same answer"

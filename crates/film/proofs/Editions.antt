@@ -1,11 +1,10 @@
 -- The room of a capture's answer does not depend on the edition: what is checked does not, and the check's count of frames tells the room.
-use Rattle.std.specs.Prelude.{◌≡◌}
+use Rattle.std.specs.Prelude.{◌≡◌, Ok, Err}
 use Rattle.laws.specs.Kit.{refl, sym, ap, ◌∙◌, List, ℕ}
 use Rattle.limits.specs.Paper.{profile_of}
 use Rattle.limits.specs.Accepted.{KnownEdition}
 use Rattle.limits.proofs.Editions.{in_known, in_one}
-use Rattle.capture.specs.declared.Checked.{Checked}
-use Rattle.capture.specs.declared.Checked.TheVariants.{Fine, Refused}
+use Rattle.capture.specs.Paper.{Checked}
 use Rattle.timing.specs.declared.Stated.{Stated}
 use Rattle.timing.specs.Step.{first_stated, stated_refusal}
 use Rattle.film.specs.Paper.{capture_checked, room_by, capture_room}
@@ -32,7 +31,7 @@ module _ (t : Stated) (known : KnownEdition t.edition) (port offset : ℕ) (b : 
   room_alike = ap (room_by t port offset b) checked_alike ∙ go (capture_checked plain port offset b) refl
     where
       go : (c : Checked) → capture_checked plain port offset b ≡ c → room_by t port offset b c ≡ room_by plain port offset b c
-      go (Fine y) e =
+      go (Ok y) e =
           film_long t port offset b (checked_fine t port offset b y (checked_alike ∙ e))
           ∙ sym (film_long plain port offset b (checked_fine plain port offset b y e))
-      go (Refused number place) e = refl
+      go (Err r) e = refl

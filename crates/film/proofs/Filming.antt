@@ -1,9 +1,8 @@
 -- A capture in lent bytes: the count of frames that its check gives tells how long its report is, so that what is weighed decides the number,
 -- the place and the bytes; the rows are stored behind, and then the eleven numbers in front. By what the check says.
-use Rattle.std.specs.Prelude.{◌≡◌, ◌∷◌, ◌++◌, ◌*◌, ◌≤◌}
+use Rattle.std.specs.Prelude.{◌≡◌, ◌∷◌, ◌++◌, ◌*◌, ◌≤◌, Ok, Err}
 use Rattle.laws.specs.Kit.{refl, sym, ap, subst, ◌∙◌, Bool, true, false, List, [], map, append-nil, ℕ}
-use Rattle.laws.specs.Kit.{arith, leb, pos, length, drop, length-append, sets, le-leb, leb-true, eq-eqb}
-use Rattle.laws.specs.Kit.{ne_eqb, ℕ_discrete}
+use Rattle.laws.specs.Kit.{arith, leb, pos, length, drop, length-append, sets, le-leb, leb-true, eq-eqb, ne_eqb, ℕ_discrete}
 use Rattle.laws.specs.Choose.{pick}
 use Rattle.laws.specs.Fold.{fold}
 use Rattle.laws.proofs.Lay.{sets_join}
@@ -15,9 +14,9 @@ use Rattle.packet.specs.Paper.{closes_at}
 use Rattle.packet.specs.Step.{nothing}
 use Rattle.packet.proofs.Declared.{scan_declared, fine_few, fine_count}
 use Rattle.frame.specs.Step.{row_width}
+use Rattle.refusal.specs.Told.{Numbered}
 use Rattle.capture.specs.declared.Seen.{Seen}
-use Rattle.capture.specs.declared.Checked.{Checked}
-use Rattle.capture.specs.declared.Checked.TheVariants.{Fine, Refused}
+use Rattle.capture.specs.Paper.{Checked, checked_refused}
 use Rattle.intake.specs.Paper.{records_of, packets_of, skipped_of}
 use Rattle.intake.proofs.Reading.{Read, checked_read, records_read, skipped_read}
 use Rattle.timing.specs.declared.StreamNumbers.{StreamNumbers}
@@ -32,14 +31,17 @@ use Rattle.timing.proofs.Stating.{stated_fine}
 use Rattle.timing.proofs.InRange.{sound_fresh, of_sound}
 use Rattle.timing.proofs.Dealing.{sound_after}
 use Rattle.timing.proofs.Scanning.{scan_runs, numbers_length}
-use Rattle.film.specs.declared.Weighed.{Weighed}
-use Rattle.film.specs.declared.Weighed.TheVariants as weighed
+use Rattle.film.specs.declared.Counts.{Counts}
+use Rattle.film.specs.Step.{Weighed, weighed_as, not_weighed, eleven_width, eleven_bytes, weighed_by, weighed_of, FilmAsks, FilmGives}
 use Rattle.report.specs.Paper.{state_of, rows_of, in_bytes, row_bytes, number_bytes, Answer, answer}
 use Rattle.report.specs.Step.{needed_behind}
 use Rattle.film.specs.Paper.{eleven_of, capture_bytes, capture_checked, answered_by, capture_answer, filled_from, capture_filled}
 use Rattle.film.specs.Paper.{capture_room}
-use Rattle.film.specs.Step.{eleven_width, eleven_bytes, weighed_by, weighed_of, FilmAsks, FilmGives}
 use Rattle.report.proofs.Bytes.{nine, length_stored, stored_append, length_encoded, encoded_append, naturals, front_last}
+
+-- one answer has one pair of counts
+told_counts : {k m : Counts} → ◌≡◌ {A = Weighed} (Ok k) (Ok m) → k ≡ m
+told_counts e = cc
 
 module _ (t : Stated) (port offset : ℕ) (b : List ℕ) where
   -- the stream that is stated
@@ -51,14 +53,14 @@ module _ (t : Stated) (port offset : ℕ) (b : List ℕ) where
     pub set_up : set_up_of x ≡ 0
     pub read : Read port offset nothing false b y
 
-  pub checked_fine : (y : Seen) → capture_checked t port offset b ≡ Fine y → Filmed y
+  pub checked_fine : (y : Seen) → capture_checked t port offset b ≡ Ok y → Filmed y
   unfolding capture_checked
   checked_fine y e = go (ℕ_discrete (stated_refusal t) 0)
     where
       go : Dec (stated_refusal t ≡ 0) → Filmed y
       go (yes z) = record { set_up = (stated_fine t z).1; read = checked_read port offset nothing false b y (rw (eq-eqb (stated_refusal t) 0 z) at e) }
       go (no n) =
-          let f : Refused (stated_refusal t) 0 ≡ Fine y = rw (ne_eqb (stated_refusal t) 0 n) at e in
+          let f : checked_refused (stated_refusal t) 0 ≡ Ok y = rw (ne_eqb (stated_refusal t) 0 n) at e in
           let z : ◌≡◌ {A = ℕ} 0 1 = cc in
           absurd (omega arith)
 
@@ -123,40 +125,40 @@ module _ (t : Stated) (port offset : ℕ) (b : List ℕ) where
   -- ---- what is weighed
 
   module _ (room : ℕ) where
-    pub weighed_refused : {r : Checked} {n place : ℕ} → r ≡ capture_checked t port offset b → r ≡ Refused n place
-        → weighed.Refused n place ≡ weighed_of t port offset b room
+    pub weighed_refused : {r : Checked} {n place : ℕ} → r ≡ capture_checked t port offset b → r ≡ checked_refused n place
+        → not_weighed n place ≡ weighed_of t port offset b room
     unfolding weighed_of
     weighed_refused e f = rw (← e, f)
 
-    module _ {r : Checked} {y : Seen} (e : r ≡ capture_checked t port offset b) (f : r ≡ Fine y) where
+    module _ {r : Checked} {y : Seen} (e : r ≡ capture_checked t port offset b) (f : r ≡ Ok y) where
       fine : Filmed y
       fine = checked_fine y (sym e ∙ f)
 
       pub weighed_fine : leb (needed_behind eleven_width y.tally.closed) room ≡ true
-          → weighed.Fine y.records y.skipped ≡ weighed_of t port offset b room
+          → weighed_as y.records y.skipped ≡ weighed_of t port offset b room
       unfolding weighed_of
       weighed_fine t = rw (← e, f, film_long fine, t)
 
       pub weighed_15 : leb (needed_behind eleven_width y.tally.closed) room ≡ false
-          → weighed.Refused 15 0 ≡ weighed_of t port offset b room
+          → not_weighed 15 0 ≡ weighed_of t port offset b room
       unfolding weighed_of
       weighed_15 t = rw (← e, f, film_long fine, t)
 
     -- the number and the place are what is weighed
     abbrev pub weighed_answer : Weighed → Answer
-    weighed_answer (weighed.Fine records skipped) = answer 0 0
-    weighed_answer (weighed.Refused number place) = answer number place
+    weighed_answer (Ok r) = answer 0 0
+    weighed_answer (Err r) = answer r.number r.place
 
     own_answer : capture_answer t port offset b room ≡ weighed_answer (weighed_of t port offset b room)
     unfolding capture_answer weighed_of
     own_answer = go (capture_checked t port offset b)
       where
         go : (r : Checked) → answered_by t port offset b room r ≡ weighed_answer (weighed_by t port offset b room r)
-        go (Refused n place) = refl
-        go (Fine y) = by (leb (length (capture_bytes x port offset b)) room)
+        go (Err r) = refl
+        go (Ok y) = by (leb (length (capture_bytes x port offset b)) room)
           where
             by : (u : Bool) → pick u (answer 0 0) (answer 15 0)
-                ≡ weighed_answer (pick u (weighed.Fine y.records y.skipped) (weighed.Refused 15 0))
+                ≡ weighed_answer (pick u (weighed_as y.records y.skipped) (not_weighed 15 0))
             by true = refl
             by false = refl
 
@@ -166,28 +168,28 @@ module _ (t : Stated) (port offset : ℕ) (b : List ℕ) where
     -- fine: there is room, and every record is counted
     pub record Enough (records skipped : ℕ) : Type 0 where
       pub seen : Seen
-      pub is_fine : capture_checked t port offset b ≡ Fine seen
+      pub is_fine : capture_checked t port offset b ≡ Ok seen
       pub enough : length (capture_bytes x port offset b) ≤ room
       pub all : records ≡ length (records_of port offset b).found
       pub skips : skipped ≡ skipped_of port offset b
 
-    pub weighed_enough : {w : Weighed} {records skipped : ℕ} → w ≡ weighed_of t port offset b room → w ≡ weighed.Fine records skipped
-        → Enough records skipped
+    pub weighed_enough : {k : Counts} → Ok k ≡ weighed_of t port offset b room → Enough k.records k.skipped
     unfolding weighed_of
-    weighed_enough {w} {records} {skipped} e f = go (capture_checked t port offset b) refl (sym f ∙ e)
+    weighed_enough {k = counts} = go (capture_checked t port offset b) refl
       where
-        go : (r : Checked) → capture_checked t port offset b ≡ r → weighed.Fine records skipped ≡ weighed_by t port offset b room r
-            → Enough records skipped
-        go (Refused n place) k g = let z : ◌≡◌ {A = ℕ} 0 1 = cc in absurd (omega arith)
-        go (Fine y) k g = by (leb (length (capture_bytes x port offset b)) room) refl g
+        go : (r : Checked) → capture_checked t port offset b ≡ r → Ok counts ≡ weighed_by t port offset b room r
+            → Enough counts.records counts.skipped
+        go (Err r) k g = let z : ◌≡◌ {A = ℕ} 0 1 = cc in absurd (omega arith)
+        go (Ok y) k g = by (leb (length (capture_bytes x port offset b)) room) refl g
           where
             by : (u : Bool) → leb (length (capture_bytes x port offset b)) room ≡ u
-                → weighed.Fine records skipped ≡ pick u (weighed.Fine y.records y.skipped) (weighed.Refused 15 0)
-                → Enough records skipped
+                → Ok counts ≡ pick u (weighed_as y.records y.skipped) (not_weighed 15 0)
+                → Enough counts.records counts.skipped
             by true q g =
                 let read = (checked_fine y k).read in
-                let one : records ≡ y.records = cc in
-                let two : skipped ≡ y.skipped = cc in
+                let same : counts ≡ record { records = y.records; skipped = y.skipped } = told_counts g in
+                let one : counts.records ≡ y.records = ap (λ (k : Counts). k.records) same in
+                let two : counts.skipped ≡ y.skipped = ap (λ (k : Counts). k.skipped) same in
                 record {
                   seen = y;
                   is_fine = k;
@@ -206,16 +208,16 @@ module _ (t : Stated) (port offset : ℕ) (b : List ℕ) where
 
   -- ---- the lent bytes
 
-  pub refused_leaves : (out : List ℕ) {w : Weighed} {n place : ℕ} → w ≡ weighed_of t port offset b (length out)
-      → w ≡ weighed.Refused n place → out ≡ capture_filled t port offset b out
+  pub refused_leaves : (out : List ℕ) {n : Numbered} → Err n ≡ weighed_of t port offset b (length out)
+      → out ≡ capture_filled t port offset b out
   unfolding weighed_of capture_filled
-  refused_leaves out {w} {n} {place} e f = go (capture_checked t port offset b) (sym f ∙ e)
+  refused_leaves out {n} = go (capture_checked t port offset b)
     where
-      go : (r : Checked) → weighed.Refused n place ≡ weighed_by t port offset b (length out) r → out ≡ filled_from t port offset b out r
-      go (Refused m p) g = refl
-      go (Fine y) g = by (leb (length (capture_bytes x port offset b)) (length out)) g
+      go : (r : Checked) → Err n ≡ weighed_by t port offset b (length out) r → out ≡ filled_from t port offset b out r
+      go (Err r) g = refl
+      go (Ok y) g = by (leb (length (capture_bytes x port offset b)) (length out)) g
         where
-          by : (u : Bool) → weighed.Refused n place ≡ pick u (weighed.Fine y.records y.skipped) (weighed.Refused 15 0)
+          by : (u : Bool) → Err n ≡ pick u (weighed_as y.records y.skipped) (not_weighed 15 0)
               → out ≡ pick u (capture_bytes x port offset b ++ drop (length (capture_bytes x port offset b)) out) out
           by true g = let z : ◌≡◌ {A = ℕ} 0 1 = cc in absurd (omega arith)
           by false g = refl
@@ -260,16 +262,17 @@ module _ (t : Stated) (port offset : ℕ) (b : List ℕ) where
 
   -- ---- the room
 
-  pub room_refused : {r : Checked} {n place : ℕ} → r ≡ capture_checked t port offset b → r ≡ Refused n place → 0 ≡ capture_room t port offset b
+  pub room_refused : {r : Checked} {n place : ℕ} → r ≡ capture_checked t port offset b → r ≡ checked_refused n place
+      → 0 ≡ capture_room t port offset b
   unfolding capture_room
   room_refused e f = rw (← e, f)
 
-  pub room_fine : {r : Checked} {y : Seen} → r ≡ capture_checked t port offset b → r ≡ Fine y
+  pub room_fine : {r : Checked} {y : Seen} → r ≡ capture_checked t port offset b → r ≡ Ok y
       → needed_behind eleven_width y.tally.closed ≡ capture_room t port offset b
   unfolding capture_room
   room_fine {y = y} e f = rw (← e, f) (sym (film_long (checked_fine y (sym e ∙ f))))
 
-  pub few_closed : {r : Checked} {y : Seen} → r ≡ capture_checked t port offset b → r ≡ Fine y → y.tally.closed ≤ 1000000000
+  pub few_closed : {r : Checked} {y : Seen} → r ≡ capture_checked t port offset b → r ≡ Ok y → y.tally.closed ≤ 1000000000
   few_closed {y = y} e f = film_few (checked_fine y (sym e ∙ f))
 
 -- ---- the stream as the code has it

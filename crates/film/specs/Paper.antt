@@ -1,12 +1,10 @@
 -- The C functions for a capture: the request's sentences, each above what renders it, on what the capture call (crate intake) says of its
 -- bytes. This page is what a reader must believe of them.
-use Rattle.std.specs.Prelude.{◌∷◌, ◌++◌}
+use Rattle.std.specs.Prelude.{◌∷◌, ◌++◌, Ok, Err}
 use Rattle.laws.specs.Kit.{false, List, [], map, ℕ, leb, eqb, pos, length, drop}
 use Rattle.laws.specs.Choose.{pick}
 use Rattle.packet.specs.Step.{nothing}
-use Rattle.capture.specs.declared.Checked.{Checked}
-use Rattle.capture.specs.declared.Checked.TheVariants.{Fine, Refused}
-use Rattle.capture.specs.Paper.{seen_from, checked_of}
+use Rattle.capture.specs.Paper.{Checked, checked_refused, seen_from, checked_of}
 use Rattle.intake.specs.Paper.{records_of, packets_of, skipped_of}
 use Rattle.timing.specs.declared.StreamNumbers.{StreamNumbers}
 use Rattle.timing.specs.declared.Stated.{Stated}
@@ -30,30 +28,30 @@ module _ (t : Stated) (port offset : ℕ) (b : List ℕ) where
   -- R15, S12: "1 to 7, then the order above"; "`vtiming_capture` takes it too: 8 after 7"; and 22 before 1 for a kind that chooses no profile
   unfoldable pub capture_checked : Checked
   capture_checked =
-      pick (eqb (stated_refusal t) 0) (checked_of port offset (seen_from nothing false) b) (Refused (stated_refusal t) 0)
+      pick (eqb (stated_refusal t) 0) (checked_of port offset (seen_from nothing false) b) (checked_refused (stated_refusal t) 0)
 
   -- R9, R15, R16: "15 last", at the place of the first packet, which is 0
   abbrev pub answered_by : ℕ → Checked → Answer
-  answered_by room (Fine y) = pick (leb (length (capture_bytes x port offset b)) room) (answer 0 0) (answer 15 0)
-  answered_by room (Refused number place) = answer number place
+  answered_by room (Ok y) = pick (leb (length (capture_bytes x port offset b)) room) (answer 0 0) (answer 15 0)
+  answered_by room (Err r) = answer r.number r.place
 
   unfoldable pub capture_answer : ℕ → Answer
   capture_answer room = answered_by room capture_checked
 
   -- R15: "Refused, nothing is written."
   abbrev pub filled_from : List ℕ → Checked → List ℕ
-  filled_from out (Fine y) =
+  filled_from out (Ok y) =
       let bytes = capture_bytes x port offset b in
       pick (leb (length bytes) (length out)) (bytes ++ drop (length bytes) out) out
-  filled_from out (Refused number place) = out
+  filled_from out (Err r) = out
 
   unfoldable pub capture_filled : List ℕ → List ℕ
   capture_filled out = filled_from out capture_checked
 
   -- X13: how many lent bytes are enough
   abbrev pub room_by : Checked → ℕ
-  room_by (Fine y) = length (capture_bytes x port offset b)
-  room_by (Refused number place) = 0
+  room_by (Ok y) = length (capture_bytes x port offset b)
+  room_by (Err r) = 0
 
   unfoldable pub capture_room : ℕ
   capture_room = room_by capture_checked

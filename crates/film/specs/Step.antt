@@ -1,9 +1,8 @@
 -- A capture measured part by part: what each part of the code asks and gives, in the words of Paper.
-use Rattle.std.specs.Prelude.{◌≡◌, ◌+◌, ◌*◌}
+use Rattle.std.specs.Prelude.{◌≡◌, ◌+◌, ◌*◌, Result, Ok, Err}
 use Rattle.laws.specs.Kit.{List, ℕ, leb, length}
 use Rattle.laws.specs.Choose.{pick}
-use Rattle.capture.specs.declared.Checked.{Checked}
-use Rattle.capture.specs.declared.Checked.TheVariants.{Fine, Refused}
+use Rattle.capture.specs.Paper.{Checked}
 use Rattle.intake.specs.Paper.{packets_of}
 use Rattle.timing.specs.declared.StreamNumbers.{StreamNumbers}
 use Rattle.timing.specs.declared.State.{State}
@@ -12,8 +11,8 @@ use Rattle.timing.specs.Step.{set_up_of, stated_of, rules_of, fresh_of}
 use Rattle.timing.specs.Answers.{summary_width}
 use Rattle.timing.specs.Feed.{RunAsks, RunGives}
 use Rattle.report.specs.Paper.{row_bytes, number_bytes}
-use Rattle.film.specs.declared.Weighed.{Weighed}
-use Rattle.film.specs.declared.Weighed.TheVariants as weighed
+use Rattle.refusal.specs.Told.{Numbered}
+use Rattle.film.specs.declared.Counts.{Counts}
 use Rattle.film.specs.Paper.{capture_bytes, capture_checked, capture_answer, capture_filled}
 
 -- the eleven numbers, and their bytes
@@ -23,12 +22,22 @@ eleven_width = summary_width + 2
 abbrev pub eleven_bytes : ℕ
 eleven_bytes = number_bytes * eleven_width
 
+-- what is asked of a capture: its records and those skipped, or the number and the place of its refusal
+abbrev pub Weighed : Type 0
+Weighed = Result Counts Numbered
+
+abbrev pub weighed_as : ℕ → ℕ → Weighed
+weighed_as records skipped = Ok (record { records = records; skipped = skipped })
+
+abbrev pub not_weighed : ℕ → ℕ → Weighed
+not_weighed number place = Err (record { number = number; place = place })
+
 module _ (t : Stated) (port offset : ℕ) (b : List ℕ) where
   -- what is asked of a capture and so many lent bytes
   abbrev pub weighed_by : ℕ → Checked → Weighed
-  weighed_by room (Fine y) =
-      pick (leb (length (capture_bytes (stated_of t) port offset b)) room) (weighed.Fine y.records y.skipped) (weighed.Refused 15 0)
-  weighed_by room (Refused number place) = weighed.Refused number place
+  weighed_by room (Ok y) =
+      pick (leb (length (capture_bytes (stated_of t) port offset b)) room) (weighed_as y.records y.skipped) (not_weighed 15 0)
+  weighed_by room (Err r) = Err r
 
   unfoldable pub weighed_of : ℕ → Weighed
   weighed_of room = weighed_by room (capture_checked t port offset b)

@@ -13,11 +13,13 @@ ghost use Rattle.capture.specs.Step.{handed_in};
 ghost use Rattle.report.specs.Paper.{row_bytes};
 ghost use Rattle.film.specs.Paper.{capture_checked, capture_answer, capture_room};
 ghost use Rattle.film.specs.Step.{eleven_bytes, weighed_of, FilmAsks, FilmGives, CaptureGives};
+ghost use Rattle.refusal.specs.Told.{told};
 
-use capture::{Checked, HEADER, Opened, Setting, Sought};
+use capture::{HEADER, Seen, Setting};
 use endian::write64;
 use limits::{FIRST_EDITION, Parameters};
 use packet::Past;
+use refusal::{Refusal, Refused};
 use report::{NUMBER, SUMMARY_BYTES};
 use timing::{Rules, SUMMARY, State, Stated, StreamNumbers};
 
@@ -26,45 +28,46 @@ const ELEVEN: usize = SUMMARY + 2;
 
 const ELEVEN_BYTES: usize = NUMBER * ELEVEN;
 
-// What is lent for a capture: fine with its records and those of them that are skipped, or the number and the place of the refusal.
+// The records of a capture, and those of them that are skipped.
 #[derive(Clone, Copy, Debug, PartialEq, Eq)]
-enum Weighed {
-    Fine { records: u64, skipped: u64 },
-    Refused { number: u8, place: u64 },
+struct Counts {
+    records: u64,
+    skipped: u64,
 }
 
-// Set-up, then one pass that checks the capture and counts its frames. It writes nothing.
+// Set-up, then one pass that checks the capture and counts its frames. It writes nothing. Refused as set-up and the check refuse.
 #[tactic(auto, unfolding(crate::specs::Paper::capture_checked))]
-fn check_capture(stated: Stated, port: u16, offset: u32, capture: &[u8]) -> Checked
-    ensures { result ≡ capture_checked stated port offset capture.now }
+fn check_capture(stated: Stated, port: u16, offset: u32, capture: &[u8]) -> Result<Seen, Refused>
+    ensures { told result ≡ capture_checked stated port offset capture.now }
 {
-    let number = stated.refusal();
-    if number != 0 {
-        return Checked::Refused { number, place: 0 };
-    }
+    stated
+        .check()
+        .map_err(|refusal| Refused { refusal, place: 0 })?;
     capture::check(Past::none(), false, port, offset, capture)
 }
 
-// The same, then the room. The first packet of a capture has place 0.
+// The same, then the room, by 15. The first packet of a capture has place 0.
 #[tactic(auto, using(crate::proofs::Filming::weighing))]
-fn weigh(stated: Stated, port: u16, offset: u32, capture: &[u8], room: usize) -> Weighed
-    ensures { result ≡ weighed_of stated port offset capture.now room }
+fn weigh(
+    stated: Stated,
+    port: u16,
+    offset: u32,
+    capture: &[u8],
+    room: usize,
+) -> Result<Counts, Refused>
+    ensures { told result ≡ weighed_of stated port offset capture.now room }
 {
-    match check_capture(stated, port, offset, capture) {
-        Checked::Fine(seen) => {
-            if report::fits(ELEVEN, seen.tally.closed as u64, room) {
-                return Weighed::Fine {
-                    records: seen.records,
-                    skipped: seen.skipped,
-                };
-            }
-            Weighed::Refused {
-                number: 15,
-                place: 0,
-            }
-        }
-        Checked::Refused { number, place } => Weighed::Refused { number, place },
+    let seen = check_capture(stated, port, offset, capture)?;
+    if !report::fits(ELEVEN, seen.tally.closed as u64, room) {
+        return Err(Refused {
+            refusal: Refusal::Room,
+            place: 0,
+        });
     }
+    Ok(Counts {
+        records: seen.records,
+        skipped: seen.skipped,
+    })
 }
 
 // The packets of a capture that was weighed and is fine, one by one, as `measure` takes those of a file.
@@ -86,15 +89,16 @@ fn film_packets(numbers: StreamNumbers, setting: Setting, capture: &[u8], out: &
     let mut from = HEADER;
     let mut at = ELEVEN_BYTES;
     loop {
-        let Sought::Packet { packet, next } = setting.seek(capture, from) else {
+        let Some(found) = setting.seek(capture, from) else {
             return s;
         };
+        let packet = found.packet;
         s = s.arrive(rules, packet.time, packet.stamp);
         if packet.marker == 1 {
             at = report::put_closed(s, rules, out, at);
             s = s.mark(rules, packet.time);
         }
-        from = next;
+        from = found.next;
     }
 }
 
@@ -103,7 +107,7 @@ fn film(numbers: StreamNumbers, port: u16, offset: u32, capture: &[u8], out: &mu
     requires { FilmAsks numbers port offset capture.now (length out.old) }
     ensures { FilmGives numbers port offset capture.now out.old result out.new }
 {
-    let Opened::Capture { format } = capture::open(capture, true) else {
+    let Some(format) = capture::format_of(capture) else {
         return numbers.fresh();
     };
     film_packets(
@@ -153,14 +157,14 @@ pub extern "C" fn vtiming_capture(
         edition,
     };
     match weigh(stated, port, offset, capture, out.len()) {
-        Weighed::Fine { records, skipped } => {
+        Ok(counts) => {
             let s = film(stated.numbers(), port, offset, capture, out);
             report::put_summary(s, out);
-            write64(out, SUMMARY_BYTES, records);
-            write64(out, SUMMARY_BYTES + NUMBER, skipped);
+            write64(out, SUMMARY_BYTES, counts.records);
+            write64(out, SUMMARY_BYTES + NUMBER, counts.skipped);
             0
         }
-        Weighed::Refused { number, .. } => u32::from(number),
+        Err(r) => u32::from(r.refusal.number()),
     }
 }
 
@@ -199,8 +203,8 @@ pub extern "C" fn vtiming_capture_place(
         edition,
     };
     match weigh(stated, port, offset, capture, room) {
-        Weighed::Fine { .. } => 0,
-        Weighed::Refused { place, .. } => place,
+        Ok(_) => 0,
+        Err(r) => r.place,
     }
 }
 
@@ -237,9 +241,9 @@ pub extern "C" fn vtiming_capture_room(
         edition: FIRST_EDITION,
     };
     match check_capture(plain, port, offset, capture) {
-        Checked::Fine(seen) => {
+        Ok(seen) => {
             NUMBER as u64 * (ELEVEN as u64 + seen.tally.closed as u64 * frame::ROW as u64)
         }
-        Checked::Refused { .. } => 0,
+        Err(_) => 0,
     }
 }

@@ -138,8 +138,8 @@ pub fn divided(x: u64, num: u64) -> Division
     }
 }
 
-// What is known of a frame's reads at a time: how many are over, and how long it is until the next, times den, if one is left. The wait is what a step goes on with:
-// it is that of `next`, had the reads no end. So a step has no test for the last read, and who asks for no `next` pays for none.
+// What is known of a frame's reads at a time: how many are over, and how long it is until the next, times den, if one is left. The wait is
+// what a step goes on with: it is that of `next`, had the reads no end. So a step has no test for the last read, and who asks for no `next` pays for none.
 #[derive(Clone, Copy, Debug, PartialEq, Eq)]
 pub struct Reads {
     pub count: u64,

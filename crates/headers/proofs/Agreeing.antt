@@ -1,13 +1,10 @@
 -- What becomes of a frame hangs on its captured length and on its first 162 bytes alone: two lists that agree so far have one answer.
 -- By the list of conditions: each is carried over, and back.
-use Rattle.std.specs.Prelude.{◌≡◌, ◌++◌, ◌+◌, ◌≤◌, ◌<◌}
-use Rattle.laws.specs.Kit.{refl, sym, ap, ◌∙◌, List, ℕ}
-use Rattle.laws.specs.Kit.{min, arith, length, take, drop, get_or, length-drop, length-append, get_or-append}
+use Rattle.std.specs.Prelude.{◌≡◌, ◌++◌, ◌+◌, ◌≤◌, ◌<◌, Some, None}
+use Rattle.laws.specs.Kit.{refl, sym, ap, ◌∙◌, List, ℕ, min, arith, length, take, drop, get_or, length-drop, length-append, get_or-append}
 use lib.Seq.{ext_get_or, get_or-take, get_or-drop, length-take-le}
 use Rattle.endian.specs.Number.{number_of, number_at}
-use Rattle.headers.specs.declared.Handed.{Handed}
-use Rattle.headers.specs.declared.Handed.TheVariants.{On, Skipped}
-use Rattle.headers.specs.Paper.{Internet, plain, tagged, HandedOn, on_at}
+use Rattle.headers.specs.Paper.{Handed, Internet, plain, tagged, HandedOn, on_at}
 use Rattle.headers.specs.Step.{handed_of}
 use Rattle.headers.proofs.Exactly.{handed_so, handed_only, skipped_so}
 
@@ -81,10 +78,10 @@ pub handed_agree : {n : ℕ} {b c : List ℕ} (port : ℕ) → Agree n b c → h
 handed_agree {n} {b} {c} port a = go (handed_of b n port) refl
   where
     go : (h : Handed) → handed_of b n port ≡ h → handed_of b n port ≡ handed_of c n port
-    go (On stamp marker) e =
+    go (Some r) e =
         let all = handed_only b n port e in
         handed_so all ∙ on_agree a all ∙ sym (handed_so (conditions_agree a all))
-    go Skipped e =
+    go None e =
         e
         ∙ sym
         (skipped_so c n port

@@ -1,12 +1,10 @@
 -- A frame is handed on exactly when all conditions of the list hold, and at most one set of places meets them. By the tests, one after the other.
-use Rattle.std.specs.Prelude.{◌≡◌, ◌+◌, ◌-◌, ◌*◌, ◌/◌, ◌%◌, ◌≤◌}
-use Rattle.laws.specs.Kit.{refl, sym, ap, ◌∙◌, Bool, true, false, List, ℕ}
-use Rattle.laws.specs.Kit.{arith, le-leb, eq-eqb, eqb-true}
+use Rattle.std.specs.Prelude.{◌≡◌, ◌+◌, ◌-◌, ◌*◌, ◌/◌, ◌%◌, ◌≤◌, None}
+use Rattle.laws.specs.Kit.{refl, sym, ap, ◌∙◌, Bool, true, false, List, ℕ, arith, le-leb, eq-eqb, eqb-true}
 use Rattle.laws.specs.Choose.{pick}
 use Rattle.laws.specs.Every.{after, All}
 use Rattle.laws.proofs.Every.{◌and◌, facts, of_facts}
-use Rattle.headers.specs.declared.Handed.TheVariants.{On, Skipped}
-use Rattle.headers.specs.Paper.{byte_at, pair_at, ipv4, Internet, plain, tagged, HandedOn, on_at}
+use Rattle.headers.specs.Paper.{byte_at, pair_at, ipv4, Internet, plain, tagged, HandedOn, on_at, on_with}
 use Rattle.headers.specs.Step.{tagged_at, ip_at, udp_in, rtp_at, end_at, ether_fits, ip_fits, udp_fits, extension_fits, rtp_fits, fits, handed_of}
 use Rattle.headers.proofs.Handing.{goes_on}
 
@@ -89,21 +87,21 @@ module _ (b : List ℕ) (n port : ℕ) where
       }
 
   -- no places meet the conditions: skipped
-  pub skipped_so : ((ip udp rtp end : ℕ) → HandedOn b n port ip udp rtp end → ⊥) → handed_of b n port ≡ Skipped
+  pub skipped_so : ((ip udp rtp end : ℕ) → HandedOn b n port ip udp rtp end → ⊥) → handed_of b n port ≡ None
   unfolding handed_of
   skipped_so none = go (fits b n port) refl
     where
-      go : (t : Bool) → fits b n port ≡ t → pick t (on_at b (rtp_at (udp_in b))) Skipped ≡ Skipped
+      go : (t : Bool) → fits b n port ≡ t → pick t (on_at b (rtp_at (udp_in b))) None ≡ None
       go true e = absurd (none _ _ _ _ (only_so e))
       go false e = refl
 
   -- handed on: all hold
-  pub handed_only : {stamp marker : ℕ} → handed_of b n port ≡ On stamp marker
+  pub handed_only : {stamp marker : ℕ} → handed_of b n port ≡ on_with stamp marker
       → HandedOn b n port (ip_at b) (udp_in b) (rtp_at (udp_in b)) (end_at b (rtp_at (udp_in b)))
   unfolding handed_of
   handed_only {stamp} {marker} h = go (fits b n port) refl h
     where
-      go : (t : Bool) → fits b n port ≡ t → pick t (on_at b (rtp_at (udp_in b))) Skipped ≡ On stamp marker
+      go : (t : Bool) → fits b n port ≡ t → pick t (on_at b (rtp_at (udp_in b))) None ≡ on_with stamp marker
           → HandedOn b n port (ip_at b) (udp_in b) (rtp_at (udp_in b)) (end_at b (rtp_at (udp_in b)))
       go true e q = only_so e
       go false e q = let z : ◌≡◌ {A = ℕ} 0 1 = cc in absurd (omega arith)

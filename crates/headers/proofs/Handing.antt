@@ -1,8 +1,7 @@
 -- The room that a header which fits has, and what becomes of a frame whose headers all fit.
-use Rattle.std.specs.Prelude.{◌≡◌, ◌&&◌, ◌+◌, ◌≤◌}
+use Rattle.std.specs.Prelude.{◌≡◌, ◌&&◌, ◌+◌, ◌≤◌, None}
 use Rattle.laws.specs.Kit.{refl, true, List, ℕ, leb, le-leb}
 use Rattle.laws.specs.Choose.{pick}
-use Rattle.headers.specs.declared.Handed.TheVariants.{Skipped}
 use Rattle.laws.specs.Every.{after}
 use Rattle.laws.proofs.Every.{facts}
 use Rattle.headers.specs.Paper.{on_at}
@@ -20,7 +19,7 @@ rtp_room b n rtp e = facts _ e 0
 pub handed_by : (b : List ℕ) (n port : ℕ) → handed_of b n port
     ≡ pick (leb 14 n && ether_fits b n (ip_at b) && ip_fits b n (ip_at b) && udp_fits b n (udp_in b) port
     && rtp_fits b n (rtp_at (udp_in b)))
-    (on_at b (rtp_at (udp_in b))) Skipped
+    (on_at b (rtp_at (udp_in b))) None
 unfolding handed_of fits after
 handed_by b n port = refl
 

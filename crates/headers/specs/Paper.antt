@@ -1,10 +1,9 @@
 -- Which frames are handed on, in the request's words, condition by condition. `b` is a frame's bytes, `n` how many were captured; ip, udp,
 -- rtp and end are where the headers start and where RTP's ends. This page is what a reader must believe of the headers.
-use Rattle.std.specs.Prelude.{◌≡◌, ◌+◌, ◌*◌, ◌/◌, ◌%◌, ◌≤◌}
+use Rattle.std.specs.Prelude.{◌≡◌, ◌+◌, ◌*◌, ◌/◌, ◌%◌, ◌≤◌, Option, Some}
 use Rattle.laws.specs.Kit.{List, ℕ, get_or}
 use Rattle.endian.specs.Number.{number_at}
-use Rattle.headers.specs.declared.Handed.{Handed}
-use Rattle.headers.specs.declared.Handed.TheVariants.{On}
+use Rattle.headers.specs.declared.Rtp.{Rtp}
 
 -- a byte, and a number of two bytes, at a place; the highest byte stands first in every header
 abbrev pub byte_at : List ℕ → ℕ → ℕ
@@ -50,6 +49,13 @@ pub record HandedOn (b : List ℕ) (n port ip udp rtp end : ℕ) : Type 0 where
   -- "if the X bit is set, the extension's 4 bytes and all its words"
   pub extension : byte_at b rtp / 16 % 2 ≡ 1 → (end + 4 ≤ n) × (end + 4 + 4 * pair_at b (end + 2) ≤ n)
 
+-- R4: what is handed on of a frame, or that it is skipped
+abbrev pub Handed : Type 0
+Handed = Option Rtp
+
+abbrev pub on_with : ℕ → ℕ → Handed
+on_with stamp marker = Some (record { stamp = stamp; marker = marker })
+
 -- R6: "its timestamp and marker are RTP's"
 abbrev pub on_at : List ℕ → ℕ → Handed
-on_at b rtp = On (number_at 4 b (rtp + 4)) (byte_at b (rtp + 1) / 128)
+on_at b rtp = on_with (number_at 4 b (rtp + 4)) (byte_at b (rtp + 1) / 128)

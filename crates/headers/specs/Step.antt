@@ -1,11 +1,9 @@
 -- The same as tests, header by header: what the contracts cite. The tests of length ask n, so that b need not show the whole frame.
-use Rattle.std.specs.Prelude.{◌∷◌, ◌+◌, ◌-◌, ◌*◌, ◌/◌, ◌%◌, ◌≤◌}
+use Rattle.std.specs.Prelude.{◌∷◌, ◌+◌, ◌-◌, ◌*◌, ◌/◌, ◌%◌, ◌≤◌, None}
 use Rattle.laws.specs.Kit.{Bool, List, [], ℕ, min, eqb, length}
 use Rattle.laws.specs.Choose.{pick}
 use Rattle.laws.specs.Every.{at_most, same, is, where_so, every}
-use Rattle.headers.specs.declared.Handed.{Handed}
-use Rattle.headers.specs.declared.Handed.TheVariants.{Skipped}
-use Rattle.headers.specs.Paper.{byte_at, pair_at, ipv4, tag, on_at}
+use Rattle.headers.specs.Paper.{Handed, byte_at, pair_at, ipv4, tag, on_at}
 
 -- R4: a tag's type, and where IPv4 starts: its own type stands in the two bytes before, behind a tag or not
 abbrev pub tagged_at : List ℕ → Bool
@@ -96,7 +94,7 @@ plain_fits b n port =
 
 -- R4, R7: what becomes of a frame
 unfoldable pub handed_of : List ℕ → ℕ → ℕ → Handed
-handed_of b n port = pick (fits b n port) (on_at b (rtp_at (udp_in b))) Skipped
+handed_of b n port = pick (fits b n port) (on_at b (rtp_at (udp_in b))) None
 
 -- R14: the bytes that a frame of n captured bytes must show: 14 + 4 + 60 + 8 + 12 + 60 + 4 at most are read
 abbrev pub matter : ℕ

@@ -11,11 +11,11 @@ ghost use Rattle.headers.specs.Step.{Shown, Placed, ip_at, ether_fits, ip_fits, 
 
 use endian::{read16, read32};
 
-// What becomes of a frame: its timestamp and marker are handed on, or it is skipped.
+// What is handed on of a frame: the timestamp and the marker of its RTP header.
 #[derive(Clone, Copy, Debug, PartialEq, Eq)]
-pub enum Handed {
-    On { stamp: u32, marker: u8 },
-    Skipped,
+pub struct Rtp {
+    pub stamp: u32,
+    pub marker: u8,
 }
 
 // How many bytes of a frame can matter, 14 + 4 + 60 + 8 + 12 + 60 + 4: an extension's words are counted, not read.
@@ -112,14 +112,14 @@ fn rtp_fits(b: &[u8], n: usize, rtp: usize) -> bool
     end <= n && (b[rtp] / 16 % 2 != 1 || extension_fits(b, n, end))
 }
 
-fn on_at(b: &[u8], rtp: usize) -> Handed
+fn on_at(b: &[u8], rtp: usize) -> Option<Rtp>
     requires { Room 12 b.now rtp }
     ensures { result ≡ on_at b.now rtp }
 {
-    Handed::On {
+    Some(Rtp {
         stamp: read32(b, rtp + 4),
         marker: b[rtp + 1] / 128,
-    }
+    })
 }
 
 // The frame of most senders: a tag or none, no options, and nothing in RTP's header but its 12 bytes. Then one test of length is enough.
@@ -143,28 +143,28 @@ fn plain(b: &[u8], n: usize, port: u16) -> bool
 
 // Any frame, header by header.
 #[tactic(auto, using(crate::proofs::Handing::any_laws))]
-fn hand_on_any(b: &[u8], n: usize, port: u16) -> Handed
+fn hand_on_any(b: &[u8], n: usize, port: u16) -> Option<Rtp>
     requires { Shown b.now n }
     ensures { result ≡ handed_of b.now n port }
 {
     if n < 14 {
-        return Handed::Skipped;
+        return None;
     }
     let ip = ip_at(b);
     if !ether_fits(b, n, ip) || !ip_fits(b, n, ip) {
-        return Handed::Skipped;
+        return None;
     }
     let udp = udp_at(b, ip);
     if !udp_fits(b, n, udp, port) || !rtp_fits(b, n, udp + 8) {
-        return Handed::Skipped;
+        return None;
     }
     on_at(b, udp + 8)
 }
 
-// What becomes of a frame of `n` captured bytes, of which `b` shows the first: all, or at least the 162 that can matter. The plain
-// frame is looked for first, since it has fewer tests.
+// What is handed on of a frame of `n` captured bytes, of which `b` shows the first, all or at least the 162 that can matter; none where
+// it is skipped (R4). The plain frame is looked for first, since it has fewer tests.
 #[tactic(auto, using(crate::proofs::AtOnce::plain_room, crate::proofs::AtOnce::plain_handed))]
-pub fn hand_on_front(b: &[u8], n: usize, port: u16) -> Handed
+pub fn hand_on_front(b: &[u8], n: usize, port: u16) -> Option<Rtp>
     requires { Shown b.now n }
     ensures { result ≡ handed_of b.now n port }
 {
@@ -174,8 +174,8 @@ pub fn hand_on_front(b: &[u8], n: usize, port: u16) -> Handed
     hand_on_any(b, n, port)
 }
 
-// What becomes of a frame that is all there.
-pub fn hand_on(frame: &[u8], port: u16) -> Handed
+// The same of a frame that is all there.
+pub fn hand_on(frame: &[u8], port: u16) -> Option<Rtp>
     ensures { result ≡ handed_of frame.now (length frame.now) port }
 {
     hand_on_front(frame, frame.len(), port)

@@ -9,9 +9,7 @@ use Rattle.refusal.specs.Told.{Numbered}
 use Rattle.packet.specs.Step.{scan_of}
 use Rattle.frame.specs.Step.{row_width}
 use Rattle.capture.specs.declared.Format.{Format}
-use Rattle.capture.specs.declared.Checked.{Checked}
-use Rattle.capture.specs.declared.Checked.TheVariants as checked
-use Rattle.capture.specs.Paper.{capture, unknown, header_of, Ending, done, stopped, seen_from, checked_of}
+use Rattle.capture.specs.Paper.{Checked, capture, unknown, header_of, Ending, done, stopped, seen_from, checked_of}
 use Rattle.capture.specs.Step.{seen_all, checked_by}
 use Rattle.capture.proofs.Checking.{check_offset, check_unknown}
 use Rattle.capture.proofs.Counting.{scan_closed}
@@ -19,8 +17,8 @@ use Rattle.timing.specs.declared.State.{State}
 use Rattle.timing.specs.Range.{in_range}
 use Rattle.timing.specs.Feed as F
 use Rattle.timing.proofs.Feeding.{nothing_fed}
-use Rattle.intake.specs.declared.Taken.TheVariants.{Accepted, Refused}
-use Rattle.intake.specs.Paper.{records_of, packets_of, skipped_of, refused_by, accepted_as, room_for, by_check, capture_of, fed_as}
+use Rattle.intake.specs.Paper.{Taken, records_of, packets_of, skipped_of, refused_by, accepted_as, room_for, by_check, capture_of, fed_as}
+use Rattle.intake.specs.Paper.{taken_as, not_taken}
 use Rattle.intake.proofs.Reading.{seen, check_known}
 
 module _ (s : State) (rows : List ℤ) (port offset : ℕ) (b : List ℕ) where
@@ -106,32 +104,38 @@ capture_feeds s rows port offset b h k q = go (in_range s) refl (scan_of s.past 
 -- R10: "A capture of exactly 24 bytes, or of skipped frames only, is accepted and changes nothing."
 pub nothing_handed : (s : State) (rows : List ℤ) (port offset : ℕ) (b : List ℕ) {f : Format} → in_range s ≡ true → offset ≤ 99
     → header_of b ≡ capture f → (records_of port offset b).ending ≡ done → packets_of port offset b ≡ []
-    → capture_of s rows port offset b ≡ record { answer = Accepted s 0 (skipped_of port offset b); rows = rows }
+    → capture_of s rows port offset b ≡ record { answer = taken_as s 0 (skipped_of port offset b); rows = rows }
 nothing_handed s rows port offset b e h k q none =
     capture_feeds s rows port offset b h k q
     ∙ ap (λ (l : List Packet). fed_as (F.feed_all s rows l) l (skipped_of port offset b)) none
     ∙ ap (λ (o : F.Outcome). fed_as o [] (skipped_of port offset b)) (nothing_fed s rows e)
 
+-- the state that an answer tells
+abbrev state_in : Taken → State
+state_in (Ok a) = a.state
+state_in (Err r) = r.state
+
 -- R11: a refusal leaves state and rows
 room_stays : (s t : State) (rows : List ℤ) (n number place skips : ℕ) (l : List Packet)
-    → (room_for s rows n l skips).answer ≡ Refused number place t → (t ≡ s) × ((room_for s rows n l skips).rows ≡ rows)
+    → (room_for s rows n l skips).answer ≡ not_taken number place t → (t ≡ s) × ((room_for s rows n l skips).rows ≡ rows)
 room_stays s t rows n number place skips l = go (leb (n * row_width) (length rows))
   where
-    go : (b : Bool) → (pick b (accepted_as s rows l skips) (refused_by s rows 15 s.past.packets)).answer ≡ Refused number place t
+    go : (b : Bool) → (pick b (accepted_as s rows l skips) (refused_by s rows 15 s.past.packets)).answer ≡ not_taken number place t
         → (t ≡ s) × ((pick b (accepted_as s rows l skips) (refused_by s rows 15 s.past.packets)).rows ≡ rows)
     go true e = let z : ◌≡◌ {A = ℕ} 0 1 = cc in absurd (omega arith)
-    go false e = (cc, refl)
+    go false e = (sym (ap state_in e), refl)
 
 pub refused_stays : (s t : State) (rows : List ℤ) (port offset number place : ℕ) (b : List ℕ)
-    → (capture_of s rows port offset b).answer ≡ Refused number place t → (t ≡ s) × ((capture_of s rows port offset b).rows ≡ rows)
+    → (capture_of s rows port offset b).answer ≡ not_taken number place t → (t ≡ s) × ((capture_of s rows port offset b).rows ≡ rows)
 unfolding capture_of
 refused_stays s t rows port offset number place b =
     go (in_range s) (checked_of port offset (seen_from s.past s.frames.begun) b)
   where
     go : (r : Bool) (x : Checked)
-        → (pick r (by_check s rows x (packets_of port offset b) (skipped_of port offset b)) (refused_by s rows 9 0)).answer ≡ Refused number place t
+        → (pick r (by_check s rows x (packets_of port offset b) (skipped_of port offset b)) (refused_by s rows 9 0)).answer
+        ≡ not_taken number place t
         → (t ≡ s) × ((pick r (by_check s rows x (packets_of port offset b) (skipped_of port offset b)) (refused_by s rows 9 0)).rows ≡ rows)
-    go true (checked.Fine y) e =
+    go true (Ok y) e =
         room_stays s t rows y.tally.closed number place (skipped_of port offset b) (packets_of port offset b) e
-    go true (checked.Refused n p) e = (cc, refl)
-    go false x e = (cc, refl)
+    go true (Err r) e = (sym (ap state_in e), refl)
+    go false x e = (sym (ap state_in e), refl)

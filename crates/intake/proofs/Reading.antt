@@ -1,8 +1,7 @@
 -- The check of a capture whose header is known is the scan of the packets that it hands on, or else names the record at which it stops; where
 -- nothing is refused, every record is counted. By the header.
 use Rattle.std.specs.Prelude.{◌≡◌, ◌+◌, ◌≤◌, Err, Ok}
-use Rattle.laws.specs.Kit.{refl, sym, ap, subst, ◌∙◌, Bool, List, [], ℕ, arith, length, drop}
-use Rattle.laws.specs.Kit.{dec_le, ℤ}
+use Rattle.laws.specs.Kit.{refl, sym, ap, subst, ◌∙◌, Bool, List, [], ℕ, arith, length, drop, dec_le, ℤ}
 use Rattle.laws.specs.Fold.{fold}
 use Rattle.packet.specs.declared.Packet.{Packet}
 use Rattle.packet.specs.declared.Past.{Past}
@@ -10,7 +9,6 @@ use Rattle.packet.specs.Paper.{Scanned}
 use Rattle.packet.specs.Step.{scan_of}
 use Rattle.capture.specs.declared.Format.{Format}
 use Rattle.capture.specs.declared.Seen.{Seen}
-use Rattle.capture.specs.declared.Checked.TheVariants.{Fine}
 use Rattle.capture.specs.Paper.{header_bytes, Header, capture, unknown, header_of, Ending, done, stopped, handed_on, seen_from, checked_of}
 use Rattle.capture.specs.Step.{handed_in, seen_all, checked_by}
 use Rattle.capture.proofs.Checking.{check_offset, check_unknown, check_capture}
@@ -73,7 +71,7 @@ module _ (port offset : ℕ) (past : Past) (begun : Bool) (b : List ℕ) where
     pub all : y ≡ seen
 
   fine_read : (h : offset ≤ 99) (f : Format) → header_of b ≡ capture f → (x : Scanned) → scan ≡ x → (e : Ending)
-      → (records_of port offset b).ending ≡ e → (y : Seen) → checked_by x seen e ≡ Fine y → Read y
+      → (records_of port offset b).ending ≡ e → (y : Seen) → checked_by x seen e ≡ Ok y → Read y
   unfolding seen_all
   fine_read h f k (Ok n) g done w y z =
       let same : seen ≡ y = cc in
@@ -83,7 +81,7 @@ module _ (port offset : ℕ) (past : Past) (begun : Bool) (b : List ℕ) where
   fine_read h f k (Ok n) g (stopped m) w y z = let q : ◌≡◌ {A = ℕ} 0 1 = cc in absurd (omega arith)
   fine_read h f k (Err r) g e w y z = let q : ◌≡◌ {A = ℕ} 0 1 = cc in absurd (omega arith)
 
-  pub checked_read : (y : Seen) → checked_of port offset (seen_from past begun) b ≡ Fine y → Read y
+  pub checked_read : (y : Seen) → checked_of port offset (seen_from past begun) b ≡ Ok y → Read y
   checked_read y e = go (dec_le offset 99) (header_of b) refl
     where
       go : Dec (offset ≤ 99) → (header : Header) → header_of b ≡ header → Read y

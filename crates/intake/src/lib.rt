@@ -7,25 +7,18 @@ ghost use Rattle.timing.specs.Step.{numbers};
 ghost use Rattle.timing.specs.Feed.{RunAsks, RunGives};
 ghost use Rattle.capture.specs.Paper.{header_bytes};
 ghost use Rattle.capture.specs.Step.{handed_in};
-ghost use Rattle.intake.specs.Paper.{packets_of, capture_of, TakeGives};
+ghost use Rattle.intake.specs.Paper.{packets_of, capture_of, taken_told, TakeGives};
 
-use capture::{Checked, HEADER, Opened, Setting, Sought};
-use timing::{Rules, State};
+use capture::{HEADER, Setting};
+use refusal::Refusal;
+use timing::{RefusedCall, Rules, State};
 
-// The state after the capture's packets, how many packets it handed on and how many records it skipped; or the number and the place, with
-// the state as it was.
+// A call that is accepted: the state after the capture's packets, how many packets it handed on and how many records it skipped.
 #[derive(Clone, Copy, Debug, PartialEq, Eq)]
-pub enum Taken {
-    Accepted {
-        state: State,
-        packets: u64,
-        skipped: u64,
-    },
-    Refused {
-        number: u8,
-        place: u64,
-        state: State,
-    },
+pub struct AcceptedCall {
+    pub state: State,
+    pub packets: u64,
+    pub skipped: u64,
 }
 
 // The packets of a capture that was checked, one by one; a row is laid where a frame closes. The heavy step has this one call site.
@@ -44,15 +37,16 @@ fn run_packets(
     let mut from = HEADER;
     let mut at = 0;
     loop {
-        let Sought::Packet { packet, next } = setting.seek(bytes, from) else {
+        let Some(found) = setting.seek(bytes, from) else {
             return s;
         };
+        let packet = found.packet;
         s = s.arrive(rules, packet.time, packet.stamp);
         if packet.marker == 1 {
             at = s.lay_row(rules, rows, at);
             s = s.mark(rules, packet.time);
         }
-        from = next;
+        from = found.next;
     }
 }
 
@@ -61,7 +55,7 @@ fn run(state: State, rules: Rules, port: u16, offset: u32, bytes: &[u8], rows: &
     requires { RunAsks numbers rules state (packets_of port offset bytes.now) 0 (length rows.old) }
     ensures { RunGives numbers rules state (packets_of port offset bytes.now) 0 rows.old result rows.new }
 {
-    let Opened::Capture { format } = capture::open(bytes, true) else {
+    let Some(format) = capture::format_of(bytes) else {
         return state;
     };
     run_packets(
@@ -81,36 +75,42 @@ fn run(state: State, rules: Rules, port: u16, offset: u32, bytes: &[u8], rows: &
 // to 14, then 15, it accepts none of them, and state and rows are as they were. Accepted, a row is written for each frame closed, from
 // the start of `rows` on, and the rest of `rows` stays.
 #[tactic(auto, using(crate::proofs::Taking::refusals))]
-pub fn feed(state: State, port: u16, offset: u32, bytes: &[u8], rows: &mut [i64]) -> Taken
-    ensures { TakeGives (capture_of state rows.old port offset bytes.now) result rows.new }
+pub fn feed(
+    state: State,
+    port: u16,
+    offset: u32,
+    bytes: &[u8],
+    rows: &mut [i64],
+) -> Result<AcceptedCall, RefusedCall>
+    ensures { TakeGives (capture_of state rows.old port offset bytes.now) (taken_told result) rows.new }
 {
     if !state.in_range() {
-        return Taken::Refused {
-            number: 9,
+        return Err(RefusedCall {
+            refusal: Refusal::State,
             place: 0,
             state,
-        };
+        });
     }
     match capture::check(state.past, state.frames.begun, port, offset, bytes) {
-        Checked::Fine(seen) => {
+        Ok(seen) => {
             if rows.len() / frame::ROW < seen.tally.closed {
-                return Taken::Refused {
-                    number: 15,
+                return Err(RefusedCall {
+                    refusal: Refusal::Room,
                     place: state.past.packets,
                     state,
-                };
+                });
             }
             let next = run(state, state.numbers.rules(), port, offset, bytes, rows);
-            Taken::Accepted {
+            Ok(AcceptedCall {
                 state: next,
                 packets: seen.records - seen.skipped,
                 skipped: seen.skipped,
-            }
+            })
         }
-        Checked::Refused { number, place } => Taken::Refused {
-            number,
-            place,
+        Err(r) => Err(RefusedCall {
+            refusal: r.refusal,
+            place: r.place,
             state,
-        },
+        }),
     }
 }

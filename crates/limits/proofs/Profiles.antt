@@ -1,6 +1,6 @@
 -- The profiles and the numbers that stand for them are the same both ways, and 22 is for every other number: by the numbers, one by one.
 use Rattle.std.specs.Prelude.{◌≡◌, ◌↔◌, ◌⊎◌, ◌||◌, ◌≤◌, Result, Ok, Err}
-use Rattle.std.specs.Result.{result_unwrap_or}
+use Rattle.std.specs.Result.{result_unwrap_or, is_ok}
 use Rattle.laws.specs.Kit.{refl, sym, ap, ◌∙◌, inl, inr, Bool, true, false, ℕ, arith, eqb, ne_eqb, eqb-true}
 use Rattle.laws.specs.Choose.{pick}
 use Rattle.laws.proofs.Choose.{pick_either, false_true}
@@ -91,6 +91,10 @@ or_video kind = go (is_profile kind) refl
     go false e (Ok p) f = let same = rw e at f in absurd (cc)
     go false e (Err d) f = sym (none_of kind e)
 
+pub neither_of : (kind : ℕ) → (kind ≡ 3 → ⊥) → (kind ≡ 4 → ⊥) → Video ≡ profile_of kind
+unfolding profile_of
+neither_of kind n m = rw (ne_eqb kind 3 n, ne_eqb kind 4 m)
+
 -- N1: 22 refuses exactly the kinds that choose none
 pub profile_fine : (kind : ℕ) → profile_refusal kind ≡ 0 → is_profile kind ≡ true
 unfolding profile_refusal
@@ -120,3 +124,13 @@ profile_number kind r = go (is_profile kind) r
 
 pub profile_chosen : (kind : ℕ) (r : Result Profile Refusal) → by_number r ≡ profile_in kind → (p : Profile) → r ≡ Ok p → profile_refusal kind ≡ 0
 profile_chosen kind r e p f = sym (profile_number kind r e) ∙ ap number_in f
+
+-- a kind chooses a profile exactly where it is not refused
+pub profile_known_by : (kind : ℕ) (r : Result Profile Refusal) → by_number r ≡ profile_in kind → is_ok r ≡ is_profile kind
+profile_known_by kind r = go (is_profile kind) r
+  where
+    go : (t : Bool) (r : Result Profile Refusal) → by_number r ≡ pick t (Ok (profile_of kind)) (Err 22) → is_ok r ≡ t
+    go true (Ok p) e = refl
+    go true (Err d) e = absurd (cc)
+    go false (Ok p) e = absurd (cc)
+    go false (Err d) e = refl

@@ -1,6 +1,6 @@
 -- One packet of a scan: where the scan goes after it, what an answer of the scan says of it, and what there is room for.
 -- By the test on its refusal.
-use Rattle.std.specs.Prelude.{◌≡◌, ◌&&◌, ◌||◌, ◌∷◌, ◌+◌, ◌≤◌, ◌<◌, Result, Err, Ok}
+use Rattle.std.specs.Prelude.{◌≡◌, ◌&&◌, ◌||◌, ◌∷◌, ◌+◌, ◌≤◌, ◌<◌, Err, Ok}
 use Rattle.laws.specs.Kit.{refl, sym, ap, subst, ◌∙◌, Bool, true, false, or-false, or-true, List, [], ℕ, arith}
 use Rattle.laws.specs.Kit.{add-zero, eqb, length, eq-eqb, ne_eqb, eqb-true, eqb-false}
 use Rattle.laws.specs.Choose.{pick}
@@ -9,7 +9,6 @@ use Rattle.packet.specs.declared.Past.{Past}
 use Rattle.refusal.specs.Told.{Numbered}
 use Rattle.refusal.specs.declared.Refusal.{Refusal}
 use Rattle.refusal.specs.Refusal.{number}
-use Rattle.refusal.specs.Told.{number_in}
 use Rattle.refusal.proofs.Telling.{number_some}
 use Rattle.packet.specs.declared.Tally.{Tally}
 use Rattle.packet.specs.Paper.{Scanned}

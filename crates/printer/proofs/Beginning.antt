@@ -11,30 +11,26 @@ use Rattle.limits.specs.declared.Parameters.{Parameters}
 use Rattle.limits.specs.declared.Profile.{Profile}
 use Rattle.limits.specs.Paper.{set_up_refusal}
 use Rattle.limits.proofs.Editions.{in_one}
-use Rattle.record.specs.Step.{HeadRead, head_ready, head_refused}
+use Rattle.record.specs.Step.{HeadRead, head_ready, head_refused, head_piece, head_read}
 use Rattle.record.specs.declared.FileNumbers.{FileNumbers}
 use Rattle.timing.specs.declared.StreamNumbers.{StreamNumbers}
 use Rattle.record.specs.Paper.{heading, head_bytes, packets_in}
 use Rattle.record.specs.Walk.{numbers_of}
-use Rattle.record.specs.Step.{head_piece, head_read}
 use Rattle.record.specs.Pieces.{head_waits}
 use Rattle.record.proofs.Saying.{Stood, SaysHead, head_says, reads_refused, reads_packets}
 use Rattle.record.proofs.InPieces.{last_head, piece_head, head_alone}
-use Rattle.timing.specs.Answers.{SetUp}
+use Rattle.timing.specs.Answers.{SetUp, set_up_as}
 use Rattle.timing.specs.Step.{of_profile, rules_of, fresh_of}
-use Rattle.timing.specs.Answers.{set_up_as}
 use Rattle.timing.proofs.InRange.{sound_fresh}
-use Rattle.printer.specs.declared.Opened.{Opened}
-use Rattle.printer.specs.declared.Opened.TheVariants.{More as Wanting, Refused as Unopened, Ready as Opens}
+use Rattle.printer.specs.Step.{Opened, opened_refused, opened_ready, ready_by, ready_of, head_by, begin_of}
 use Rattle.printer.specs.Paper.{lines_of, stream_of, output_by, rest_of, output_of}
-use Rattle.printer.specs.Step.{ready_by, ready_of, head_by, begin_of}
 use Rattle.printer.specs.Drive.{Stands, rest_from}
 
 -- what an answer to the window w says of the file w ++ v
 abbrev pub Tells : List ℕ → List ℕ → Opened → Type 0
-Tells w v Wanting = Unit
-Tells w v (Unopened number offset) = output_of (w ++ v) ≡ refusal_line number offset
-Tells w v (Opens walk) = Stands walk × (output_of (w ++ v) ≡ rest_from walk (drop head_bytes w ++ v))
+Tells w v (Ok None) = Unit
+Tells w v (Err r) = output_of (w ++ v) ≡ refusal_line r.number r.place
+Tells w v (Ok (Some walk)) = Stands walk × (output_of (w ++ v) ≡ rest_from walk (drop head_bytes w ++ v))
 
 module _ (w v : List ℕ) (last : Bool) (l : last ≡ true → v ≡ []) where
   -- what the window shows of the head is the whole file's head
@@ -62,7 +58,7 @@ module _ (w v : List ℕ) (last : Bool) (l : last ≡ true → v ≡ []) where
     abbrev profile : Profile
     profile = stream.profile
 
-    fresh_tells : set_up_refusal profile numbers ≡ 0 → Tells w v (Opens (record { at = c; state = fresh_of stream }))
+    fresh_tells : set_up_refusal profile numbers ≡ 0 → Tells w v (opened_ready (record { at = c; state = fresh_of stream }))
     unfolding output_of rest_of
     fresh_tells fine =
         let rules = rules_of stream in
@@ -73,7 +69,7 @@ module _ (w v : List ℕ) (last : Bool) (l : last ≡ true → v ≡ []) where
               ∙ ap (λ (d : Cursor). lines_of rules state (packets_in nothing d.at (drop head_bytes w ++ v))) (sym here.next_19),
         )
 
-    refused_tells : 0 < set_up_refusal profile numbers → Tells w v (Unopened (set_up_refusal profile numbers) 1)
+    refused_tells : 0 < set_up_refusal profile numbers → Tells w v (opened_refused (set_up_refusal profile numbers) 1)
     unfolding output_of
     refused_tells some = ap output_by (reads_refused here (set_up_refusal profile numbers) refl some)
 
@@ -99,9 +95,9 @@ module _ (w v : List ℕ) (last : Bool) (l : last ≡ true → v ≡ []) where
 
 -- where no more will come, the start of a file is answered
 abbrev pub Answered : Opened → Type 0
-Answered Wanting = ⊥
-Answered (Unopened number offset) = Unit
-Answered (Opens walk) = Unit
+Answered (Ok None) = ⊥
+Answered (Err r) = Unit
+Answered (Ok (Some walk)) = Unit
 
 ready_answered : (x : FileNumbers) (c : Cursor) → Answered (ready_of x c)
 unfolding ready_of

@@ -1,10 +1,8 @@
 -- What was to be printed is what a call writes, and then what is still to be printed. One record at a time: what stands at the walk is
 -- what stands there in the whole file, and each answer's line is document 01's. By the turns still allowed.
-use Rattle.std.specs.Prelude.{◌≡◌, ◌∷◌, ◌++◌, Ok, Err}
+use Rattle.std.specs.Prelude.{◌≡◌, ◌∷◌, ◌++◌, Ok, Err, ◌+◌, ◌-◌, ◌^◌, ◌≤◌, ◌<◌}
 use Rattle.laws.specs.Kit.{refl, sym, ap, subst, ◌∙◌, Bool, true, false, List, [], append-nil, append_assoc, ℕ, zero, suc}
-use Rattle.std.specs.Prelude.{◌+◌, ◌-◌, ◌^◌, ◌≤◌, ◌<◌}
-use Rattle.laws.specs.Kit.{arith, mod-eq_of_lt, eqb, ltb, length, drop, length-append, drop-drop, drop-append-le}
-use Rattle.laws.specs.Kit.{eqb-true, eqb-false}
+use Rattle.laws.specs.Kit.{arith, mod-eq_of_lt, eqb, ltb, length, drop, length-append, drop-drop, drop-append-le, eqb-true, eqb-false}
 use Rattle.laws.specs.Choose.{pick}
 use Rattle.laws.proofs.Choose.{pick_either, second, before}
 use Rattle.laws.specs.Fold.{fold}
@@ -15,10 +13,9 @@ use Rattle.packet.proofs.Refusals.{accepted}
 use Rattle.frame.specs.declared.Row.{Row}
 use Rattle.text.specs.Lines.{line_room, row_line, refusal_line}
 use Rattle.record.specs.declared.Cursor.{Cursor}
-use Rattle.record.specs.Step.{NextRead, next_packet}
+use Rattle.record.specs.Step.{NextRead, next_packet, next_read, next_piece}
 use Rattle.record.specs.declared.Next.TheVariants.{Packet, End, More}
 use Rattle.record.specs.Paper.{packet_bytes, packet_at, packet_refusal, Packets, packets_in, more}
-use Rattle.record.specs.Step.{next_read, next_piece}
 use Rattle.record.specs.Pieces.{wants_more}
 use Rattle.record.proofs.Reading.{packets_end, packets_stop, packets_go}
 use Rattle.record.proofs.Saying.{Says, next_says}
@@ -30,8 +27,7 @@ use Rattle.timing.proofs.InRange.{of_sound}
 use Rattle.timing.proofs.Running.{going_next, step_numbers, step_past}
 use Rattle.printer.specs.declared.Walk.{Walk}
 use Rattle.printer.specs.Paper.{row_lines, sum_line, last_line, lines_of, rest_of}
-use Rattle.printer.specs.Step.{TakeOutcome, line_of, stays, and_then, stepped, lines_at, item_by}
-use Rattle.printer.specs.Step.{walk_by, take_of}
+use Rattle.printer.specs.Step.{TakeOutcome, line_of, stays, and_then, stepped, lines_at, item_by, walk_by, take_of}
 use Rattle.printer.specs.Drive.{Stands}
 use Rattle.printer.proofs.Turning.{piece_sixteen}
 

@@ -4,25 +4,21 @@ use Rattle.laws.specs.Kit.{refl, sym, ap, subst, ◌∙◌, Bool, List, ℕ, zer
 use Rattle.laws.proofs.Choose.{pick_either}
 use Rattle.packet.specs.Step.{number_of}
 use Rattle.record.specs.declared.Cursor.{Cursor}
-use Rattle.record.specs.Step.{NextRead}
+use Rattle.record.specs.Step.{NextRead, HeadRead, head_piece, next_piece}
 use Rattle.record.specs.declared.Next.TheVariants.{Packet, End, More}
-use Rattle.record.specs.Step.{HeadRead}
 use Rattle.record.specs.declared.FileNumbers.{FileNumbers}
 use Rattle.record.specs.Paper.{heading, packet_bytes, head_bytes}
 use Rattle.record.specs.Walk.{numbers_of}
 use Rattle.text.specs.Lines.{line_room}
-use Rattle.record.specs.Step.{head_piece, next_piece}
 use Rattle.record.specs.Pieces.{head_waits}
 use Rattle.record.proofs.Saying.{SaysHead, head_says}
 use Rattle.record.proofs.InPieces.{head_alone}
 use Rattle.timing.specs.declared.Rules.{Rules}
-use Rattle.timing.specs.Answers.{SetUp}
+use Rattle.timing.specs.Answers.{SetUp, set_up_as}
 use Rattle.timing.specs.Step.{of_profile, rules_of}
 use Rattle.timing.specs.Range.{in_range}
-use Rattle.timing.specs.Answers.{set_up_as}
 use Rattle.printer.specs.declared.Walk.{Walk}
-use Rattle.printer.specs.Step.{TakeOutcome, ready_by, ready_of, head_by, begin_of, Headed}
-use Rattle.printer.specs.Step.{stepped, lines_at, item_by, walk_by, take_of}
+use Rattle.printer.specs.Step.{TakeOutcome, ready_by, ready_of, head_by, begin_of, Headed, stepped, lines_at, item_by, walk_by, take_of}
 use Rattle.printer.proofs.Turning.{piece_sixteen}
 
 abbrev Inside : List ℕ → TakeOutcome → Type 0

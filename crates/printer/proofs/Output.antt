@@ -1,6 +1,6 @@
 -- The program's output, call by call: however a file is cut into pieces and whatever room each call has, the lines put together are the
 -- output that document 01 gives the file; and it always comes to that. One call is in Carrying, the start of a file in Beginning.
-use Rattle.std.specs.Prelude.{◌≡◌, ◌⊎◌, ◌++◌, ◌≤◌, ◌<◌}
+use Rattle.std.specs.Prelude.{◌≡◌, ◌⊎◌, ◌++◌, ◌≤◌, ◌<◌, Ok, Err, Some, None}
 use Rattle.laws.specs.Kit.{refl, sym, ap, subst, ◌∙◌, Bool, true, false, List, [], append-nil, ℕ, zero, suc}
 use Rattle.laws.specs.Kit.{arith, length, drop, get_or, length-drop}
 use Rattle.laws.specs.Choose.{pick}
@@ -17,10 +17,8 @@ use Rattle.timing.specs.Answers.{answers_of, verdict_of}
 use Rattle.timing.specs.Range.{Sound}
 use Rattle.timing.proofs.InRange.{of_sound}
 use Rattle.printer.specs.declared.Walk.{Walk}
-use Rattle.printer.specs.declared.Opened.{Opened}
-use Rattle.printer.specs.declared.Opened.TheVariants.{More as Wanting, Refused as Unopened, Ready}
+use Rattle.printer.specs.Step.{Opened, opened_number, opened_offset, begin_of, take_of}
 use Rattle.printer.specs.Paper.{sum_line, rest_of, output_of, lines_of, output_by}
-use Rattle.printer.specs.Step.{opened_number, opened_offset, begin_of, take_of}
 use Rattle.printer.specs.Drive.{Stands, rest_from, Shows, Drives, last_call, call, Prints, refused, walked}
 use Rattle.printer.proofs.Carrying.{take_carries}
 use Rattle.printer.proofs.Inside.{take_inside}
@@ -45,9 +43,9 @@ pub start_refused : (w v : List ℕ) (last : Bool) → (last ≡ true → v ≡ 
 start_refused w v last l = go (begin_of w last) (begin_tells w v last l)
   where
     go : (o : Opened) → Tells w v o → 0 < opened_number o → output_of (w ++ v) ≡ refusal_line (opened_number o) (opened_offset o)
-    go Wanting t p = absurd (omega arith)
-    go (Unopened number offset) t p = t
-    go (Ready walk) t p = absurd (omega arith)
+    go (Ok None) t p = absurd (omega arith)
+    go (Err r) t p = t
+    go (Ok (Some walk)) t p = absurd (omega arith)
 
 -- ---- one call, from a walk that a file leads to
 
@@ -157,9 +155,9 @@ file_printed file = go (begin_of file true) refl (begin_tells file [] true (λ e
     output = ap output_of (sym (append-nil file))
 
     go : (a : Opened) → begin_of file true ≡ a → Tells file [] (begin_of file true) → Prints file (output_of file)
-    go Wanting e t = absurd (subst Answered e (begin_answered file))
-    go (Unopened number offset) e t = refused file [] true number offset whole e (output ∙ subst (Tells file []) e t)
-    go (Ready walk) e t =
+    go (Ok None) e t = absurd (subst Answered e (begin_answered file))
+    go (Err r) e t = refused file [] true r.number r.place whole e (output ∙ subst (Tells file []) e t)
+    go (Ok (Some walk)) e t =
         let u = subst (Tells file []) e t in
         walked file [] true walk whole e
         (subst (Drives walk (drop head_bytes file ++ [])) (sym (output ∙ u.1)) (rest_driven walk (drop head_bytes file ++ []) u.0))

@@ -1,14 +1,12 @@
 -- A call that neither ended nor used a byte had no room for a line, or wanted more bytes: every other answer ends it or takes a record.
 use Rattle.std.specs.Prelude.{◌≡◌, ◌⊎◌, ◌/◌, ◌≤◌, ◌<◌, Ok, Err}
-use Rattle.laws.specs.Kit.{refl, sym, ap, ◌∙◌, inl, inr, Bool, false, List, ℕ, arith, ℕ_discrete, eqb, ltb}
-use Rattle.laws.specs.Kit.{length, drop, ltb-true}
+use Rattle.laws.specs.Kit.{refl, sym, ap, ◌∙◌, inl, inr, Bool, false, List, ℕ, arith, ℕ_discrete, eqb, ltb, length, drop, ltb-true}
 use Rattle.laws.proofs.Choose.{pick_either, false_true}
 use Rattle.packet.specs.Step.{number_of}
-use Rattle.record.specs.Step.{NextRead, next_more}
+use Rattle.record.specs.Step.{NextRead, next_more, next_piece}
 use Rattle.record.specs.declared.Next.TheVariants.{Packet, End, More}
 use Rattle.record.specs.Paper.{packet_bytes}
 use Rattle.text.specs.Lines.{line_room}
-use Rattle.record.specs.Step.{next_piece}
 use Rattle.record.specs.Pieces.{wants_more}
 use Rattle.timing.specs.declared.Rules.{Rules}
 use Rattle.timing.specs.Step.{rules_of}

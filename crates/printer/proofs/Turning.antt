@@ -3,8 +3,6 @@
 use Rattle.std.specs.Prelude.{◌≡◌, ◌∷◌, ◌++◌, ◌+◌, ◌-◌, ◌/◌, ◌≤◌, ◌<◌, Ok, Err}
 use Rattle.laws.specs.Kit.{refl, sym, ap, subst, ◌∙◌, Bool, true, false, List, [], ℕ, suc, arith}
 use Rattle.laws.specs.Kit.{length, take, drop, length-drop, length-append, length-sets, drop-drop, ne_eqb, lt-ltb, le-ltb}
-use types.Run.{OneOf, miss}
-use denote.Enum.Declared.{tag_of}
 use Rattle.laws.specs.Lay.{Put}
 use Rattle.laws.proofs.Lay.{put_length, sets_join}
 use Rattle.packet.specs.declared.Packet as packet
@@ -12,11 +10,9 @@ use Rattle.packet.specs.Step.{number_of}
 use Rattle.frame.specs.declared.Row.{Row}
 use Rattle.text.specs.Lines.{line_room, row_line}
 use Rattle.record.specs.declared.Cursor.{Cursor}
-use Rattle.record.specs.Step.{NextRead, next_refused, next_packet, next_end, next_more}
-use Rattle.record.specs.contracts.Next.{the_type}
+use Rattle.record.specs.Step.{NextRead, next_refused, next_packet, next_end, next_more, next_piece}
 use Rattle.record.specs.declared.Next.TheVariants.{Packet, End, More}
 use Rattle.record.specs.Paper.{packet_bytes}
-use Rattle.record.specs.Step.{next_piece}
 use Rattle.record.specs.Pieces.{taken, wants_more}
 use Rattle.record.proofs.Window.{read_within}
 use Rattle.record.proofs.InPieces.{piece_alone}
@@ -42,6 +38,10 @@ piece_sixteen at w last e =
     let i = sym (piece_alone at w last (ap wants_more e)) ∙ e in
     subst (λ (r : NextRead). taken r ≤ length w) i (read_within at w).1
 
+-- no packet stands there
+abbrev pub NoPacket : NextRead → Type 0
+NoPacket r = (p : packet.Packet) (c : Cursor) → r ≡ next_packet p c → ⊥
+
 -- ---- one turn, by the definition
 
 module _ (rules : Rules) (walk : Walk) (w : List ℕ) (last : Bool) (room : ℕ) where
@@ -57,9 +57,8 @@ module _ (rules : Rules) (walk : Walk) (w : List ℕ) (last : Bool) (room : ℕ)
     unfolding walk_by onward
     walk_item r e = rw (le-ltb room line_room h, e)
 
-    walk_stops : (r : NextRead) → OneOf (1 ∷ 2 ∷ 3 ∷ []) (tag_of the_type r) → next_piece walk.at.at w last ≡ r
-        → walk_of rules walk w last room ≡ stops_at r walk
-    walk_stops (Ok (Packet p c)) k e = absurd (miss (1 ∷ 2 ∷ 3 ∷ []) 0 tt k)
+    walk_stops : (r : NextRead) → NoPacket r → next_piece walk.at.at w last ≡ r → walk_of rules walk w last room ≡ stops_at r walk
+    walk_stops (Ok (Packet p c)) k e = absurd (k p c refl)
     walk_stops (Ok End) k e = walk_item next_end e
     walk_stops (Ok More) k e = walk_item next_more e
     walk_stops (Err r) k e = walk_item (next_refused r.number r.offset r.size) e
@@ -168,8 +167,7 @@ module _ {rules : Rules} {walk₀ : Walk} {w : List ℕ} {last : Bool} {out₀ :
       stops_full h = stops (walk_full rules walk (drop used w) last _ h)
 
       module _ {item : NextRead} (h : line_room ≤ length out - written) (e : next_piece walk.at.at (drop used w) last ≡ item) where
-        pub stops_item : OneOf (1 ∷ 2 ∷ 3 ∷ []) (tag_of the_type item) → TakeGives (stops_at item walk) used written out r after
-            → Ended r after
+        pub stops_item : NoPacket item → TakeGives (stops_at item walk) used written out r after → Ended r after
         stops_item k = stops (walk_stops rules walk (drop used w) last _ h item k e)
 
         pub stops_refused : {p : packet.Packet} {c : Cursor} {n : ℕ} {named : NextRead} → item ≡ next_packet p c

@@ -6,9 +6,8 @@ use Rattle.text.specs.Lines.{refusal_line}
 use Rattle.timing.specs.Step.{rules_of}
 use Rattle.timing.specs.Range.{Sound}
 use Rattle.printer.specs.declared.Walk.{Walk}
-use Rattle.printer.specs.declared.Opened.TheVariants.{Refused, Ready}
 use Rattle.printer.specs.Paper.{rest_of}
-use Rattle.printer.specs.Step.{begin_of, take_of}
+use Rattle.printer.specs.Step.{begin_of, take_of, opened_refused, opened_ready}
 
 -- a walk that a file can lead to: a state in range, and an offset that its packets account for
 pub record Stands (walk : Walk) : Type 0 where
@@ -35,6 +34,6 @@ pub data Drives : Walk → List ℕ → List ℕ → Type 0 where
 -- a file from its first byte: refused at its start, or driven from behind its head
 pub data Prints : List ℕ → List ℕ → Type 0 where
   refused : {file text : List ℕ} (w v : List ℕ) (last : Bool) (number offset : ℕ) → Shows file w v last
-      → begin_of w last ≡ Refused number offset → text ≡ refusal_line number offset → Prints file text
-  walked : {file text : List ℕ} (w v : List ℕ) (last : Bool) (walk : Walk) → Shows file w v last → begin_of w last ≡ Ready walk
+      → begin_of w last ≡ opened_refused number offset → text ≡ refusal_line number offset → Prints file text
+  walked : {file text : List ℕ} (w v : List ℕ) (last : Bool) (walk : Walk) → Shows file w v last → begin_of w last ≡ opened_ready walk
       → Drives walk (drop head_bytes w ++ v) text → Prints file text

@@ -6,8 +6,7 @@ use Rattle.text.specs.Lines.{row_line, summary_line, refusal_line}
 use Rattle.record.specs.Paper.{Heading, resolved, Ending, done, stopped, Packets, packets_in, Reading, unread, read, reading_of}
 use Rattle.timing.specs.declared.Rules.{Rules}
 use Rattle.timing.specs.declared.State.{State}
-use Rattle.timing.specs.Answers.{Judged}
-use Rattle.timing.specs.Answers.{verdict_of}
+use Rattle.timing.specs.Answers.{Judged, verdict_of}
 use Rattle.limits.specs.Paper.{profile_of}
 use Rattle.timing.specs.declared.StreamNumbers.{StreamNumbers}
 use Rattle.timing.specs.Step.{of_profile, rules_of, fresh_of, state_after, rows_after}

@@ -1,65 +1,74 @@
 -- A file in pieces, step by step: what its start answers, and what a call takes of a window and writes; what the contracts cite.
-use Rattle.std.specs.Prelude.{◌≡◌, ◌++◌, ◌+◌, ◌-◌, ◌/◌, ◌≤◌, Err, Ok, Some, None}
+use Rattle.std.specs.Prelude.{◌≡◌, ◌++◌, ◌+◌, ◌-◌, ◌/◌, ◌≤◌, Option, Err, Ok, Some, None, Result}
 use Rattle.laws.specs.Kit.{Bool, false, not, List, [], ℕ, zero, suc, ltb, eqb, length, drop, sets}
 use Rattle.laws.specs.Choose.{pick}
 use Rattle.packet.specs.declared.Packet as packet
 use Rattle.packet.specs.Step.{number_of}
 use Rattle.text.specs.Lines.{refusal_line, line_room}
+use Rattle.refusal.specs.Told.{Numbered}
 use Rattle.record.specs.declared.Cursor.{Cursor}
 use Rattle.record.specs.declared.FileNumbers.{FileNumbers}
-use Rattle.record.specs.Step.{HeadRead, next_refused, next_end, next_more}
-use Rattle.record.specs.Step.{NextRead}
+use Rattle.record.specs.Step.{HeadRead, next_refused, next_end, next_more, NextRead, head_piece, next_piece}
 use Rattle.record.specs.declared.Next.TheVariants.{Packet, End, More}
 use Rattle.record.specs.Paper.{packet_bytes, head_bytes, heading}
 use Rattle.record.specs.Walk.{numbers_of}
-use Rattle.record.specs.Step.{head_piece, next_piece}
 use Rattle.record.specs.Pieces.{wants_more}
 use Rattle.timing.specs.declared.Rules.{Rules}
 use Rattle.timing.specs.declared.State.{State}
-use Rattle.timing.specs.Answers.{SetUp}
+use Rattle.timing.specs.Answers.{SetUp, set_up_as}
 use Rattle.timing.specs.Step.{of_profile, rules_of, step_of, rows_of}
 use Rattle.timing.specs.Range.{in_range}
 use Rattle.timing.specs.Feed.{MakeAsks}
-use Rattle.timing.specs.Answers.{set_up_as}
 use Rattle.printer.specs.declared.Walk.{Walk}
 use Rattle.printer.specs.declared.TakeAnswer.{TakeAnswer}
-use Rattle.printer.specs.declared.Opened.{Opened}
-use Rattle.printer.specs.declared.Opened.TheVariants.{More as Wanting, Refused as Unopened, Ready as Opens}
 use Rattle.printer.specs.Paper.{row_lines, sum_line}
 
 -- ---- the start of a file
 
+-- F6: the start of a file as it is told: more bytes are wanted; the walk behind its head; or the number and the offset of its refusal
+abbrev pub Opened : Type 0
+Opened = Result (Option Walk) Numbered
+
+abbrev pub opened_more : Opened
+opened_more = Ok None
+
+abbrev pub opened_ready : Walk → Opened
+opened_ready walk = Ok (Some walk)
+
+abbrev pub opened_refused : ℕ → ℕ → Opened
+opened_refused number offset = Err (record { number = number; place = offset })
+
 abbrev pub ready_by : SetUp → Cursor → Opened
-ready_by (Ok s) c = Opens (record { at = c; state = s })
-ready_by (Err number) c = Unopened number 1
+ready_by (Ok s) c = opened_ready (record { at = c; state = s })
+ready_by (Err number) c = opened_refused number 1
 
 unfoldable pub ready_of : FileNumbers → Cursor → Opened
 ready_of x c = ready_by (set_up_as (of_profile x.profile x.parameters)) c
 
 abbrev pub head_by : HeadRead → Opened
 head_by (Ok (Some r)) = ready_of (numbers_of (heading r.version r.kind r.parameters)) r.next
-head_by (Ok None) = Wanting
-head_by (Err r) = Unopened r.number r.place
+head_by (Ok None) = opened_more
+head_by (Err r) = opened_refused r.number r.place
 
 unfoldable pub begin_of : List ℕ → Bool → Opened
 begin_of w last = head_by (head_piece w last)
 
 -- document 01's number, 0 where nothing is refused, and its offset
 abbrev pub opened_number : Opened → ℕ
-opened_number Wanting = 0
-opened_number (Unopened number offset) = number
-opened_number (Opens walk) = 0
+opened_number (Ok None) = 0
+opened_number (Err r) = r.number
+opened_number (Ok (Some walk)) = 0
 
 abbrev pub opened_offset : Opened → ℕ
-opened_offset Wanting = 0
-opened_offset (Unopened number offset) = offset
-opened_offset (Opens walk) = 0
+opened_offset (Ok None) = 0
+opened_offset (Err r) = r.place
+opened_offset (Ok (Some walk)) = 0
 
 -- a walk begins after the version byte and the parameters, of a window that has them
 abbrev pub Headed : Opened → ℕ → Type 0
-Headed Wanting bytes = Unit
-Headed (Unopened number offset) bytes = Unit
-Headed (Opens walk) bytes = head_bytes ≤ bytes
+Headed (Ok None) bytes = Unit
+Headed (Err r) bytes = Unit
+Headed (Ok (Some walk)) bytes = head_bytes ≤ bytes
 
 -- ---- a piece
 

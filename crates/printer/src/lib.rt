@@ -6,31 +6,25 @@
 ghost use Rattle.std.specs.Prelude.{◌≡◌, ◌+◌, ◌≤◌};
 ghost use Rattle.laws.specs.Kit.{not, length};
 ghost use Rattle.text.specs.Lines.{line_room, Line};
-ghost use Rattle.record.specs.declared.Next.TheVariants.{Refused};
+ghost use Rattle.refusal.specs.Told.{told};
 ghost use Rattle.record.specs.Paper.{packet_bytes};
+ghost use Rattle.record.specs.Step.{next_told};
 ghost use Rattle.record.specs.Pieces.{wants_more};
 ghost use Rattle.timing.specs.Feed.{closing, Going};
 ghost use Rattle.printer.specs.Paper.{row_lines, sum_line};
 ghost use Rattle.printer.specs.Step.{ready_of, begin_of, line_of, stops_at, walk_of, take_of, CloseAsks, TakeGives};
 
 use limits::FIRST_EDITION;
-use record::{Cursor, FileNumbers, Head, Next, PACKET_BYTES};
+use record::{Cursor, FileNumbers, Next, PACKET_BYTES, RefusedRecord};
+use refusal::{Refusal, Refused};
 use text::LINE;
-use timing::{Judged, Rules, SetUp, State, StreamNumbers};
+use timing::{Rules, State, StreamNumbers};
 
 // Where the reader stands, and what was measured up to there.
 #[derive(Clone, Copy, Debug, PartialEq, Eq)]
 pub struct Walk {
     pub at: Cursor,
     pub state: State,
-}
-
-// The start of a file: more bytes are wanted; its refusal; or the walk after its head.
-#[derive(Clone, Copy, Debug, PartialEq, Eq)]
-pub enum Opened {
-    More,
-    Refused { number: u8, offset: u64 },
-    Ready(Walk),
 }
 
 // The walk after a piece: so many of its bytes were used, and so many bytes of whole lines were written. `ended`: the last line
@@ -43,9 +37,11 @@ pub struct TakeAnswer {
     pub ended: bool,
 }
 
-// What a file sets up with; it stands at offset 1, and so does what set-up refuses. A file carries no edition, and the first is meant.
-fn ready(numbers: FileNumbers, next: Cursor) -> Opened
-    ensures { result ≡ ready_of numbers next }
+// What a file sets up with; it stands at offset 1, and so does what set-up refuses (1 to 7). A file carries no edition, and the first
+// is meant.
+#[tactic(auto, unfolding(crate::specs::Step::ready_of))]
+fn ready(numbers: FileNumbers, next: Cursor) -> Result<Option<Walk>, Refused>
+    ensures { told result ≡ ready_of numbers next }
 {
     let stream = StreamNumbers {
         parameters: numbers.parameters,
@@ -53,44 +49,42 @@ fn ready(numbers: FileNumbers, next: Cursor) -> Opened
         profile: numbers.profile,
     };
     match stream.set_up() {
-        SetUp::Fresh(state) => Opened::Ready(Walk { at: next, state }),
-        SetUp::Refused(number) => Opened::Refused { number, offset: 1 },
+        Ok(state) => Ok(Some(Walk { at: next, state })),
+        Err(refusal) => Err(Refused { refusal, place: 1 }),
     }
 }
 
-// A file from its first byte, of which `window` shows the front; `last`: no more will come.
-pub fn begin(window: &[u8], last: bool) -> Opened
-    ensures { result ≡ begin_of window.now last }
+// A file from its first byte, of which `window` shows the front: the walk behind its head, or none where more bytes are wanted; or what
+// refuses its head, 20 to 23 or 1 to 7, with its offset. `last`: no more will come (F6, X5).
+#[tactic(auto, unfolding(crate::specs::Step::begin_of))]
+pub fn begin(window: &[u8], last: bool) -> Result<Option<Walk>, Refused>
+    ensures { told result ≡ begin_of window.now last }
 {
-    let head = record::read_head(window, last);
-    match head {
-        Head::Ready {
-            version,
-            kind,
-            parameters,
-            next,
-        } => ready(record::set_with(version, kind, parameters), next),
-        Head::More => Opened::More,
-        Head::Refused { number, offset } => Opened::Refused { number, offset },
-    }
+    let Some(head) = record::read_head(window, last)? else {
+        return Ok(None);
+    };
+    ready(
+        record::set_with(head.version, head.kind, head.parameters),
+        head.next,
+    )
 }
 
 // A packet that is refused ends the reading as a refused record does, at its own offset.
-fn refused(number: u8, at: Cursor) -> Next
-    ensures { result ≡ Refused number at.at packet_bytes }
+fn refused(refusal: Refusal, at: Cursor) -> RefusedRecord
+    ensures { result ≡ record { refusal = refusal; offset = at.at; size = packet_bytes } }
 {
-    Next::Refused {
-        number,
+    RefusedRecord {
+        refusal,
         offset: at.at,
         size: PACKET_BYTES as u64,
     }
 }
 
 // Whether reading ends where this stands; else it waits for more bytes.
-fn ends(item: Next) -> bool
-    ensures { result ≡ not (wants_more item) }
+fn ends(item: Result<Next, RefusedRecord>) -> bool
+    ensures { result ≡ not (wants_more (next_told item)) }
 {
-    !matches!(item, Next::More)
+    !matches!(item, Ok(Next::More))
 }
 
 // The counts, the peak and the verdict.
@@ -99,7 +93,7 @@ fn put_sum(s: State, out: &mut [u8], at: usize) -> usize
     ensures { Line (sum_line s) at out.old result out.new }
 {
     match s.verdict() {
-        Judged::Given(v) => text::put_summary(
+        Ok(v) => text::put_summary(
             s.past.packets,
             s.frames.closed,
             s.bucket.peak,
@@ -108,22 +102,21 @@ fn put_sum(s: State, out: &mut [u8], at: usize) -> usize
             out,
             at,
         ),
-        Judged::Refused(number) => text::put_refusal(number, 0, out, at),
+        Err(refusal) => text::put_refusal(refusal.number(), 0, out, at),
     }
 }
 
 // The last line, where there is one.
-fn put_last(s: State, item: Next, out: &mut [u8], at: usize) -> usize
+#[tactic(auto, unfolding(crate::specs::Step::line_of))]
+fn put_last(s: State, item: Result<Next, RefusedRecord>, out: &mut [u8], at: usize) -> usize
     requires { at + line_room ≤ length out.old }
-    ensures { Line (line_of item s) at out.old result out.new }
+    ensures { Line (line_of (next_told item) s) at out.old result out.new }
 {
-    let Next::Refused { number, offset, .. } = item else {
-        if ends(item) {
-            return put_sum(s, out, at);
-        }
-        return at;
-    };
-    text::put_refusal(number, offset, out, at)
+    match item {
+        Ok(Next::Packet { .. } | Next::End) => put_sum(s, out, at),
+        Ok(Next::More) => at,
+        Err(r) => text::put_refusal(r.refusal.number(), r.offset, out, at),
+    }
 }
 
 // The line of the row that a marker closes now, if the lead-in is over.
@@ -139,9 +132,15 @@ pub fn put_closed(s: State, rules: Rules, out: &mut [u8], at: usize) -> usize
 
 impl Walk {
     // Where no packet stands: the walk stays, and the last line is written if there is one.
-    fn stop(self, item: Next, used: usize, out: &mut [u8], written: usize) -> TakeAnswer
+    fn stop(
+        self,
+        item: Result<Next, RefusedRecord>,
+        used: usize,
+        out: &mut [u8],
+        written: usize,
+    ) -> TakeAnswer
         requires { written + line_room ≤ length out.old }
-        ensures { TakeGives (stops_at item self) used written out.old result out.new }
+        ensures { TakeGives (stops_at (next_told item) self) used written out.old result out.new }
     {
         let next = put_last(self.state, item, out, written);
         TakeAnswer {
@@ -165,14 +164,13 @@ impl Walk {
         let mut written = 0;
         while LINE <= out.len() - written {
             let item = at.read_piece(&window[used..], last);
-            let Next::Packet { packet, next } = item else {
+            let Ok(Next::Packet { packet, next }) = item else {
                 let walk = Walk { at, state: s };
                 return walk.stop(item, used, out, written);
             };
-            let number = s.past.refusal(packet);
-            if number != 0 {
+            if let Err(refusal) = s.past.admit(packet) {
                 let walk = Walk { at, state: s };
-                return walk.stop(refused(number, at), used, out, written);
+                return walk.stop(Err(refused(refusal, at)), used, out, written);
             }
             s = s.arrive(rules, packet.time, packet.stamp);
             if packet.marker == 1 {
@@ -205,12 +203,12 @@ impl Walk {
             };
         }
         if !self.state.in_range() {
-            let unmeasured = Next::Refused {
-                number: 9,
+            let unmeasured = RefusedRecord {
+                refusal: Refusal::State,
                 offset: 0,
                 size: 0,
             };
-            return self.stop(unmeasured, 0, out, 0);
+            return self.stop(Err(unmeasured), 0, out, 0);
         }
         self.run(self.state.numbers.rules(), window, last, out)
     }

@@ -1,16 +1,14 @@
 -- What a step of the program for record files keeps: the bytes used lie within what is shown; the text and what is still to be printed are
 -- the output; and more is wanted only where more may come, with room for it in a window of 65,538 bytes. By the stage.
-use Rattle.std.specs.Prelude.{◌≡◌, ◌≤◌, ◌<◌}
+use Rattle.std.specs.Prelude.{◌≡◌, ◌≤◌, ◌<◌, Ok, Err, Some, None}
 use Rattle.laws.specs.Kit.{refl, sym, subst, Bool, true, false, List, [], ℕ, arith, length}
 use Rattle.laws.proofs.Choose.{false_true}
 use Rattle.record.specs.Paper.{head_bytes}
 use Rattle.record.proofs.InPieces.{head_suffices}
 use Rattle.text.specs.Lines.{line_room, refusal_line}
 use Rattle.printer.specs.declared.Walk.{Walk}
-use Rattle.printer.specs.declared.Opened.{Opened}
-use Rattle.printer.specs.declared.Opened.TheVariants.{More as Wanting, Refused as Unopened, Ready as Opens}
+use Rattle.printer.specs.Step.{Opened, begin_of, take_of, Headed}
 use Rattle.printer.specs.Paper.{output_of}
-use Rattle.printer.specs.Step.{begin_of, take_of, Headed}
 use Rattle.printer.specs.Drive.{Stands, rest_from}
 use Rattle.printer.proofs.Inside.{take_inside, begin_headed}
 use Rattle.printer.proofs.Beginning.{Tells, begin_tells, Answered, head_answered, begin_answered}
@@ -41,9 +39,9 @@ KeptBy s l last room k = Kept still Good line_room size s l last room k
 module _ (l : List ℕ) (last : Bool) (room : ℕ) where
   opens : (o : Opened) → Headed o (length l) → Follows last (λ v. Tells l v o) → (last ≡ true → Answered o)
       → (Bytes l → size ≤ length l → Answered o) → KeptBy Head l last room (open_move o)
-  opens Wanting h t a b = keeps_waiting still Good line_room size Head l last room tt a b
-  opens (Unopened number offset) h t a b = keeps_refusing still Good line_room size Head l last room (refusal_line number offset) tt t
-  opens (Opens walk) h t a b =
+  opens (Ok None) h t a b = keeps_waiting still Good line_room size Head l last room tt a b
+  opens (Err r) h t a b = keeps_refusing still Good line_room size Head l last room (refusal_line r.number r.place) tt t
+  opens (Ok (Some walk)) h t a b =
       keeps_going still Good line_room size Head l last room (Walking walk) head_bytes h (t [] (λ z. refl)).0 (λ v q. (t v q).1)
 
   open_keeps : KeptBy Head l last room (open_move (begin_of l last))

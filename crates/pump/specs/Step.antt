@@ -1,19 +1,18 @@
 -- What a step of the program for record files does, by its stage: what the contracts cite, and the machine that the run is of.
+use Rattle.std.specs.Prelude.{Ok, Err, Some, None}
 use Rattle.laws.specs.Kit.{Bool, List, ℕ, eqb}
 use Rattle.record.specs.Paper.{head_bytes}
 use Rattle.text.specs.Lines.{refusal_line}
-use Rattle.printer.specs.declared.Opened.{Opened}
-use Rattle.printer.specs.declared.Opened.TheVariants.{More as Wanting, Refused as Unopened, Ready as Opens}
+use Rattle.printer.specs.Step.{Opened, TakeOutcome, begin_of, take_of}
 use Rattle.printer.specs.Paper.{output_of}
-use Rattle.printer.specs.Step.{TakeOutcome, begin_of, take_of}
 use Rattle.window.specs.Step.{Did, waiting, refusing, going, Machine}
 use Rattle.pump.specs.declared.Stage.{Stage}
 use Rattle.pump.specs.declared.Stage.TheVariants.{Head, Walking}
 
 abbrev pub open_move : Opened → Did Stage
-open_move Wanting = waiting Head
-open_move (Unopened number offset) = refusing Head (refusal_line number offset)
-open_move (Opens walk) = going (Walking walk) head_bytes
+open_move (Ok None) = waiting Head
+open_move (Err r) = refusing Head (refusal_line r.number r.place)
+open_move (Ok (Some walk)) = going (Walking walk) head_bytes
 
 abbrev pub took_move : TakeOutcome → Did Stage
 took_move k = record { stage = Walking k.walk; used = k.used; text = k.text; wants = eqb k.used 0; over = k.ended }

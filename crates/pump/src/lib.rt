@@ -9,11 +9,12 @@ ghost use Rattle.window.specs.Step.{Fits, StepGives, shown};
 ghost use Rattle.pump.specs.Step.{open_move, took_move, move_by};
 ghost use Rattle.printer.specs.Step.{begin_of, take_of};
 
-use printer::{Opened, Walk};
+use printer::Walk;
 use record::HEAD_BYTES;
 use window::{Next, Span, Told};
 
 // The version byte and the parameters are still wanted, or the walk behind them.
+// An own enum: each is a stage of the reading by its name, and `Head` is not the lack of an answer.
 #[derive(Clone, Copy, Debug, PartialEq, Eq)]
 pub enum Stage {
     Head,
@@ -33,7 +34,7 @@ fn open(span: Span, window: &[u8], out: &mut [u8]) -> Stepped
     ensures { StepGives span (open_move (begin_of (shown span window.now) span.last)) result.stage result.told out.new }
 {
     match printer::begin(&window[span.from..span.held], span.last) {
-        Opened::More => Stepped {
+        Ok(None) => Stepped {
             stage: Stage::Head,
             told: Told {
                 span,
@@ -41,15 +42,15 @@ fn open(span: Span, window: &[u8], out: &mut [u8]) -> Stepped
                 next: Next::Read,
             },
         },
-        Opened::Refused { number, offset } => Stepped {
+        Err(r) => Stepped {
             stage: Stage::Head,
             told: Told {
                 span,
-                written: text::put_refusal(number, offset, out, 0),
+                written: text::put_refusal(r.refusal.number(), r.place, out, 0),
                 next: Next::End,
             },
         },
-        Opened::Ready(walk) => Stepped {
+        Ok(Some(walk)) => Stepped {
             stage: Stage::Walking(walk),
             told: Told {
                 span: span.past(HEAD_BYTES),

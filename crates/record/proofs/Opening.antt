@@ -1,8 +1,6 @@
 -- The check of a whole file from its first byte: what its head makes of it.
-use Rattle.std.specs.Prelude.{◌≡◌, ◌∷◌, ◌<◌, Ok, Err, Some, None}
-use Rattle.laws.specs.Kit.{refl, sym, ap, subst, ◌∙◌, List, [], ℕ, arith, ℕ_discrete, drop, ne_eqb}
-use types.Run.{OneOf, miss}
-use denote.Enum.Declared.{tag_of}
+use Rattle.std.specs.Prelude.{◌≡◌, ◌<◌, Err}
+use Rattle.laws.specs.Kit.{refl, sym, ap, subst, ◌∙◌, List, ℕ, arith, ℕ_discrete, drop, ne_eqb}
 use Rattle.limits.specs.declared.Parameters.{Parameters}
 use Rattle.limits.specs.declared.Profile.{Profile}
 use Rattle.limits.specs.Paper.{set_up_refusal, edition_refusal, set_up_in}
@@ -11,11 +9,11 @@ use Rattle.packet.specs.Step.{nothing, no_packets}
 use Rattle.packet.proofs.Declared.{tally_declared}
 use Rattle.record.specs.declared.Cursor.{Cursor}
 use Rattle.record.specs.declared.FileNumbers.{FileNumbers}
-use Rattle.record.specs.Step.{HeadRead, head_ready}
+use Rattle.refusal.specs.Told.{Numbered}
+use Rattle.record.specs.Step.{HeadRead, head_ready, head_more}
 use Rattle.record.specs.Paper.{head_bytes, Heading, heading, Ending, done, stopped, Packets, packets_in, ended_file, numbers_refusal}
 use Rattle.record.specs.Step.{head_read}
-use Rattle.record.specs.Walk.{numbers_of, as_checked, checked_of, finish_by, finish, refused_by, checked_refused}
-use Rattle.record.specs.contracts.Head.{the_type}
+use Rattle.record.specs.Walk.{numbers_of, as_checked, checked_of, finish_by, finish, checked_refused}
 use Rattle.record.proofs.Saying.{Stood, SaysHead, head_says, reads_refused, reads_packets}
 
 pub finish_checked : (h : Heading) (r : Packets)
@@ -26,22 +24,15 @@ finish_checked h r = go r.ending
     go done = rw (tally_declared r.accepted)
     go (stopped n o) = refl
 
--- a head that is none
-pub refused_none : (h : HeadRead) → OneOf (0 ∷ 1 ∷ []) (tag_of the_type h) → checked_refused 0 0 ≡ refused_by h
-unfolding refused_by
-refused_none (Ok (Some r)) k = refl
-refused_none (Ok None) k = refl
-refused_none (Err r) k = absurd (miss (0 ∷ 1 ∷ []) 2 tt k)
-
 module _ (edition : ℕ) (s : List ℕ) where
-  pub opens_not : (h : HeadRead) → OneOf (1 ∷ 2 ∷ []) (tag_of the_type h) → h ≡ head_read s → refused_by h ≡ checked_of edition s
-  unfolding refused_by checked_of
-  opens_not h k e = go h k (subst (SaysHead s) (sym e) (head_says s))
-    where
-      go : (h : HeadRead) → OneOf (1 ∷ 2 ∷ []) (tag_of the_type h) → SaysHead s h → refused_by h ≡ checked_of edition s
-      go (Ok (Some r)) k w = absurd (miss (1 ∷ 2 ∷ []) 0 tt k)
-      go (Ok None) k w = absurd w
-      go (Err r) k w = rw w
+  -- of a whole file no more bytes are wanted
+  pub head_never_more : head_more ≡ head_read s → ⊥
+  head_never_more e = subst (SaysHead s) (sym e) (head_says s)
+
+  -- and a head that is refused is the file's refusal
+  pub head_stops : (r : Numbered) → Err r ≡ head_read s → Err r ≡ checked_of edition s
+  unfolding checked_of
+  head_stops r e = let w = subst (SaysHead s) (sym e) (head_says s) in rw w
 
   module _ {h : HeadRead} {version kind : ℕ} {parameters : Parameters} {c : Cursor} (r : h ≡ head_read s) (e : h ≡ head_ready version kind parameters c)
     where

@@ -66,11 +66,11 @@ module _ (r : Run) {n k : ℕ} (some : k < n) (at : ℕ) (l : List ℕ) where
       let left : n - k ≡ suc (n - (k + 1)) = omega arith in
       rw (next, ← drop-drop packet_bytes (at + packet_bytes * k) l) (sym (ran_goes r left _ s t))
 
-  pub turn_other : stands_in (drop (at + packet_bytes * k) l) ≡ false → Broken ≡ ran_in r (n - k) (drop (at + packet_bytes * k) l)
+  pub turn_other : stands_in (drop (at + packet_bytes * k) l) ≡ false → None ≡ ran_in r (n - k) (drop (at + packet_bytes * k) l)
   turn_other s = sym (ran_other r {k = n - (k + 1)} (omega arith) _ s)
 
   pub turn_breaks : takes_of r (packet_at (drop (at + packet_bytes * k) l)) ≡ false
-      → Broken ≡ ran_in r (n - k) (drop (at + packet_bytes * k) l)
+      → None ≡ ran_in r (n - k) (drop (at + packet_bytes * k) l)
   turn_breaks t = sym (ran_breaks r {k = n - (k + 1)} (omega arith) _ t)
 
 -- what a run that went through says of its first record

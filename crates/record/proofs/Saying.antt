@@ -30,7 +30,8 @@ abbrev pub Says : ℕ → List ℕ → NextRead → Type 0
 Says at l (Ok (Packet p c)) = (format_refusal false l ≡ 0) × (packet_of l (after at packet_bytes) ≡ next_packet p c)
 Says at l (Ok End) = length l ≡ 0
 Says at l (Ok More) = ⊥
-Says at l (Err r) = (0 < length l) × (format_refusal false l ≡ r.number) × (0 < r.number) × (r.offset ≡ at) × (r.size ≡ step_over r.number l) × (r.size ≤ length l)
+Says at l (Err r) =
+    (0 < length l) × (format_refusal false l ≡ r.number) × (0 < r.number) × (r.offset ≡ at) × (r.size ≡ step_over r.number l) × (r.size ≤ length l)
 
 pub next_says : (at : ℕ) (l : List ℕ) → Says at l (next_read at l)
 unfolding next_piece whole_of

@@ -1,10 +1,8 @@
 -- One turn of the walk over a file, by what the cursor answers: a packet goes into the tally or is refused, and anything else ends
 -- the walk. What an answer says of the bytes is in Saying.
 use Rattle.std.specs.Prelude.{◌≡◌, ◌∷◌, ◌+◌, ◌^◌, ◌≤◌, ◌<◌, Ok, Err}
-use Rattle.laws.specs.Kit.{refl, ap, subst, ◌∙◌, List, [], ℕ, arith, mod-eq_of_lt, length, drop}
+use Rattle.laws.specs.Kit.{refl, sym, ap, subst, ◌∙◌, List, ℕ, arith, mod-eq_of_lt, length, drop}
 use Rattle.laws.specs.Kit.{length-drop, drop-drop}
-use types.Run.{OneOf, miss}
-use denote.Enum.Declared.{tag_of}
 use Rattle.laws.specs.Fold.{fold}
 use Rattle.laws.proofs.Choose.{second, before}
 use Rattle.packet.specs.declared.Packet as packet
@@ -12,27 +10,34 @@ use Rattle.packet.specs.declared.Tally.{Tally}
 use Rattle.packet.specs.Step.{number_of, next_of, tallied}
 use Rattle.record.specs.declared.FileNumbers.{FileNumbers}
 use Rattle.record.specs.declared.Cursor.{Cursor}
-use Rattle.record.specs.Step.{NextRead, next_packet}
-use Rattle.record.specs.contracts.Next.{the_type}
+use Rattle.record.specs.declared.Next.{Next}
+use Rattle.record.specs.Step.{NumberedRecord, next_packet}
 use Rattle.record.specs.declared.Next.TheVariants.{Packet, End, More}
 use Rattle.record.specs.Paper.{packet_bytes, packet_at, Ending, done, stopped, Packets, more, packets_in}
 use Rattle.record.specs.Step.{next_read}
-use Rattle.record.specs.Walk.{fine_with, finish_by, finish, closing, checked_refused}
+use Rattle.record.specs.Walk.{fine_with, finish_by, finish, checked_refused}
 use Rattle.record.proofs.Saying.{Says, next_says}
 use Rattle.record.proofs.Reading.{packet_here, packets_end, packets_stop, packets_go}
 
--- an answer that is no packet ends the walk
-pub stops : (numbers : FileNumbers) (y : Tally) (at : ℕ) (l : List ℕ) (r : NextRead) → OneOf (1 ∷ 2 ∷ 3 ∷ []) (tag_of the_type r)
-    → next_read at l ≡ r → finish numbers y (packets_in y.past at l) ≡ closing r numbers y
-unfolding closing fold
-stops numbers y at l r k e = go r k (subst (Says at l) e (next_says at l))
-  where
-    go : (r : NextRead) → OneOf (1 ∷ 2 ∷ 3 ∷ []) (tag_of the_type r) → Says at l r
-        → finish numbers y (packets_in y.past at l) ≡ closing r numbers y
-    go (Ok (Packet p c)) k s = absurd (miss (1 ∷ 2 ∷ 3 ∷ []) 0 tt k)
-    go (Ok End) k s = rw (packets_end y.past at l s)
-    go (Ok More) k s = absurd s
-    go (Err r) k s = rw (packets_stop y.past at l r.number s.0 (before _ _ (omega arith) ∙ s.1) s.2, s.3)
+-- an answer that is no packet ends the walk: the end of the file, since no more will come, or a refusal
+module _ (numbers : FileNumbers) (y : Tally) (at : ℕ) (l : List ℕ) where
+  pub stops_fine : (n : Next) → Ok n ≡ next_read at l → ((p : packet.Packet) (c : Cursor) → n ≡ Packet p c → ⊥)
+      → finish numbers y (packets_in y.past at l) ≡ fine_with numbers y
+  unfolding fold
+  stops_fine n e other = go n other (subst (Says at l) (sym e) (next_says at l))
+    where
+      go : (n : Next) → ((p : packet.Packet) (c : Cursor) → n ≡ Packet p c → ⊥) → Says at l (Ok n)
+          → finish numbers y (packets_in y.past at l) ≡ fine_with numbers y
+      go (Packet p c) other s = absurd (other p c refl)
+      go End other s = rw (packets_end y.past at l s)
+      go More other s = absurd s
+
+  pub stops_refused : (r : NumberedRecord) → Err r ≡ next_read at l
+      → finish numbers y (packets_in y.past at l) ≡ checked_refused r.number r.offset
+  unfolding fold
+  stops_refused r e =
+      let s = subst (Says at l) (sym e) (next_says at l) in
+      rw (packets_stop y.past at l r.number s.0 (before _ _ (omega arith) ∙ s.1) s.2, s.3)
 
 finish_more : (numbers : FileNumbers) (y : Tally) (p : packet.Packet) (r : Packets) → finish numbers y (more p r) ≡ finish numbers (tallied y p) r
 unfolding fold
@@ -83,12 +88,3 @@ module _ (s : List ℕ) (at : ℕ) (fits : length s < 2 ^ 64) {p : packet.Packet
         ap (finish numbers y)
         (packets_stop y.past at (drop at s) n (omega (arith, next_within, length-drop at s))
         (second _ _ here.0 ∙ ap (number_of y.past) the_packet ∙ f) some)
-
--- an answer at which reading stops
-pub closing_fine : (r : NextRead) (numbers : FileNumbers) (y : Tally) → OneOf (0 ∷ 1 ∷ 2 ∷ []) (tag_of the_type r)
-    → fine_with numbers y ≡ closing r numbers y
-unfolding closing
-closing_fine (Ok (Packet p c)) numbers y k = refl
-closing_fine (Ok End) numbers y k = refl
-closing_fine (Ok More) numbers y k = refl
-closing_fine (Err r) numbers y k = absurd (miss (0 ∷ 1 ∷ 2 ∷ []) 3 tt k)

@@ -11,7 +11,8 @@ use Rattle.record.specs.declared.Framed.{Framed}
 use Rattle.record.specs.declared.Framed.TheVariants as framed
 use Rattle.record.specs.Paper.{packet_bytes, head_bytes, version_known, version_of, version_fits, first_class, class_in, body_length}
 use Rattle.record.specs.Paper.{is_parameters, kind_length, parameters_at, packet_at}
-use Rattle.record.specs.Step.{cursor, after, packet_of, scrap_of, framed_of, Whole, first_of, head_by, head_piece, whole_of, next_by, next_piece, head_more, head_ready, head_refused, next_refused}
+use Rattle.record.specs.Step.{cursor, after, packet_of, scrap_of, framed_of, Whole, first_of, head_by, head_piece, whole_of, next_by, next_piece}
+use Rattle.record.specs.Step.{head_more, head_ready, head_refused, next_refused}
 use Rattle.record.proofs.Format.{framed_short}
 
 -- ---- versions
@@ -170,4 +171,7 @@ rest_none s at h = rest_all s (length s) ∙ drop-length s ∙ sym (drop_of_leng
 -- a packet is read from its own bytes alone
 pub packet_alone : (l : List ℕ) → packet_at (take packet_bytes l) ≡ packet_at l
 packet_alone l =
-    rw (drop-take 3 13 l, take-take 8 13 (drop 3 l) (omega arith), drop-take 11 5 l, take-take 4 5 (drop 11 l) (omega arith), get_or-take 16 l 15 0 (omega arith))
+    rw (
+      drop-take 3 13 l, take-take 8 13 (drop 3 l) (omega arith), drop-take 11 5 l, take-take 4 5 (drop 11 l) (omega arith),
+      get_or-take 16 l 15 0 (omega arith),
+    )

@@ -155,7 +155,7 @@ pub record WasWritten (s : Heading) (ts ss ms : List ℕ) (room n : ℕ) : Type 
 pub was_written : (s : Heading) (ts ss ms : List ℕ) (room n : ℕ) → Ok n ≡ written_of s ts ss ms room → WasWritten s ts ss ms room n
 unfolding written_of
 was_written s ts ss ms room n =
-    pick_either (λ w. Ok n ≡ w → WasWritten s ts ss ms room n) (eqb (heading_refusal s) 0)
+    pick_either (λ (w : Written). Ok n ≡ w → WasWritten s ts ss ms room n) (eqb (heading_refusal s) 0)
     (λ t e. go (scanned_of nothing false ts ss ms) refl (eqb-true (heading_refusal s) 0 t) e) (λ t e. absurd (done_refused n _ 0 e))
   where
     go : (a : Scanned) → scanned_of nothing false ts ss ms ≡ a → heading_refusal s ≡ 0

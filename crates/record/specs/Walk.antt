@@ -12,9 +12,6 @@ use Rattle.packet.specs.Quick.{takes_of, runs_of}
 use Rattle.limits.specs.Paper.{profile_of}
 use Rattle.packet.specs.declared.Tally.{Tally}
 use Rattle.record.specs.declared.FileNumbers.{FileNumbers}
-use Rattle.record.specs.Step.{HeadRead}
-use Rattle.record.specs.Step.{NextRead}
-use Rattle.record.specs.declared.Next.TheVariants as next
 use Rattle.record.specs.declared.CheckedFile.{CheckedFile}
 use Rattle.refusal.specs.Told.{Numbered}
 use Rattle.record.specs.Paper.{packet_bytes, packet_at, Ending, done, stopped, Packets, Heading, resolved, File, file, refused, file_in}
@@ -62,18 +59,6 @@ finish_by numbers y ps (stopped number offset) = checked_refused number offset
 
 abbrev pub finish : FileNumbers → Tally → Packets → Checked
 finish numbers y r = finish_by numbers y r.accepted r.ending
-
--- what stands where the walk stops, and a head that is none
-unfoldable pub closing : NextRead → FileNumbers → Tally → Checked
-closing (Ok (next.Packet p c)) numbers y = fine_with numbers y
-closing (Ok next.End) numbers y = fine_with numbers y
-closing (Ok next.More) numbers y = fine_with numbers y
-closing (Err r) numbers y = checked_refused r.number r.offset
-
-unfoldable pub refused_by : HeadRead → Checked
-refused_by (Ok (Some r)) = checked_refused 0 0
-refused_by (Ok None) = checked_refused 0 0
-refused_by (Err r) = checked_refused r.number r.place
 
 -- ---- gone through quickly
 

@@ -3,24 +3,25 @@
 // It must never know what is measured: no bucket, no frame, no verdict. No body is read before its length is checked.
 #![tactic(auto)]
 
-ghost use Rattle.std.specs.Prelude.{◌≡◌, ◌+◌, ◌*◌, ◌≤◌, ◌<◌};
+ghost use Rattle.std.specs.Prelude.{◌≡◌, ◌+◌, ◌*◌, ◌≤◌, ◌<◌, Ok};
 ghost use Rattle.laws.specs.Kit.{true, false, length, drop, sets};
 ghost use Rattle.endian.specs.Number.{Room};
-ghost use Rattle.record.specs.declared.Head.TheVariants.{Refused};
 ghost use Rattle.packet.specs.Paper.{packets};
 ghost use Rattle.packet.specs.Quick.{start_of};
 ghost use Rattle.packet.specs.Step.{nothing, no_packets};
 ghost use Rattle.record.specs.Paper.{parameters_bytes, packet_bytes, head_bytes};
 ghost use Rattle.record.specs.Paper.{version_known, heading, class_in, resolved_in, parameters_at, packet_at, is_parameters, kind_length};
 ghost use Rattle.record.specs.Paper.{packets_in};
-ghost use Rattle.record.specs.Step.{scrap_of, framed_of, Whole, first_of, head_by, head_piece, after, packet_of, whole_of, next_piece, stands_in};
+ghost use Rattle.refusal.specs.Told.{number_in, told};
+ghost use Rattle.record.specs.Step.{next_told, scrap_of, framed_of, Whole, first_of, head_by, head_piece, after, packet_of, whole_of, next_piece, stands_in};
 ghost use Rattle.record.specs.Layout.{packet_with, packet_record, head_of, records_of};
 ghost use Rattle.record.specs.Write.{version_refusal, heading_refusal, written_of, WriteGives, Fitting};
-ghost use Rattle.record.specs.Walk.{numbers_of, ran_in, records_left, closing, refused_by, finish, checked_of};
+ghost use Rattle.record.specs.Walk.{numbers_of, ran_in, records_left, finish, checked_of};
 
 use endian::{read16, read32, read64, write16, write32, write64};
 use limits::{Parameters, Profile};
-use packet::{Packet, Past, Ran, Scanned, Tally};
+use packet::{Packet, Past, Run, Tally};
+use refusal::{Refusal, Refused};
 
 // What a file sets up with, beside an edition: the profile that the kind of its parameter record chooses, and the parameters (`resolved`).
 #[derive(Clone, Copy, Debug, PartialEq, Eq)]
@@ -45,52 +46,49 @@ pub enum Framed {
     More,
 }
 
-// The head of a file, its version byte and its parameters; version and kind are kept as written.
+// The head of a file, its version byte and its parameters; version and kind are kept as written. `next` stands behind it.
 #[derive(Clone, Copy, Debug, PartialEq, Eq)]
-pub enum Head {
-    Ready {
-        version: u8,
-        kind: u8,
-        parameters: Parameters,
-        next: Cursor,
-    },
-    More,
-    Refused {
-        number: u8,
-        offset: u64,
-    },
+pub struct Head {
+    pub version: u8,
+    pub kind: u8,
+    pub parameters: Parameters,
+    pub next: Cursor,
 }
 
-// What stands at a cursor. A refused record tells its size, its length among it: the next one begins so far behind it, and 0 is
-// told where it has no length.
+// What stands at a cursor. More is answered of a piece alone: it ends before the answer is known.
 #[derive(Clone, Copy, Debug, PartialEq, Eq)]
 pub enum Next {
     Packet { packet: Packet, next: Cursor },
     End,
     More,
-    Refused { number: u8, offset: u64, size: u64 },
 }
 
-// A whole file: fine, with what it sets up with and the numbers of packets and of frames that close; or the number and offset of its
-// first refusal.
+// A record that is refused, its offset in the file, and its size, its length among it: the next one begins so far behind it. 0 is told
+// where it has no length (X6).
 #[derive(Clone, Copy, Debug, PartialEq, Eq)]
-pub enum Checked {
-    Fine {
-        numbers: FileNumbers,
-        packets: u64,
-        closed: u64,
-    },
-    Refused {
-        number: u8,
-        offset: u64,
-    },
+pub struct RefusedRecord {
+    pub refusal: Refusal,
+    pub offset: u64,
+    pub size: u64,
 }
 
-// The bytes that were written, or document 01's number and the refused packet's place; place 0 for 1 to 10, 20 and 24.
+impl From<RefusedRecord> for Refused {
+    ghost from_gives = { λ r e. e ≡ record { refusal = r.refusal; place = r.offset } };
+
+    fn from(r: RefusedRecord) -> Refused {
+        Refused {
+            refusal: r.refusal,
+            place: r.offset,
+        }
+    }
+}
+
+// A whole file that is fine: what it sets up with, and the numbers of packets and of frames that close.
 #[derive(Clone, Copy, Debug, PartialEq, Eq)]
-pub enum Written {
-    Done { bytes: usize },
-    Refused { number: u8, place: u64 },
+pub struct CheckedFile {
+    pub numbers: FileNumbers,
+    pub packets: u64,
+    pub closed: u64,
 }
 
 // The class number that a version 1 file's 0 stands for.
@@ -154,7 +152,7 @@ pub fn set_with(version: u8, kind: u8, written: Parameters) -> FileNumbers
 fn is_parameters(kind: u8) -> bool
     ensures { result ≡ is_parameters kind }
 {
-    limits::is_profile(kind)
+    Profile::try_from(kind).is_ok()
 }
 
 // The one place that tells what lengths the kinds have; 0, which no record has, for an unknown kind.
@@ -204,7 +202,7 @@ pub fn packet_at(s: &[u8]) -> Packet
 
 fn packet_of(s: &[u8], next: Cursor) -> Next
     requires { Room packet_bytes s.now 0 }
-    ensures { result ≡ packet_of s.now next }
+    ensures { Ok result ≡ packet_of s.now next }
 {
     Next::Packet {
         packet: packet_at(s),
@@ -278,179 +276,148 @@ pub fn frame(window: &[u8], last: bool) -> Framed
     }
 }
 
-fn head_refused(number: u8, offset: u64) -> Head
-    ensures { result ≡ Refused number offset }
+// A refusal at an offset of the file.
+fn refused_at(refusal: Refusal, offset: u64) -> Refused
+    ensures { result ≡ record { refusal = refusal; place = offset } }
 {
-    Head::Refused { number, offset }
+    Refused {
+        refusal,
+        place: offset,
+    }
 }
 
 // A first record that is all there.
-fn first_record(version: u8, body: u16, kind: u8, s: &[u8]) -> Head
+fn first_record(version: u8, body: u16, kind: u8, s: &[u8]) -> Result<Option<Head>, Refused>
     requires { Whole body kind s.now }
-    ensures { result ≡ first_of version body kind s.now }
+    ensures { told result ≡ first_of version body kind s.now }
 {
     if body != kind_length(kind) {
-        return head_refused(22, 1);
+        return Err(refused_at(Refusal::Kind, 1));
     }
     if !is_parameters(kind) {
-        return head_refused(23, 1);
+        return Err(refused_at(Refusal::Misplaced, 1));
     }
-    Head::Ready {
+    Ok(Some(Head {
         version,
         kind,
         parameters: parameters_of(s),
         next: Cursor {
             at: HEAD_BYTES as u64,
         },
-    }
+    }))
 }
 
 // What follows the version byte.
-fn first(version: u8, window: &[u8], last: bool) -> Head
-    ensures { result ≡ head_by version window.now (framed_of window.now last) }
+fn first(version: u8, window: &[u8], last: bool) -> Result<Option<Head>, Refused>
+    ensures { told result ≡ head_by version window.now (framed_of window.now last) }
 {
     let framed = frame(window, last);
     match framed {
-        Framed::Nothing => head_refused(23, 1),
-        Framed::Cut => head_refused(21, 1),
+        Framed::Nothing => Err(refused_at(Refusal::Misplaced, 1)),
+        Framed::Cut => Err(refused_at(Refusal::Cut, 1)),
         Framed::Whole { body, kind } => first_record(version, body, kind, window),
-        Framed::More => Head::More,
+        Framed::More => Ok(None),
     }
 }
 
-// The head of a file, of which `window` shows the bytes from the first on; `last`: no more will come.
-pub fn read_head(window: &[u8], last: bool) -> Head
-    ensures { result ≡ head_piece window.now last }
+// The head of a file, of which `window` shows the bytes from the first on, or none where more bytes are wanted; or 20 to 23 with its
+// offset. `last`: no more will come (F6, X5).
+pub fn read_head(window: &[u8], last: bool) -> Result<Option<Head>, Refused>
+    ensures { told result ≡ head_piece window.now last }
 {
     if window.len() == 0 {
         if last {
-            return head_refused(20, 0);
+            return Err(refused_at(Refusal::Version, 0));
         }
-        return Head::More;
+        return Ok(None);
     }
     if !version_known(window[0]) {
-        return head_refused(20, 0);
+        return Err(refused_at(Refusal::Version, 0));
     }
     first(window[0], &window[1..], last)
 }
 
 impl Cursor {
-    // What stands at the cursor in the whole file `s`. A packet's record is looked for here, so that in a walk over a file each
-    // costs no call.
-    pub fn read(self, s: &[u8]) -> Next
-        ensures { result ≡ next_piece self.at (drop self.at s.now) true }
+    // What stands at the cursor in the whole file `s`; or 21 to 23. A packet's record is looked for here, so that in a walk over a file
+    // each costs no call.
+    pub fn read(self, s: &[u8]) -> Result<Next, RefusedRecord>
+        ensures { next_told result ≡ next_piece self.at (drop self.at s.now) true }
     {
         let at = self.at as usize;
         if s.len() < at {
             return self.read_any(&s[s.len()..], true);
         }
         if packet_stands(&s[at..]) {
-            return packet_of(&s[at..], after_packet(self.at));
+            return Ok(packet_of(&s[at..], after_packet(self.at)));
         }
         self.read_any(&s[at..], true)
     }
 
-    // What stands at the cursor, of which `window` shows the bytes from there on; `last`: no more will come.
+    // What stands at the cursor, of which `window` shows the bytes from there on; or 21 to 23. `last`: no more will come.
     // A packet's record mostly stands there, and that is seen at once.
-    pub fn read_piece(self, window: &[u8], last: bool) -> Next
-        ensures { result ≡ next_piece self.at window.now last }
+    pub fn read_piece(self, window: &[u8], last: bool) -> Result<Next, RefusedRecord>
+        ensures { next_told result ≡ next_piece self.at window.now last }
     {
         if packet_stands(window) {
-            return packet_of(window, after_packet(self.at));
+            return Ok(packet_of(window, after_packet(self.at)));
         }
         self.read_any(window, last)
     }
 
     // The same, whatever stands there.
-    fn read_any(self, window: &[u8], last: bool) -> Next
-        ensures { result ≡ next_piece self.at window.now last }
+    fn read_any(self, window: &[u8], last: bool) -> Result<Next, RefusedRecord>
+        ensures { next_told result ≡ next_piece self.at window.now last }
     {
         let framed = frame(window, last);
         match framed {
-            Framed::Nothing => Next::End,
-            Framed::Cut => Next::Refused {
-                number: 21,
-                offset: self.at,
-                size: 0,
-            },
+            Framed::Nothing => Ok(Next::End),
+            Framed::Cut => Err(self.refused(Refusal::Cut, 0)),
             Framed::Whole { body, kind } => self.whole_record(body, kind, window),
-            Framed::More => Next::More,
+            Framed::More => Ok(Next::More),
         }
     }
 
     // A record that is all there, with the length of its body and its kind.
-    fn whole_record(self, body: u16, kind: u8, s: &[u8]) -> Next
+    fn whole_record(self, body: u16, kind: u8, s: &[u8]) -> Result<Next, RefusedRecord>
         requires { Whole body kind s.now }
-        ensures { result ≡ whole_of self.at body kind s.now }
+        ensures { next_told result ≡ whole_of self.at body kind s.now }
     {
         let size = 2 + u64::from(body);
         if body != kind_length(kind) {
-            return Next::Refused {
-                number: 22,
-                offset: self.at,
-                size,
-            };
+            return Err(self.refused(Refusal::Kind, size));
         }
         let again = is_parameters(kind);
         if again {
-            return Next::Refused {
-                number: 23,
-                offset: self.at,
-                size,
-            };
+            return Err(self.refused(Refusal::Misplaced, size));
         }
-        packet_of(s, after_packet(self.at))
+        Ok(packet_of(s, after_packet(self.at)))
+    }
+
+    // The record at the cursor is refused.
+    fn refused(self, refusal: Refusal, size: u64) -> RefusedRecord
+        ensures { result ≡ record { refusal = refusal; offset = self.at; size = size } }
+    {
+        RefusedRecord {
+            refusal,
+            offset: self.at,
+            size,
+        }
     }
 }
 
-// The answer where reading stops: at a refusal, or else at the end.
-fn closed(tally: Tally, item: Next, numbers: FileNumbers) -> Checked
-    ensures { result ≡ closing item numbers tally }
+// One pass over a whole file that copies nothing: what `report` asks before it measures; or its first refusal with its offset. A file
+// carries no edition: it is told beside the file, and refused where the parameters stand, at offset 1, after all that is refused there.
+pub fn check(edition: u32, s: &[u8]) -> Result<CheckedFile, Refused>
+    ensures { told result ≡ checked_of edition s.now }
 {
-    let Next::Refused { number, offset, .. } = item else {
-        return Checked::Fine {
-            numbers,
-            packets: tally.past.packets,
-            closed: tally.closed as u64,
-        };
+    let Some(head) = read_head(s, true)? else {
+        unreachable!()
     };
-    Checked::Refused { number, offset }
-}
-
-// The answer where reading stops before there are stream numbers: at a refusal, and at nothing else.
-fn refused_by(head: Head) -> Checked
-    ensures { result ≡ refused_by head }
-{
-    let Head::Refused { number, offset } = head else {
-        return Checked::Refused {
-            number: 0,
-            offset: 0,
-        };
-    };
-    Checked::Refused { number, offset }
-}
-
-// One pass over a whole file that copies nothing: what `report` asks before it measures. A file carries no edition: it is told beside the
-// file, and refused where the parameters stand, at offset 1, after all that is refused there.
-pub fn check(edition: u32, s: &[u8]) -> Checked
-    ensures { result ≡ checked_of edition s.now }
-{
-    let head = read_head(s, true);
-    let Head::Ready {
-        version,
-        kind,
-        parameters,
-        next,
-    } = head
-    else {
-        return refused_by(head);
-    };
-    let numbers = set_with(version, kind, parameters);
-    let number = numbers.parameters.refusal_in(numbers.profile, edition);
-    if number != 0 {
-        return Checked::Refused { number, offset: 1 };
+    let numbers = set_with(head.version, head.kind, head.parameters);
+    if let Err(refusal) = numbers.parameters.check_in(numbers.profile, edition) {
+        return Err(refused_at(refusal, 1));
     }
-    check_packets(numbers, next, s)
+    check_packets(numbers, head.next, s)
 }
 
 // How many packets' records fill the file from an offset on; 0 where there is none, or some bytes are too few for one.
@@ -464,8 +431,8 @@ fn records_left(from: Cursor, s: &[u8]) -> usize
     size / PACKET_BYTES
 }
 
-// A run over so many packets' records from an offset on.
-fn run_packets(from: Cursor, count: usize, s: &[u8]) -> Ran
+// A run over so many packets' records from an offset on; none where another record stands, or 11 or 12 refuses a packet.
+fn run_packets(from: Cursor, count: usize, s: &[u8]) -> Option<Run>
     requires { from.at + packet_bytes * count ≤ length s.now }
     ensures { result ≡ ran_in (start_of nothing false) count (drop from.at s.now) }
 {
@@ -474,32 +441,32 @@ fn run_packets(from: Cursor, count: usize, s: &[u8]) -> Ran
     for k in 0..count {
         let record = &s[start + PACKET_BYTES * k..];
         if !packet_fits(record) {
-            return Ran::Broken;
+            return None;
         }
         let p = packet_at(record);
         if !run.takes(p) {
-            return Ran::Broken;
+            return None;
         }
         run = run.with(p);
     }
-    Ran::Through(run)
+    Some(run)
 }
 
 // The packets from an offset on, after the parameters. Mostly nothing is refused, and a run sees that with fewer tests.
-fn check_packets(numbers: FileNumbers, from: Cursor, s: &[u8]) -> Checked
-    ensures { result ≡ finish numbers no_packets (packets_in nothing from.at (drop from.at s.now)) }
+fn check_packets(numbers: FileNumbers, from: Cursor, s: &[u8]) -> Result<CheckedFile, Refused>
+    ensures { told result ≡ finish numbers no_packets (packets_in nothing from.at (drop from.at s.now)) }
 {
     let count = records_left(from, s);
     if count != 0 {
         let ran = run_packets(from, count, s);
-        if let Ran::Through(run) = ran {
+        if let Some(run) = ran {
             let first = packet_at(&s[from.at as usize..]);
             if Past::none().admits(count as u64, first.time, run.last) {
-                return Checked::Fine {
+                return Ok(CheckedFile {
                     numbers,
                     packets: count as u64,
                     closed: run.closed() as u64,
-                };
+                });
             }
         }
     }
@@ -507,47 +474,52 @@ fn check_packets(numbers: FileNumbers, from: Cursor, s: &[u8]) -> Checked
 }
 
 // The same record by record, whatever stands there: what is refused, and at which offset.
-fn walk_packets(numbers: FileNumbers, from: Cursor, s: &[u8]) -> Checked
-    ensures { result ≡ finish numbers no_packets (packets_in nothing from.at (drop from.at s.now)) }
+fn walk_packets(numbers: FileNumbers, from: Cursor, s: &[u8]) -> Result<CheckedFile, Refused>
+    ensures { told result ≡ finish numbers no_packets (packets_in nothing from.at (drop from.at s.now)) }
 {
     let mut cursor = from;
     let mut tally = Tally::none();
     loop {
-        let item = cursor.read(s);
+        let item = cursor.read(s)?;
         let Next::Packet { packet, next } = item else {
-            return closed(tally, item, numbers);
+            return Ok(CheckedFile {
+                numbers,
+                packets: tally.past.packets,
+                closed: tally.closed as u64,
+            });
         };
-        let number = tally.past.refusal(packet);
-        if number != 0 {
-            return Checked::Refused {
-                number,
-                offset: cursor.at,
-            };
+        if let Err(refusal) = tally.past.admit(packet) {
+            return Err(refused_at(refusal, cursor.at));
         }
         tally = tally.with(packet);
         cursor = next;
     }
 }
 
-fn version_refusal(version: u8) -> u8
-    ensures { result ≡ version_refusal version }
+#[tactic(auto, unfolding(crate::specs::Write::version_refusal))]
+fn check_version(version: u8) -> Result<(), Refusal>
+    ensures { number_in result ≡ version_refusal version }
 {
-    if version_known(version) { 0 } else { 20 }
+    if version_known(version) {
+        Ok(())
+    } else {
+        Err(Refusal::Version)
+    }
 }
 
-// What the writer refuses before it looks at a packet: the version first of all, then a kind that holds no parameters, then what set-up
-// refuses; 0 where nothing is.
-fn heading_refusal(version: u8, kind: u8, written: Parameters) -> u8
-    ensures { result ≡ heading_refusal (heading version kind written) }
+// Whether the writer may look at a packet: the version first of all, then a kind that holds no parameters, then what set-up refuses.
+fn check_heading(version: u8, kind: u8, written: Parameters) -> Result<(), Refusal>
+    ensures { number_in result ≡ heading_refusal (heading version kind written) }
 {
-    let of_version = version_refusal(version);
-    let of_kind = limits::profile_refusal(kind);
-    let of_numbers = resolved(version, written).refusal(limits::profile_of(kind));
-    let later = laws::first_of(of_kind, of_numbers);
-    laws::first_of(of_version, later)
+    let of_version = check_version(version);
+    let of_kind = Profile::try_from(kind);
+    let of_numbers = resolved(version, written).check(limits::profile_of(kind));
+    let later = of_kind.and(of_numbers);
+    of_version.and(later)
 }
 
-// What the writer would answer for so many lent bytes. It writes nothing.
+// What the writer would answer for so many lent bytes: how many it would write, or the first refusal of 20, 22, 1 to 7, 10 to 14 and 24 with
+// its place. It writes nothing.
 pub fn would_write(
     version: u8,
     kind: u8,
@@ -556,30 +528,21 @@ pub fn would_write(
     stamps: &[u32],
     markers: &[u8],
     room: usize,
-) -> Written
-    ensures { result ≡ written_of (heading version kind numbers) arrivals.now stamps.now markers.now room }
+) -> Result<usize, Refused>
+    ensures { told result ≡ written_of (heading version kind numbers) arrivals.now stamps.now markers.now room }
 {
-    let number = heading_refusal(version, kind, numbers);
-    if number != 0 {
-        return Written::Refused { number, place: 0 };
+    if let Err(refusal) = check_heading(version, kind, numbers) {
+        return Err(Refused { refusal, place: 0 });
     }
-    let scanned = Past::none().scan(false, arrivals, stamps, markers);
-    match scanned {
-        Scanned::Fine(_) => {
-            let needed = HEAD_BYTES + PACKET_BYTES * arrivals.len();
-            if room < needed {
-                return Written::Refused {
-                    number: 24,
-                    place: 0,
-                };
-            }
-            Written::Done { bytes: needed }
-        }
-        Scanned::Refused(r) => Written::Refused {
-            number: r.number,
-            place: r.place,
-        },
+    Past::none().scan(false, arrivals, stamps, markers)?;
+    let needed = HEAD_BYTES + PACKET_BYTES * arrivals.len();
+    if room < needed {
+        return Err(Refused {
+            refusal: Refusal::FileRoom,
+            place: 0,
+        });
     }
+    Ok(needed)
 }
 
 // The whole record file of this version, with these parameters in a record of this kind, and these packets into lent bytes, or nothing
@@ -592,17 +555,14 @@ pub fn write(
     stamps: &[u32],
     markers: &[u8],
     out: &mut [u8],
-) -> Written
+) -> Result<usize, Refused>
     ensures { WriteGives (heading version kind numbers) arrivals.now stamps.now markers.now
-        out.old result out.new }
+        out.old (told result) out.new }
 {
-    let answer = would_write(version, kind, numbers, arrivals, stamps, markers, out.len());
-    let Written::Done { bytes } = answer else {
-        return answer;
-    };
+    let bytes = would_write(version, kind, numbers, arrivals, stamps, markers, out.len())?;
     write_head(version, kind, numbers, out);
     write_packets(arrivals, stamps, markers, out);
-    Written::Done { bytes }
+    Ok(bytes)
 }
 
 // The version byte and the parameters.

@@ -1,5 +1,5 @@
 -- The start of a capture: set-up, the offset and the header; what an answer to the first window says of the whole capture. By these in order.
-use Rattle.std.specs.Prelude.{◌≡◌, ◌++◌, ◌+◌, ◌≤◌, ◌<◌, Err, Ok}
+use Rattle.std.specs.Prelude.{◌≡◌, ◌++◌, ◌+◌, ◌≤◌, ◌<◌, Err, Ok, Some, None}
 use Rattle.laws.specs.Kit.{refl, sym, ap, ◌∙◌, Bool, true, List, [], append-nil, ℕ, arith, ltb, leb}
 use Rattle.laws.specs.Kit.{eqb, length, take, drop, length-append, length-drop, drop-append-le, take-append-le, le-leb, lt-leb, leb-true, leb-false}
 use Rattle.laws.specs.Kit.{eqb-true, eqb-false, ne_eqb, eq-eqb, le-ltb, lt-ltb, ltb-true, ltb-false}
@@ -9,7 +9,7 @@ use Rattle.endian.specs.declared.Order.TheVariants.{Big, Little}
 use Rattle.endian.specs.Number.{number_of}
 use Rattle.endian.specs.Order.{turned, number_by}
 use Rattle.text.specs.Lines.{refusal_line}
-use Rattle.capture.specs.declared.Opened.{Opened}
+use Rattle.capture.specs.Step.{format_in, Opened}
 use Rattle.capture.specs.Paper.{header_bytes, Header, capture, unknown, linked_by, magic_by, header_of, records_in}
 use Rattle.capture.specs.Step.{opened_by, opened_of, rest_from}
 use Rattle.timing.specs.declared.State.{State}
@@ -19,20 +19,19 @@ use Rattle.timing.specs.Answers.{stated_up}
 use Rattle.timing.proofs.Stating.{stated_fine}
 use Rattle.timing.proofs.InRange.{sound_fresh}
 use Rattle.reel.specs.declared.Asked.{Asked}
-use Rattle.reel.specs.declared.Threaded.{Threaded}
-use Rattle.reel.specs.declared.Threaded.TheVariants as threaded
+use Rattle.reel.specs.Step.{Threaded, threaded_refused}
 use Rattle.reel.specs.Paper.{lines_of, output_by, output_of}
 use Rattle.reel.specs.Step.{open_by, ready_of, set_up_by, begin_of, rest_by, Stands}
 
 -- ---- each way out of the code
 
 module _ (a : Asked) (w : List ℕ) (last : Bool) {u : SetUp} (e : u ≡ stated_up a.stated) where
-  pub begins_refused : {number : ℕ} → u ≡ Err number → threaded.Refused number ≡ begin_of a w last
+  pub begins_refused : {number : ℕ} → u ≡ Err number → threaded_refused number ≡ begin_of a w last
   unfolding begin_of
   begins_refused f = rw (← e, f)
 
   module _ {s : State} (f : u ≡ Ok s) where
-    pub begins_33 : 99 < a.offset → threaded.Refused 33 ≡ begin_of a w last
+    pub begins_33 : 99 < a.offset → threaded_refused 33 ≡ begin_of a w last
     unfolding begin_of
     begins_33 h = rw (← e, f, lt-leb a.offset 99 h)
 
@@ -68,9 +67,9 @@ header_short w h = rw (lt-ltb (length w) header_bytes h)
 -- ---- what an answer to the window w says of the file w ++ v
 
 abbrev pub Tells : Asked → List ℕ → List ℕ → Threaded → Type 0
-Tells a w v threaded.More = Unit
-Tells a w v (threaded.Refused number) = output_of a (w ++ v) ≡ refusal_line number 0
-Tells a w v (threaded.Ready reel) = Stands reel × (header_bytes ≤ length w) × (output_of a (w ++ v) ≡ rest_by reel (drop header_bytes w ++ v))
+Tells a w v (Ok None) = Unit
+Tells a w v (Err r) = output_of a (w ++ v) ≡ refusal_line r 0
+Tells a w v (Ok (Some r)) = Stands r × (header_bytes ≤ length w) × (output_of a (w ++ v) ≡ rest_by r (drop header_bytes w ++ v))
 
 module _ (a : Asked) (w v : List ℕ) (last : Bool) (l : last ≡ true → v ≡ []) where
   module _ (fine : stated_refusal a.stated ≡ 0) (h : a.offset ≤ 99) where
@@ -78,7 +77,8 @@ module _ (a : Asked) (w v : List ℕ) (last : Bool) (l : last ≡ true → v ≡
     unfolding output_of
     by_header e = rw (eq-eqb (stated_refusal a.stated) 0 fine, le-leb a.offset 99 h, e)
 
-    opens_tells : (long : header_bytes ≤ length w) (k : Header) → header_of w ≡ k → Tells a w v (open_by a (fresh_of (stated_of a.stated)) (opened_by k))
+    opens_tells : (long : header_bytes ≤ length w) (k : Header) → header_of w ≡ k
+        → Tells a w v (open_by a (fresh_of (stated_of a.stated)) (opened_by (format_in k)))
     unfolding rest_from
     opens_tells long (capture f) e = (
       record { sound = sound_fresh (stated_of a.stated) (stated_fine a.stated fine).1; records = omega arith; skipped = omega arith },
@@ -99,11 +99,11 @@ module _ (a : Asked) (w v : List ℕ) (last : Bool) (l : last ≡ true → v ≡
         (λ t. tt))
         (λ e. opens_tells (ltb-false (length w) header_bytes e) (header_of w) refl)
 
-  offset_tells : stated_refusal a.stated ≡ 0 → 99 < a.offset → Tells a w v (threaded.Refused 33)
+  offset_tells : stated_refusal a.stated ≡ 0 → 99 < a.offset → Tells a w v (threaded_refused 33)
   unfolding output_of
   offset_tells fine h = rw (eq-eqb (stated_refusal a.stated) 0 fine, lt-leb a.offset 99 h)
 
-  set_up_tells : (stated_refusal a.stated ≡ 0 → ⊥) → Tells a w v (threaded.Refused (stated_refusal a.stated))
+  set_up_tells : (stated_refusal a.stated ≡ 0 → ⊥) → Tells a w v (threaded_refused (stated_refusal a.stated))
   unfolding output_of
   set_up_tells n = rw (ne_eqb (stated_refusal a.stated) 0 n)
 
@@ -120,15 +120,15 @@ module _ (a : Asked) (w v : List ℕ) (last : Bool) (l : last ≡ true → v ≡
 
 -- where no more will come, and where the header is shown, the start of a capture is answered
 abbrev pub Answered : Threaded → Type 0
-Answered threaded.More = ⊥
-Answered (threaded.Refused number) = Unit
-Answered (threaded.Ready reel) = Unit
+Answered (Ok None) = ⊥
+Answered (Err r) = Unit
+Answered (Ok (Some r)) = Unit
 
 pub begin_answered : (a : Asked) (w : List ℕ) (last : Bool) → (length w < header_bytes → last ≡ true) → Answered (begin_of a w last)
 unfolding begin_of ready_of opened_of
 begin_answered a w last h = go (stated_up a.stated)
   where
-    headed : (s : State) (k : Header) → Answered (open_by a s (opened_by k))
+    headed : (s : State) (k : Header) → Answered (open_by a s (opened_by (format_in k)))
     headed s (capture f) = tt
     headed s unknown = tt
 

@@ -1,6 +1,6 @@
 -- What was to be printed is what a call writes, and then what is still to be printed. One packet at a time: what lies ahead of the reel is
 -- what lies there in the whole capture, and each answer's line is the request's. By the turns still allowed.
-use Rattle.std.specs.Prelude.{◌≡◌, ◌++◌}
+use Rattle.std.specs.Prelude.{◌≡◌, ◌++◌, Ok, Err}
 use Rattle.laws.specs.Kit.{refl, sym, ap, ◌∙◌, Bool, true, List, [], append-nil, append_assoc, ℕ, zero, suc}
 use Rattle.std.specs.Prelude.{◌+◌, ◌-◌, ◌<◌}
 use Rattle.laws.specs.Kit.{arith, eqb, ltb, length, drop, drop-drop, eqb-true, eqb-false, eq-eqb, ne_eqb}
@@ -9,8 +9,8 @@ use Rattle.laws.proofs.Choose.{pick_either}
 use Rattle.packet.specs.declared.Packet as packets
 use Rattle.packet.specs.Step.{number_of}
 use Rattle.text.specs.Lines.{line_room, refusal_line}
-use Rattle.capture.specs.declared.Ahead.{Ahead}
-use Rattle.capture.specs.declared.Ahead.TheVariants.{Packet, Wait, End, Refused}
+use Rattle.capture.specs.Step.{AheadRead}
+use Rattle.capture.specs.declared.Ahead.TheVariants.{Packet, Wait, End}
 use Rattle.capture.specs.Paper.{packet, done, stopped, Records, none, more, records_in}
 use Rattle.capture.specs.Step.{ahead_of, rest_from, skipping}
 use Rattle.capture.proofs.Looking.{Lies, ahead_keeps}
@@ -121,11 +121,11 @@ module _ (rules : Rules) (reel : Reel) (w v : List ℕ) (q : rules ≡ rules_of 
       )
 
   -- what lies ahead, by cases
-  carries_ahead : (r : Ahead) (room : ℕ) (on : Reel → ℕ → ℕ → TakeOutcome) → Lies reel.setting reel.cursor w v 0 0 r
+  carries_ahead : (r : AheadRead) (room : ℕ) (on : Reel → ℕ → ℕ → TakeOutcome) → Lies reel.setting reel.cursor w v 0 0 r
       → ((next : Reel) (n left : ℕ) → rules ≡ rules_of next.state.numbers → Stands next → Carries rules next (drop n w) v (on next n left))
       → Carries rules reel w v (ahead_by rules reel room on r)
   unfolding line_ahead
-  carries_ahead (Packet p m n) room on (i, j, a, b, some, within, lies) ih =
+  carries_ahead (Ok (Packet p m n)) room on (i, j, a, b, some, within, lies) ih =
       let number = number_of reel.state.past p in
       let same : m ≡ i = omega arith in
       let here : n ≡ j = omega arith in
@@ -138,20 +138,20 @@ module _ (rules : Rules) (reel : Reel) (w v : List ℕ) (q : rules ≡ rules_of 
       (λ e. ends_at (refused_line reel p) (skips m _ lie
       ∙ lines_refused rules reel.state (counted (reel.records + m)) (counted (reel.skipped + m)) p
       (records_in reel.setting (drop n w ++ v)) (eqb-false number 0 e)))
-  carries_ahead (Wait d m n) room on (i, j, a, b, within, lies) ih =
+  carries_ahead (Ok (Wait d m n)) room on (i, j, a, b, within, lies) ih =
       let same : i ≡ m = omega arith in
       let here : j ≡ n = omega arith in (
         rw (same, here) at (skips i _ lies),
         record { sound = z.sound; records = small (reel.records + m); skipped = small (reel.skipped + m) },
         q,
       )
-  carries_ahead (End m) room on (i, a, lies) ih =
+  carries_ahead (Ok (End m)) room on (i, a, lies) ih =
       let same : i ≡ m = omega arith in
       ends_at _ (rw same at (skips i _ lies) ∙ lines_done rules reel.state (counted (reel.records + m)) (counted (reel.skipped + m)))
-  carries_ahead (Refused number m) room on (i, a, lies) ih =
-      let same : i ≡ m = omega arith in
+  carries_ahead (Err r) room on (i, a, lies) ih =
+      let same : i ≡ r.skipped = omega arith in
       ends_at _ (rw same at (skips i _ lies)
-      ∙ lines_stopped rules reel.state (counted (reel.records + m)) (counted (reel.skipped + m)) number)
+      ∙ lines_stopped rules reel.state (counted (reel.records + r.skipped)) (counted (reel.skipped + r.skipped)) r.number)
 
 carries_roll : (k : ℕ) (rules : Rules) (reel : Reel) (w v : List ℕ) (last : Bool) (room : ℕ) → (last ≡ true → v ≡ [])
     → rules ≡ rules_of reel.state.numbers → Stands reel → Carries rules reel w v (roll_by k rules reel w last room)

@@ -1,6 +1,6 @@
 -- The program's output, call by call: from a reel that a capture leads to, a call writes the front of what is still to be printed, and all
 -- of it where it ends; it uses bytes of its window only, and some where it has room for a line and a window that is the last or shows 178.
-use Rattle.std.specs.Prelude.{◌≡◌, ◌++◌, ◌+◌, ◌-◌, ◌≤◌, ◌<◌}
+use Rattle.std.specs.Prelude.{◌≡◌, ◌++◌, ◌+◌, ◌-◌, ◌≤◌, ◌<◌, Ok, Err}
 use Rattle.laws.specs.Kit.{sym, ap, ◌∙◌, Bool, true, false, List, [], append-nil, ℕ, zero, suc, arith}
 use Rattle.laws.specs.Kit.{eqb, ltb, length, drop, length-drop, ltb-true, ℕ_discrete}
 use Rattle.laws.specs.Choose.{pick}
@@ -8,8 +8,8 @@ use Rattle.laws.proofs.Choose.{pick_either, false_true}
 use Rattle.headers.specs.Step.{matter}
 use Rattle.packet.specs.Step.{number_of}
 use Rattle.text.specs.Lines.{line_room}
-use Rattle.capture.specs.declared.Ahead.{Ahead}
-use Rattle.capture.specs.declared.Ahead.TheVariants.{Packet, Wait, End, Refused}
+use Rattle.capture.specs.Step.{AheadRead}
+use Rattle.capture.specs.declared.Ahead.TheVariants.{Packet, Wait, End}
 use Rattle.capture.specs.Paper.{record_bytes}
 use Rattle.capture.specs.Step.{ahead_of}
 use Rattle.timing.specs.declared.Rules.{Rules}
@@ -56,15 +56,15 @@ roll_inside (suc k) rules reel w last room =
     (λ e. go (ahead_of reel.setting reel.cursor w last) (ahead_inside reel.setting reel.cursor w last)
     (λ next n left. roll_inside k rules next (drop n w) last left))
   where
-    go : (r : Ahead) → Inside w r → ((next : Reel) (n left : ℕ) → Used (drop n w) (roll_by k rules next (drop n w) last left))
+    go : (r : AheadRead) → Inside w r → ((next : Reel) (n left : ℕ) → Used (drop n w) (roll_by k rules next (drop n w) last left))
         → Used w (ahead_by rules reel room (λ next n left. roll_by k rules next (drop n w) last left) r)
-    go (Packet p m n) s ih =
+    go (Ok (Packet p m n)) s ih =
         pick_either (Used w) (eqb (number_of reel.state.past p) 0)
         (λ e. omega (arith, ih (at_packet rules reel p m) n (room - length (lines_at rules reel p)), length-drop n w, s.1))
         (λ e. omega arith)
-    go (Wait d m n) s ih = s
-    go (End m) s ih = omega arith
-    go (Refused x m) s ih = omega arith
+    go (Ok (Wait d m n)) s ih = s
+    go (Ok (End m)) s ih = omega arith
+    go (Err r) s ih = omega arith
 
 pub take_inside : (reel : Reel) (w : List ℕ) (last : Bool) (room : ℕ) → (take_of reel w last room).used ≤ length w
 unfolding take_of
@@ -79,18 +79,18 @@ module _ (reel : Reel) (w : List ℕ) (last : Bool) (room : ℕ) (h : line_room 
   Moves : TakeOutcome → Type 0
   Moves k = k.ended ≡ false → 0 < k.used
 
-  moves_ahead : (rules : Rules) (on : Reel → ℕ → ℕ → TakeOutcome) (r : Ahead) → Inside w r → Wanting w last r
+  moves_ahead : (rules : Rules) (on : Reel → ℕ → ℕ → TakeOutcome) (r : AheadRead) → Inside w r → Wanting w last r
       → Moves (ahead_by rules reel room on r)
   unfolding Moves
-  moves_ahead rules on (Packet p m n) s t f =
+  moves_ahead rules on (Ok (Packet p m n)) s t f =
       pick_either Moves (eqb (number_of reel.state.past p) 0) (λ e g. omega (arith, s.0)) (λ e g. absurd (false_true (sym g))) f
-  moves_ahead rules on (Wait d m n) s t f = go (ℕ_discrete n 0)
+  moves_ahead rules on (Ok (Wait d m n)) s t f = go (ℕ_discrete n 0)
     where
       go : Dec (n ≡ 0) → 0 < n
       go (yes e) = absurd (omega (arith, t.1 e, full t.0))
       go (no k) = omega arith
-  moves_ahead rules on (End m) s t f = absurd (false_true (sym f))
-  moves_ahead rules on (Refused x m) s t f = absurd (false_true (sym f))
+  moves_ahead rules on (Ok (End m)) s t f = absurd (false_true (sym f))
+  moves_ahead rules on (Err r) s t f = absurd (false_true (sym f))
 
   pub take_moves : (take_of reel w last room).ended ≡ false → 0 < (take_of reel w last room).used
   unfolding Moves take_of roll_by

@@ -1,10 +1,8 @@
 -- One turn of a call: whatever ends what is left of the window, from the reel and the lines so far, ends the whole call (Loop). A packet
 -- that is taken (Here) is a turn of the measurement's one loop (timing's Running) with rows as lines; at all else the call stops.
-use Rattle.std.specs.Prelude.{◌≡◌, ◌∷◌, ◌+◌, ◌-◌, ◌≤◌, ◌<◌}
+use Rattle.std.specs.Prelude.{◌≡◌, ◌+◌, ◌-◌, ◌≤◌, ◌<◌, Ok, Err}
 use Rattle.laws.specs.Kit.{refl, sym, ap, subst, ◌∙◌, Bool, true, false, List, [], ℕ, zero, suc, arith}
 use Rattle.laws.specs.Kit.{length, take, drop, length-drop, length-append, length-sets, drop-drop, eqb, ltb, eq-eqb, ne_eqb, lt-ltb, le-ltb}
-use types.Run.{OneOf, miss}
-use denote.Enum.Declared.{tag_of}
 use Rattle.laws.specs.Choose.{pick}
 use Rattle.laws.specs.Lay.{Put}
 use Rattle.laws.proofs.Lay.{put_length, sets_join}
@@ -12,9 +10,8 @@ use Rattle.packet.specs.declared.Packet as packet
 use Rattle.packet.specs.Step.{number_of}
 use Rattle.text.specs.Lines.{line_room, Line, refusal_line}
 use Rattle.capture.specs.declared.Cursor.{Cursor}
-use Rattle.capture.specs.declared.Ahead.{Ahead}
-use Rattle.capture.specs.declared.Ahead.TheVariants.{Packet, Wait, End, Refused}
-use Rattle.capture.specs.contracts.Ahead.{the_type}
+use Rattle.capture.specs.Step.{AheadRead, ahead_packet, ahead_end, ahead_refused, ahead_wait}
+use Rattle.capture.specs.declared.Ahead.TheVariants.{Packet, Wait, End}
 use Rattle.capture.specs.Step.{between, ahead_of}
 use Rattle.capture.proofs.Ways.{rest_all}
 use Rattle.timing.specs.declared.Rules.{Rules}
@@ -34,6 +31,10 @@ use Rattle.reel.proofs.Shown.{Inside, ahead_inside}
 
 -- ---- one turn, by the definition
 
+-- no packet lies ahead
+abbrev pub NoPacket : AheadRead → Type 0
+NoPacket r = (p : packet.Packet) (m n : ℕ) → r ≡ ahead_packet p m n → ⊥
+
 module _ (rules : Rules) (last : Bool) where
   -- any number of turns that is enough
   roll_same : (k j : ℕ) (reel : Reel) (w : List ℕ) (room : ℕ) → length w < k → length w < j
@@ -46,40 +47,40 @@ module _ (rules : Rules) (last : Bool) where
       (go (ahead_of reel.setting reel.cursor w last) (ahead_inside reel.setting reel.cursor w last)
       (λ next n left some. roll_same k j next (drop n w) left (omega (arith, length-drop n w)) (omega (arith, length-drop n w))))
     where
-      go : (r : Ahead) → Inside w r
+      go : (r : AheadRead) → Inside w r
           → ((next : Reel) (n left : ℕ) → (0 < n) × (n ≤ length w)
           → roll_by k rules next (drop n w) last left ≡ roll_by j rules next (drop n w) last left)
           → ahead_by rules reel room (λ next n left. roll_by k rules next (drop n w) last left) r
           ≡ ahead_by rules reel room (λ next n left. roll_by j rules next (drop n w) last left) r
-      go (Packet p m n) s ih =
+      go (Ok (Packet p m n)) s ih =
           ap (λ (o : TakeOutcome). pick (eqb (number_of reel.state.past p) 0) (and_then n (lines_at rules reel p) o)
           (ends reel (refusal_line (number_of reel.state.past p) reel.state.past.packets)))
           (ih (at_packet rules reel p m) n (room - length (lines_at rules reel p)) s)
-      go (Wait d m n) s ih = refl
-      go (End m) s ih = refl
-      go (Refused x m) s ih = refl
+      go (Ok (Wait d m n)) s ih = refl
+      go (Ok (End m)) s ih = refl
+      go (Err r) s ih = refl
 
   module _ (reel : Reel) (w : List ℕ) (room : ℕ) where
     roll_full : room < line_room → roll_of rules reel w last room ≡ stays reel
     unfolding roll_by
     roll_full h = rw (lt-ltb room line_room h)
 
-    module _ (h : line_room ≤ room) {r : Ahead} (e : ahead_of reel.setting reel.cursor w last ≡ r) where
+    module _ (h : line_room ≤ room) {r : AheadRead} (e : ahead_of reel.setting reel.cursor w last ≡ r) where
       roll_ahead : roll_of rules reel w last room ≡ ahead_by rules reel room (λ next n left. roll_by (length w) rules next (drop n w) last left) r
       unfolding roll_by
       roll_ahead = rw (le-ltb room line_room h, e)
 
-      roll_stops : OneOf (1 ∷ 2 ∷ 3 ∷ []) (tag_of the_type r) → roll_of rules reel w last room ≡ stops_at r reel
+      roll_stops : NoPacket r → roll_of rules reel w last room ≡ stops_at r reel
       roll_stops k = roll_ahead ∙ go r k
         where
-          go : (r : Ahead) → OneOf (1 ∷ 2 ∷ 3 ∷ []) (tag_of the_type r)
+          go : (r : AheadRead) → NoPacket r
               → ahead_by rules reel room (λ next n left. roll_by (length w) rules next (drop n w) last left) r ≡ stops_at r reel
-          go (Packet p m n) k = absurd (miss (1 ∷ 2 ∷ 3 ∷ []) 0 tt k)
-          go (Wait d m n) k = refl
-          go (End m) k = refl
-          go (Refused x m) k = refl
+          go (Ok (Packet p m n)) k = absurd (k p m n refl)
+          go (Ok (Wait d m n)) k = refl
+          go (Ok (End m)) k = refl
+          go (Err r) k = refl
 
-      module _ {p : packet.Packet} {m n : ℕ} (f : r ≡ Packet p m n) where
+      module _ {p : packet.Packet} {m n : ℕ} (f : r ≡ ahead_packet p m n) where
         pub ahead_some : (0 < n) × (n ≤ length w)
         ahead_some = subst (Inside w) (e ∙ f) (ahead_inside reel.setting reel.cursor w last)
 
@@ -162,11 +163,11 @@ module _ {rules : Rules} {reel₀ : Reel} {w : List ℕ} {last : Bool} {out₀ :
     -- a turn at a packet that is taken
     pub record Here (p : packet.Packet) (m n : ℕ) : Type 0 where
       pub room : line_room ≤ length out - written
-      pub stands : ahead_of reel.setting reel.cursor (drop used w) last ≡ Packet p m n
+      pub stands : ahead_of reel.setting reel.cursor (drop used w) last ≡ ahead_packet p m n
       pub passed : number_of reel.state.past p ≡ 0
 
     -- the code looks at the same in the window that it lends
-    pub as_read : {r : Ahead} → r ≡ ahead_of reel.setting reel.cursor (take (length w - used) (drop used w)) last
+    pub as_read : {r : AheadRead} → r ≡ ahead_of reel.setting reel.cursor (take (length w - used) (drop used w)) last
         → ahead_of reel.setting reel.cursor (drop used w) last ≡ r
     as_read f = sym (f ∙ ap (λ (m : List ℕ). ahead_of reel.setting reel.cursor m last) (rest_all w used))
 
@@ -174,15 +175,15 @@ module _ {rules : Rules} {reel₀ : Reel} {w : List ℕ} {last : Bool} {out₀ :
     Ended r after = TakeGives (roll_of rules reel₀ w last (length out₀)) 0 0 out₀ r after
 
     -- what is used is within 64 bits
-    pub ahead_fits : {r : Ahead} → length w < 18446744073709551616 → ahead_of reel.setting reel.cursor (drop used w) last ≡ r
+    pub ahead_fits : {r : AheadRead} → length w < 18446744073709551616 → ahead_of reel.setting reel.cursor (drop used w) last ≡ r
         → AheadFits r used
     ahead_fits {r} h e = go r (subst (Inside (drop used w)) e (ahead_inside reel.setting reel.cursor (drop used w) last))
       where
-        go : (r : Ahead) → Inside (drop used w) r → AheadFits r used
-        go (Packet p m n) s = tt
-        go (Wait d m n) s = omega (arith, length-drop used w, l.inside)
-        go (End m) s = tt
-        go (Refused x m) s = tt
+        go : (r : AheadRead) → Inside (drop used w) r → AheadFits r used
+        go (Ok (Packet p m n)) s = tt
+        go (Ok (Wait d m n)) s = omega (arith, length-drop used w, l.inside)
+        go (Ok (End m)) s = tt
+        go (Err r) s = tt
 
     module _ {r : TakeAnswer} {after : List ℕ} where
       stops : {k : TakeOutcome} → roll_of rules reel (drop used w) last (length out - written) ≡ k → TakeGives k used written out r after
@@ -192,11 +193,11 @@ module _ {rules : Rules} {reel₀ : Reel} {w : List ℕ} {last : Bool} {out₀ :
       pub stops_full : length out - written < line_room → TakeGives (stays reel) used written out r after → Ended r after
       stops_full h = stops (roll_full rules last reel (drop used w) _ h)
 
-      module _ {a : Ahead} (h : line_room ≤ length out - written) (e : ahead_of reel.setting reel.cursor (drop used w) last ≡ a) where
-        pub stops_ahead : OneOf (1 ∷ 2 ∷ 3 ∷ []) (tag_of the_type a) → TakeGives (stops_at a reel) used written out r after → Ended r after
+      module _ {a : AheadRead} (h : line_room ≤ length out - written) (e : ahead_of reel.setting reel.cursor (drop used w) last ≡ a) where
+        pub stops_ahead : NoPacket a → TakeGives (stops_at a reel) used written out r after → Ended r after
         stops_ahead k = stops (roll_stops rules last reel (drop used w) _ h e k)
 
-        pub stops_refused : {p : packet.Packet} {m n number : ℕ} → a ≡ Packet p m n → number ≡ number_of reel.state.past p
+        pub stops_refused : {p : packet.Packet} {m n number : ℕ} → a ≡ ahead_packet p m n → number ≡ number_of reel.state.past p
             → (number ≡ 0 → ⊥) → TakeGives (ends reel (refusal_line number reel.state.past.packets)) used written out r after
             → Ended r after
         stops_refused i f some = stops (roll_refuses rules last reel (drop used w) _ h e i _ f some)
@@ -258,7 +259,7 @@ module _ (reel : Reel) (w : List ℕ) (last : Bool) (out : List ℕ) {r : TakeAn
 -- ---- where the call stops
 
 module _ (reel : Reel) {used written next : ℕ} {out after : List ℕ} where
-  pub stop_packet : {a : Ahead} {p : packet.Packet} {m n : ℕ} → a ≡ Packet p m n → written ≤ length out
+  pub stop_packet : {a : AheadRead} {p : packet.Packet} {m n : ℕ} → a ≡ ahead_packet p m n → written ≤ length out
       → Line (line_ahead reel a) written out next after
       → TakeGives (stops_at a reel) used written out (record { reel = reel; used = used; written = next; ended = false }) after
   unfolding line_ahead
@@ -273,8 +274,8 @@ module _ (reel : Reel) {used written next : ℕ} {out after : List ℕ} where
         fits = omega (arith, k.put.next);
       })
 
-  pub stop_wait : {a : Ahead} {d : Cursor} {m n total : ℕ} {passed : Reel} → a ≡ Wait d m n → written ≤ length out
-      → Line (line_ahead reel a) written out next after → passed ≡ (stops_at (Wait d m n) reel).reel → total ≡ used + n
+  pub stop_wait : {a : AheadRead} {d : Cursor} {m n total : ℕ} {passed : Reel} → a ≡ ahead_wait d m n → written ≤ length out
+      → Line (line_ahead reel a) written out next after → passed ≡ (stops_at (ahead_wait d m n) reel).reel → total ≡ used + n
       → TakeGives (stops_at a reel) used written out (record { reel = passed; used = total; written = next; ended = false }) after
   unfolding line_ahead
   stop_wait {a} e h l f g =
@@ -288,11 +289,12 @@ module _ (reel : Reel) {used written next : ℕ} {out after : List ℕ} where
         fits = omega (arith, k.put.next);
       })
 
-  pub stop_end : {a : Ahead} {m : ℕ} → a ≡ End m → written + line_room ≤ length out → Line (line_ahead reel a) written out next after
+  pub stop_end : {a : AheadRead} {m : ℕ} → a ≡ ahead_end m → written + line_room ≤ length out
+      → Line (line_ahead reel a) written out next after
       → TakeGives (stops_at a reel) used written out (record { reel = reel; used = used; written = next; ended = true }) after
   stop_end {a} e h l = rw e (line_ends h (rw e at l))
 
-  pub stop_refused : {a : Ahead} {number m : ℕ} → a ≡ Refused number m → written + line_room ≤ length out
+  pub stop_refused : {a : AheadRead} {number m : ℕ} → a ≡ ahead_refused number m → written + line_room ≤ length out
       → Line (line_ahead reel a) written out next after
       → TakeGives (stops_at a reel) used written out (record { reel = reel; used = used; written = next; ended = true }) after
   stop_refused {a} e h l = rw e (line_ends h (rw e at l))

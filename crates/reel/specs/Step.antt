@@ -1,15 +1,14 @@
 -- A capture in pieces, step by step: what its start answers, and what a call takes of a window and writes; what the contracts cite.
-use Rattle.std.specs.Prelude.{◌≡◌, ◌++◌, ◌+◌, ◌-◌, ◌≤◌, ◌<◌, Err, Ok}
+use Rattle.std.specs.Prelude.{◌≡◌, ◌++◌, ◌+◌, ◌-◌, ◌≤◌, ◌<◌, Result, Err, Ok, Option, Some, None}
 use Rattle.laws.specs.Kit.{Bool, true, false, List, [], ℕ, zero, suc, ltb, leb, eqb, length, drop, sets}
 use Rattle.laws.specs.Choose.{pick}
 use Rattle.packet.specs.declared.Packet as packet
 use Rattle.packet.specs.Step.{number_of}
 use Rattle.text.specs.Lines.{refusal_line, line_room}
 use Rattle.capture.specs.declared.Cursor.{Cursor}
-use Rattle.capture.specs.declared.Opened.{Opened}
-use Rattle.capture.specs.declared.Opened.TheVariants as opened
-use Rattle.capture.specs.declared.Ahead.{Ahead}
-use Rattle.capture.specs.declared.Ahead.TheVariants.{Packet, Wait, End, Refused}
+use Rattle.capture.specs.Step.{Opened, ahead_end, ahead_wait}
+use Rattle.capture.specs.Step.{AheadRead}
+use Rattle.capture.specs.declared.Ahead.TheVariants.{Packet, Wait, End}
 use Rattle.capture.specs.Step.{opened_of, between, ahead_of, rest_from}
 use Rattle.timing.specs.declared.Rules.{Rules}
 use Rattle.timing.specs.declared.State.{State}
@@ -21,16 +20,27 @@ use Rattle.printer.specs.Paper.{row_lines}
 use Rattle.reel.specs.declared.Asked.{Asked}
 use Rattle.reel.specs.declared.Reel.{Reel}
 use Rattle.reel.specs.declared.TakeAnswer.{TakeAnswer}
-use Rattle.reel.specs.declared.Threaded.{Threaded}
-use Rattle.reel.specs.declared.Threaded.TheVariants as threaded
 use Rattle.reel.specs.Paper.{counted, captured_line, lines_of}
 
 -- ---- the start of a capture
 
+-- R16: more bytes are wanted, or the reel behind the header, or the number of the refusal
+abbrev pub Threaded : Type 0
+Threaded = Result (Option Reel) ℕ
+
+abbrev pub threaded_ready : Reel → Threaded
+threaded_ready reel = Ok (Some reel)
+
+abbrev pub threaded_more : Threaded
+threaded_more = Ok None
+
+abbrev pub threaded_refused : ℕ → Threaded
+threaded_refused number = Err number
+
 abbrev pub open_by : Asked → State → Opened → Threaded
-open_by a s opened.More = threaded.More
-open_by a s opened.Unknown = threaded.Refused 30
-open_by a s (opened.Capture f) = threaded.Ready (record {
+open_by a s (Ok None) = threaded_more
+open_by a s (Err number) = threaded_refused number
+open_by a s (Ok (Some f)) = threaded_ready (record {
   setting = record { format = f; port = a.port; offset = a.offset };
   cursor = between;
   state = s;
@@ -42,8 +52,8 @@ unfoldable pub ready_of : Asked → State → List ℕ → Bool → Threaded
 ready_of a s w last = open_by a s (opened_of w last)
 
 abbrev pub set_up_by : Asked → List ℕ → Bool → SetUp → Threaded
-set_up_by a w last (Ok s) = pick (leb a.offset 99) (ready_of a s w last) (threaded.Refused 33)
-set_up_by a w last (Err number) = threaded.Refused number
+set_up_by a w last (Ok s) = pick (leb a.offset 99) (ready_of a s w last) (threaded_refused 33)
+set_up_by a w last (Err number) = threaded_refused number
 
 unfoldable pub begin_of : Asked → List ℕ → Bool → Threaded
 begin_of a w last = set_up_by a w last (stated_up a.stated)
@@ -68,11 +78,11 @@ passed_by reel c skips = record {
 }
 
 -- the line of what lies ahead, where that is no packet
-unfoldable pub line_ahead : Reel → Ahead → List ℕ
-line_ahead reel (Packet p m n) = []
-line_ahead reel (Wait d m n) = []
-line_ahead reel (End m) = captured_line reel.state (counted (reel.records + m)) (counted (reel.skipped + m))
-line_ahead reel (Refused number m) = refusal_line number (counted (reel.records + m))
+unfoldable pub line_ahead : Reel → AheadRead → List ℕ
+line_ahead reel (Ok (Packet p m n)) = []
+line_ahead reel (Ok (Wait d m n)) = []
+line_ahead reel (Ok (End m)) = captured_line reel.state (counted (reel.records + m)) (counted (reel.skipped + m))
+line_ahead reel (Err r) = refusal_line r.number (counted (reel.records + r.skipped))
 
 abbrev pub stays : Reel → TakeOutcome
 stays reel = record { reel = reel; used = 0; text = []; ended = false }
@@ -80,11 +90,11 @@ stays reel = record { reel = reel; used = 0; text = []; ended = false }
 abbrev pub ends : Reel → List ℕ → TakeOutcome
 ends reel line = record { reel = reel; used = 0; text = line; ended = true }
 
-abbrev pub stops_at : Ahead → Reel → TakeOutcome
-stops_at (Packet p m n) reel = stays reel
-stops_at (Wait d m n) reel = record { reel = passed_by reel d m; used = n; text = []; ended = false }
-stops_at (End m) reel = ends reel (line_ahead reel (End m))
-stops_at (Refused number m) reel = ends reel (line_ahead reel (Refused number m))
+abbrev pub stops_at : AheadRead → Reel → TakeOutcome
+stops_at (Ok (Packet p m n)) reel = stays reel
+stops_at (Ok (Wait d m n)) reel = record { reel = passed_by reel d m; used = n; text = []; ended = false }
+stops_at (Ok (End m)) reel = ends reel (line_ahead reel (ahead_end m))
+stops_at (Err r) reel = ends reel (line_ahead reel (Err r))
 
 -- some bytes used and lines written, and then the rest
 abbrev pub and_then : ℕ → List ℕ → TakeOutcome → TakeOutcome
@@ -113,11 +123,11 @@ packet_by rules reel room on p m n =
     (and_then n (lines_at rules reel p) (on (at_packet rules reel p m) n (room - length (lines_at rules reel p))))
     (ends reel (refused_line reel p))
 
-abbrev pub ahead_by : Rules → Reel → ℕ → (Reel → ℕ → ℕ → TakeOutcome) → Ahead → TakeOutcome
-ahead_by rules reel room on (Packet p m n) = packet_by rules reel room on p m n
-ahead_by rules reel room on (Wait d m n) = stops_at (Wait d m n) reel
-ahead_by rules reel room on (End m) = stops_at (End m) reel
-ahead_by rules reel room on (Refused number m) = stops_at (Refused number m) reel
+abbrev pub ahead_by : Rules → Reel → ℕ → (Reel → ℕ → ℕ → TakeOutcome) → AheadRead → TakeOutcome
+ahead_by rules reel room on (Ok (Packet p m n)) = packet_by rules reel room on p m n
+ahead_by rules reel room on (Ok (Wait d m n)) = stops_at (ahead_wait d m n) reel
+ahead_by rules reel room on (Ok (End m)) = stops_at (ahead_end m) reel
+ahead_by rules reel room on (Err r) = stops_at (Err r) reel
 
 -- packet by packet, by at most so many: while there is room for a line, until more is wanted or the last line is written
 unfoldable pub roll_by : ℕ → Rules → Reel → List ℕ → Bool → ℕ → TakeOutcome
@@ -137,11 +147,11 @@ take_of reel w last room =
     (pick (in_range reel.state) (roll_of (rules_of reel.state.numbers) reel w last room) (ends reel (refusal_line 9 0)))
 
 -- what is used lies within 64 bits
-abbrev pub AheadFits : Ahead → ℕ → Type 0
-AheadFits (Packet p m n) used = Unit
-AheadFits (Wait d m n) used = used + n < 18446744073709551616
-AheadFits (End m) used = Unit
-AheadFits (Refused number m) used = Unit
+abbrev pub AheadFits : AheadRead → ℕ → Type 0
+AheadFits (Ok (Packet p m n)) used = Unit
+AheadFits (Ok (Wait d m n)) used = used + n < 18446744073709551616
+AheadFits (Ok (End m)) used = Unit
+AheadFits (Err r) used = Unit
 
 -- an answer does this, with so many bytes used and written before
 pub record TakeGives (k : TakeOutcome) (used written : ℕ) (before : List ℕ) (r : TakeAnswer) (after : List ℕ) : Type 0 where

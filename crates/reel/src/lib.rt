@@ -7,12 +7,16 @@ ghost use Rattle.std.specs.Prelude.{◌≡◌, ◌+◌, ◌≤◌};
 ghost use Rattle.laws.specs.Kit.{length};
 ghost use Rattle.text.specs.Lines.{line_room, Line, refusal_line};
 ghost use Rattle.timing.specs.Feed.{Going};
+ghost use Rattle.refusal.specs.Refusal.{number};
+ghost use Rattle.refusal.specs.Told.{by_number};
+ghost use Rattle.capture.specs.Step.{ahead_told};
 ghost use Rattle.reel.specs.Paper.{captured_line};
 ghost use Rattle.reel.specs.Step.{ready_of, begin_of, passed_by, line_ahead, stops_at, ends, roll_of, take_of, AheadFits, TakeGives};
 
-use capture::{Ahead, Cursor, Opened, Setting};
+use capture::{Ahead, Cursor, RefusedAhead, Setting};
+use refusal::Refusal;
 use text::LINE;
-use timing::{Judged, Rules, SetUp, State, Stated};
+use timing::{Rules, State, Stated};
 
 // What the program is asked: the stream as it is stated, its port, and the offset of the capture's clock.
 #[derive(Clone, Copy, Debug, PartialEq, Eq)]
@@ -32,14 +36,6 @@ pub struct Reel {
     pub skipped: u64,
 }
 
-// The start of a capture: more bytes are wanted; its refusal; or the reel behind its header.
-#[derive(Clone, Copy, Debug, PartialEq, Eq)]
-pub enum Threaded {
-    More,
-    Refused { number: u8 },
-    Ready(Reel),
-}
-
 // The reel after a piece: so many of its bytes were used, and so many bytes of whole lines were written. `ended`: the last line is among
 // them.
 #[derive(Clone, Copy, Debug, PartialEq, Eq)]
@@ -50,41 +46,38 @@ pub struct TakeAnswer {
     pub ended: bool,
 }
 
-// Behind the header, with the state of a stream that set-up accepts.
-fn ready(asked: Asked, state: State, window: &[u8], last: bool) -> Threaded
-    ensures { result ≡ ready_of asked state window.now last }
+// Behind the header, with the state of a stream that set-up accepts; or none where more bytes are wanted; or 30.
+#[tactic(auto, unfolding(crate::specs::Step::ready_of))]
+fn ready(asked: Asked, state: State, window: &[u8], last: bool) -> Result<Option<Reel>, Refusal>
+    ensures { by_number result ≡ ready_of asked state window.now last }
 {
-    let opened = capture::open(window, last);
-    match opened {
-        Opened::More => Threaded::More,
-        Opened::Unknown => Threaded::Refused { number: 30 },
-        Opened::Capture { format } => Threaded::Ready(Reel {
-            setting: Setting {
-                format,
-                port: asked.port,
-                offset: asked.offset,
-            },
-            cursor: Cursor::start(),
-            state,
-            records: 0,
-            skipped: 0,
-        }),
-    }
+    let Some(format) = capture::open(window, last)? else {
+        return Ok(None);
+    };
+    Ok(Some(Reel {
+        setting: Setting {
+            format,
+            port: asked.port,
+            offset: asked.offset,
+        },
+        cursor: Cursor::start(),
+        state,
+        records: 0,
+        skipped: 0,
+    }))
 }
 
-// A capture from its first byte, of which `window` shows the front; `last`: no more will come. Set-up and the offset are asked first.
-pub fn begin(asked: Asked, window: &[u8], last: bool) -> Threaded
-    ensures { result ≡ begin_of asked window.now last }
+// A capture from its first byte, of which `window` shows the front: the reel behind its header, or none where more bytes are wanted; or
+// its refusal: what set-up refuses, 33 and 30 are asked in this order (R16). `last`: no more will come.
+#[tactic(auto, unfolding(crate::specs::Step::begin_of))]
+pub fn begin(asked: Asked, window: &[u8], last: bool) -> Result<Option<Reel>, Refusal>
+    ensures { by_number result ≡ begin_of asked window.now last }
 {
-    match asked.stated.set_up() {
-        SetUp::Fresh(state) => {
-            if 99 < asked.offset {
-                return Threaded::Refused { number: 33 };
-            }
-            ready(asked, state, window, last)
-        }
-        SetUp::Refused(number) => Threaded::Refused { number },
+    let state = asked.stated.set_up()?;
+    if 99 < asked.offset {
+        return Err(Refusal::Offset);
     }
+    ready(asked, state, window, last)
 }
 
 // The counts, the peak, the verdict, and the records.
@@ -93,7 +86,7 @@ fn put_sum(s: State, records: u64, skipped: u64, out: &mut [u8], at: usize) -> u
     ensures { Line (captured_line s records skipped) at out.old result out.new }
 {
     match s.verdict() {
-        Judged::Given(v) => text::put_capture(
+        Ok(v) => text::put_capture(
             s.past.packets,
             s.frames.closed,
             s.bucket.peak,
@@ -104,7 +97,7 @@ fn put_sum(s: State, records: u64, skipped: u64, out: &mut [u8], at: usize) -> u
             out,
             at,
         ),
-        Judged::Refused(number) => text::put_refusal(number, 0, out, at),
+        Err(refusal) => text::put_refusal(refusal.number(), 0, out, at),
     }
 }
 
@@ -122,19 +115,21 @@ impl Reel {
     }
 
     // Where no packet lies ahead: the bytes used there, and whether the capture ends.
-    fn put_ahead(self, ahead: Ahead, out: &mut [u8], at: usize) -> usize
+    #[tactic(auto, unfolding(crate::specs::Step::line_ahead))]
+    fn put_ahead(self, ahead: Result<Ahead, RefusedAhead>, out: &mut [u8], at: usize) -> usize
         requires { at + line_room ≤ length out.old }
-        ensures { Line (line_ahead self ahead) at out.old result out.new }
+        ensures { Line (line_ahead self (ahead_told ahead)) at out.old result out.new }
     {
         match ahead {
-            Ahead::Packet { .. } | Ahead::Wait { .. } => at,
-            Ahead::End { skipped } => {
+            Ok(Ahead::Packet { .. } | Ahead::Wait { .. }) => at,
+            Ok(Ahead::End { skipped }) => {
                 let records = self.records.wrapping_add(skipped);
                 let all_skipped = self.skipped.wrapping_add(skipped);
                 put_sum(self.state, records, all_skipped, out, at)
             }
-            Ahead::Refused { number, skipped } => {
-                text::put_refusal(number, self.records.wrapping_add(skipped), out, at)
+            Err(r) => {
+                let place = self.records.wrapping_add(r.skipped);
+                text::put_refusal(r.refusal.number(), place, out, at)
             }
         }
     }
@@ -142,29 +137,37 @@ impl Reel {
 
 impl Reel {
     // The call stops there: bytes of a record that is not all shown are used, and the last line is written if there is one.
-    fn stop(self, ahead: Ahead, used: usize, out: &mut [u8], written: usize) -> TakeAnswer
-        requires { (written + line_room ≤ length out.old) × AheadFits ahead used }
-        ensures { TakeGives (stops_at ahead self) used written out.old result out.new }
+    fn stop(
+        self,
+        ahead: Result<Ahead, RefusedAhead>,
+        used: usize,
+        out: &mut [u8],
+        written: usize,
+    ) -> TakeAnswer
+        requires { (written + line_room ≤ length out.old) × AheadFits (ahead_told ahead) used }
+        ensures { TakeGives (stops_at (ahead_told ahead) self) used written out.old result out.new }
     {
         let next = self.put_ahead(ahead, out, written);
         match ahead {
-            Ahead::Packet { .. } => TakeAnswer {
+            Ok(Ahead::Packet { .. }) => TakeAnswer {
                 reel: self,
                 used,
                 written: next,
                 ended: false,
             },
-            Ahead::Wait {
-                cursor,
-                skipped,
-                used: more,
-            } => TakeAnswer {
+            Ok(
+                Ahead::Wait {
+                    cursor,
+                    skipped,
+                    used: more,
+                },
+            ) => TakeAnswer {
                 reel: self.passed(cursor, skipped),
                 used: used + more,
                 written: next,
                 ended: false,
             },
-            Ahead::End { .. } | Ahead::Refused { .. } => TakeAnswer {
+            Ok(Ahead::End { .. }) | Err(_) => TakeAnswer {
                 reel: self,
                 used,
                 written: next,
@@ -176,16 +179,16 @@ impl Reel {
     // A refusal ends the call.
     fn refuse(
         self,
-        number: u8,
+        refusal: Refusal,
         place: u64,
         used: usize,
         out: &mut [u8],
         written: usize,
     ) -> TakeAnswer
         requires { written + line_room ≤ length out.old }
-        ensures { TakeGives (ends self (refusal_line number place)) used written out.old result out.new }
+        ensures { TakeGives (ends self (refusal_line (number refusal) place)) used written out.old result out.new }
     {
-        let next = text::put_refusal(number, place, out, written);
+        let next = text::put_refusal(refusal.number(), place, out, written);
         TakeAnswer {
             reel: self,
             used,
@@ -209,11 +212,13 @@ impl Reel {
         let mut written = 0;
         while LINE <= out.len() - written {
             let ahead = cursor.ahead(self.setting, &window[used..], last);
-            let Ahead::Packet {
-                packet,
-                skipped: skips,
-                used: more,
-            } = ahead
+            let Ok(
+                Ahead::Packet {
+                    packet,
+                    skipped: skips,
+                    used: more,
+                },
+            ) = ahead
             else {
                 let reel = Reel {
                     cursor,
@@ -224,8 +229,7 @@ impl Reel {
                 };
                 return reel.stop(ahead, used, out, written);
             };
-            let number = s.past.refusal(packet);
-            if number != 0 {
+            if let Err(refusal) = s.past.admit(packet) {
                 let reel = Reel {
                     cursor,
                     state: s,
@@ -233,7 +237,7 @@ impl Reel {
                     skipped,
                     ..self
                 };
-                return reel.refuse(number, s.past.packets, used, out, written);
+                return reel.refuse(refusal, s.past.packets, used, out, written);
             }
             s = s.arrive(rules, packet.time, packet.stamp);
             if packet.marker == 1 {
@@ -274,7 +278,7 @@ impl Reel {
             };
         }
         if !self.state.in_range() {
-            return self.refuse(9, 0, 0, out, 0);
+            return self.refuse(Refusal::State, 0, 0, out, 0);
         }
         self.run(self.state.numbers.rules(), window, last, out)
     }

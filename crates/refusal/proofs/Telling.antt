@@ -1,6 +1,6 @@
 -- No refusal has the number 0, and two that have one number are one: so an answer that is told by its number is one answer. By the table
 -- read backwards: each number names one refusal or none.
-use Rattle.std.specs.Prelude.{◌≡◌, ◌∷◌, ℕ, List, [], Option, Some, None, Result, Ok, Err, get_or, length, refl}
+use Rattle.std.specs.Prelude.{◌≡◌, ℕ, Some, None, Result, Ok, Err, refl}
 use Rattle.std.specs.Prelude.{◌≤◌, ◌<◌, ◌+◌, ◌-◌, zero, suc}
 use Rattle.std.proofs.Common.{ap, sym, ◌∙◌, arith}
 use Rattle.std.proofs.Math.ListN.{get_or-eq_default}
@@ -12,7 +12,7 @@ use Rattle.refusal.specs.declared.Refusal.TheVariants.{Rate, Schedule, Class, He
 use Rattle.refusal.specs.declared.Refusal.TheVariants.{Marker, Earlier, Late, Packets, Room, Figure, Version, Cut, Kind, Misplaced}
 use Rattle.refusal.specs.declared.Refusal.TheVariants.{FileRoom, Header, CutCapture, SubSecond, Offset}
 use Rattle.refusal.specs.Refusal.{number, named, table}
-use Rattle.refusal.specs.Told.{Numbered, number_in, by_number, numbered, told}
+use Rattle.refusal.specs.Told.{Numbered, number_in, numbered, told}
 
 named_back : (r : Refusal) → named (number r) ≡ Some r
 named_back Rate = refl

@@ -48,9 +48,9 @@ abbrev pub named : ℕ → Option Refusal
 named n = get_or table n None
 
 -- the refusal that a number names, or the number itself
+abbrev pub named_as : ℕ → Option Refusal → Result Refusal UnknownNumber
+named_as code (Some r) = Ok r
+named_as code None = Err (record { 0 = code })
+
 abbrev pub named_by : ℕ → Result Refusal UnknownNumber
-named_by code = of_named (named code)
-  where
-    of_named : Option Refusal → Result Refusal UnknownNumber
-    of_named (Some r) = Ok r
-    of_named None = Err (record { 0 = code })
+named_by code = named_as code (named code)

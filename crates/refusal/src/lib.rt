@@ -99,6 +99,15 @@ impl Refusal {
     }
 }
 
+/// What a program in C is answered.
+impl From<Refusal> for u32 {
+    ghost from_gives = { λ r n. n ≡ number r };
+
+    fn from(refusal: Refusal) -> u32 {
+        u32::from(refusal.number())
+    }
+}
+
 /// A number that no refusal has.
 #[derive(Clone, Copy, Debug, PartialEq, Eq)]
 pub struct UnknownNumber(pub u8);

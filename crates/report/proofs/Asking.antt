@@ -19,15 +19,15 @@ use Rattle.timing.specs.Answers.{summary_width, summary_of}
 use Rattle.timing.proofs.Scanning.{numbers_length, scan_runs}
 use Rattle.record.specs.declared.FileNumbers.{FileNumbers}
 use Rattle.record.specs.Paper.{resolved, Heading, Packets, File, file, refused, file_of, file_in}
-use Rattle.record.specs.Walk.{numbers_of, as_checked, checked_of, checked_fine, checked_refused}
+use Rattle.record.specs.declared.CheckedFile.{CheckedFile}
+use Rattle.record.specs.Walk.{numbers_of, as_checked, checked_of, checked_fine, checked_refused, Checked}
 use Rattle.record.specs.Write.{file_length}
 use Rattle.record.proofs.Writing.{length_file}
 use Rattle.record.proofs.Editions.{known_edition, accepted_edition}
 use Rattle.limits.specs.Paper.{profile_of}
 use Rattle.limits.proofs.Editions.{in_known}
 use Rattle.record.proofs.ReadWrite.{FileHolds, file_holds, file_again}
-use Rattle.report.specs.declared.Asked.{Asked}
-use Rattle.report.specs.declared.Asked.TheVariants.{Fine, Refused}
+use Rattle.report.specs.Step.{Asked, not_asked}
 use Rattle.report.specs.Paper.{stream_of, state_of, rows_of, report_of, in_bytes, encoded, bytes_for, answer, answered, answer_of}
 use Rattle.report.specs.Paper.{number_bytes, room_for, room_of, filled, filled_by}
 use Rattle.report.specs.Step.{needed_behind, needed, stream_in, as_asked, asked_of, asked_number, asked_offset, packets_of, MeasureAsks, MeasureGives}
@@ -99,6 +99,10 @@ pub record FineFile (edition : ℕ) (s : List ℕ) (x : FileNumbers) (closed : �
   pub resolves : numbers_of told ≡ x
   pub as_many : count (closes_at ps) (length ps) ≡ closed
 
+-- two files that are fine alike are alike
+ok_same : {a b : CheckedFile} → ◌≡◌ {A = Checked} (Ok a) (Ok b) → a ≡ b
+ok_same e = cc
+
 module _ (edition : ℕ) (s : List ℕ) where
   checked_file : (x : FileNumbers) (packets closed : ℕ) → checked_of edition s ≡ checked_fine x packets closed → FineFile edition s x closed
   unfolding checked_of
@@ -106,7 +110,9 @@ module _ (edition : ℕ) (s : List ℕ) where
     where
       go : (f : File) → file_in edition s ≡ f → as_checked f ≡ checked_fine x packets closed → FineFile edition s x closed
       go (refused m p) g e = let z : ◌≡◌ {A = ℕ} 0 1 = cc in absurd (omega arith)
-      go (file y ps) g e = record { told = y; ps = ps; is_file = g; resolves = cc; as_many = cc }
+      go (file y ps) g e =
+          let same = ok_same e in
+          record { told = y; ps = ps; is_file = g; resolves = ap (λ (c : CheckedFile). c.numbers) same; as_many = ap (λ (c : CheckedFile). c.closed) same }
 
   -- what is known of a file that an edition leaves accepted
   pub holds_in : (y : Heading) (ps : List Packet) → file_in edition s ≡ file y ps → FileHolds s y ps
@@ -156,28 +162,28 @@ room_is edition s w ps e =
 -- ---- what is asked
 
 module _ (edition : ℕ) (s : List ℕ) (room : ℕ) where
-  pub asked_refused : (n o : ℕ) → checked_of edition s ≡ checked_refused n o → Refused n o ≡ asked_of edition s room
+  pub asked_refused : (n o : ℕ) → checked_of edition s ≡ checked_refused n o → not_asked n o ≡ asked_of edition s room
   unfolding checked_of asked_of
   asked_refused n o e = go (file_in edition s) e
     where
-      go : (f : File) → as_checked f ≡ checked_refused n o → Refused n o ≡ as_asked edition (length s) room f
+      go : (f : File) → as_checked f ≡ checked_refused n o → not_asked n o ≡ as_asked edition (length s) room f
       go (file x ps) e = let z : ◌≡◌ {A = ℕ} 0 1 = cc in absurd (omega arith)
       go (refused m p) e = cc
 
   asked_by : (x : FileNumbers) (packets closed : ℕ) → checked_of edition s ≡ checked_fine x packets closed
-      → pick (leb (needed closed) room) (Fine (stream_in edition x)) (Refused 15 (length s)) ≡ asked_of edition s room
+      → pick (leb (needed closed) room) (Ok (stream_in edition x)) (not_asked 15 (length s)) ≡ asked_of edition s room
   unfolding asked_of
   asked_by x packets closed e =
       let f = checked_file edition s x packets closed e in
       sym (ap (as_asked edition (length s) room) f.is_file ∙ rw (fine_long edition s x closed f)
-      (ap (λ (y : FileNumbers). pick (leb (needed closed) room) (Fine (stream_in edition y)) (Refused 15 (length s))) f.resolves))
+      (ap (λ (y : FileNumbers). pick (leb (needed closed) room) (Ok (stream_in edition y)) (not_asked 15 (length s))) f.resolves))
 
   pub asked_room : (x : FileNumbers) (packets closed : ℕ) → checked_of edition s ≡ checked_fine x packets closed → leb (needed closed) room ≡ true
-      → Fine (stream_in edition x) ≡ asked_of edition s room
+      → Ok (stream_in edition x) ≡ asked_of edition s room
   asked_room x packets closed e t = sym (rw t) ∙ asked_by x packets closed e
 
   pub asked_15 : (x : FileNumbers) (packets closed : ℕ) → checked_of edition s ≡ checked_fine x packets closed → leb (needed closed) room ≡ false
-      → Refused 15 (length s) ≡ asked_of edition s room
+      → not_asked 15 (length s) ≡ asked_of edition s room
   asked_15 x packets closed e t = sym (rw t) ∙ asked_by x packets closed e
 
   -- a file that is fine, with room for its report
@@ -188,16 +194,16 @@ module _ (edition : ℕ) (s : List ℕ) (room : ℕ) where
     pub enough : length (bytes_for edition written ps) ≤ room
     pub stream : stream_of edition written ≡ x
 
-  pub asked_fine : (x : StreamNumbers) → asked_of edition s room ≡ Fine x → Fits x
+  pub asked_fine : (x : StreamNumbers) → asked_of edition s room ≡ Ok x → Fits x
   unfolding asked_of
   asked_fine x e = go (file_in edition s) refl e
     where
-      go : (f : File) → file_in edition s ≡ f → as_asked edition (length s) room f ≡ Fine x → Fits x
+      go : (f : File) → file_in edition s ≡ f → as_asked edition (length s) room f ≡ Ok x → Fits x
       go (refused m p) g e = let z : ◌≡◌ {A = ℕ} 0 1 = cc in absurd (omega arith)
       go (file y ps) g e = by (leb (length (bytes_for edition y ps)) room) refl e
         where
           by : (t : Bool) → leb (length (bytes_for edition y ps)) room ≡ t
-              → pick t (Fine (stream_of edition y)) (Refused 15 (length s)) ≡ Fine x → Fits x
+              → pick t (Ok (stream_of edition y)) (not_asked 15 (length s)) ≡ Ok x → Fits x
           by true q e = record { written = y; ps = ps; is_file = g; enough = leb-true _ _ q; stream = cc }
           by false q e = let z : ◌≡◌ {A = ℕ} 0 1 = cc in absurd (omega arith)
 
@@ -212,8 +218,8 @@ module _ (edition : ℕ) (s : List ℕ) (room : ℕ) where
       go (file y ps) = by (leb (length (bytes_for edition y ps)) room)
         where
           by : (t : Bool) → pick t (answer 0 0) (answer 15 (length s))
-              ≡ answer (asked_number (pick t (Fine (stream_of edition y)) (Refused 15 (length s))))
-              (asked_offset (pick t (Fine (stream_of edition y)) (Refused 15 (length s))))
+              ≡ answer (asked_number (pick t (Ok (stream_of edition y)) (not_asked 15 (length s))))
+              (asked_offset (pick t (Ok (stream_of edition y)) (not_asked 15 (length s))))
           by true = refl
           by false = refl
 
@@ -237,15 +243,15 @@ module _ (edition : ℕ) (s : List ℕ) (room : ℕ) where
 
 -- ---- the lent bytes
 
-pub refused_leaves : (edition : ℕ) (s out : List ℕ) (n o : ℕ) → asked_of edition s (length out) ≡ Refused n o → out ≡ filled_by edition s out
+pub refused_leaves : (edition : ℕ) (s out : List ℕ) (n o : ℕ) → asked_of edition s (length out) ≡ not_asked n o → out ≡ filled_by edition s out
 unfolding asked_of filled_by
 refused_leaves edition s out n o e = go (file_in edition s) e
   where
-    go : (f : File) → as_asked edition (length s) (length out) f ≡ Refused n o → out ≡ filled edition out f
+    go : (f : File) → as_asked edition (length s) (length out) f ≡ not_asked n o → out ≡ filled edition out f
     go (refused m p) e = refl
     go (file y ps) e = by (leb (length (bytes_for edition y ps)) (length out)) e
       where
-        by : (t : Bool) → pick t (Fine (stream_of edition y)) (Refused 15 (length s)) ≡ Refused n o
+        by : (t : Bool) → pick t (Ok (stream_of edition y)) (not_asked 15 (length s)) ≡ not_asked n o
             → out ≡ pick t (bytes_for edition y ps ++ drop (length (bytes_for edition y ps)) out) out
         by true e = let z : ◌≡◌ {A = ℕ} 0 1 = cc in absurd (omega arith)
         by false e = refl

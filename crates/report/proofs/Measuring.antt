@@ -1,6 +1,6 @@
 -- The packets of a file, measured one by one: what is left of the file, from the state and the bytes so far, gives what the whole gives.
 -- It is the measurement's one loop (timing's Running) with rows as bytes; a packet that is read (Here) is the first of what is left.
-use Rattle.std.specs.Prelude.{◌≡◌, ◌∷◌, ◌++◌, ◌+◌, ◌≤◌, ◌<◌}
+use Rattle.std.specs.Prelude.{◌≡◌, ◌∷◌, ◌++◌, ◌+◌, ◌-◌, ◌≤◌, ◌<◌}
 use Rattle.laws.specs.Kit.{refl, sym, ap, subst, ◌∙◌, true, false, List, ℕ, arith, length, take, drop}
 use Rattle.laws.specs.Kit.{inl, inr, min, drop-length, drop_of_length-le, length-append, length-drop, drop-drop, take_at, drop_at}
 use Rattle.std.proofs.lemmas.Bool.{cases_lt}
@@ -19,7 +19,7 @@ use Rattle.timing.proofs.Scanning.{scan_runs}
 use Rattle.timing.proofs.Running.{step_past}
 use Rattle.timing.proofs.Running as R
 use Rattle.record.specs.Paper.{packet_bytes, head_bytes, packet_at, done, Packets, packet_refusal, packets_in}
-use Rattle.record.proofs.Ways.{packet_alone}
+use Rattle.record.proofs.Ways.{packet_alone, rest_all}
 use Rattle.record.proofs.Reading.{packet_here, packets_end, packets_go, packets_accepted}
 use Rattle.record.proofs.ReadWrite.{packets_scan}
 use Rattle.report.specs.Paper.{row_bytes, summary_bytes}
@@ -90,13 +90,22 @@ module _ {x : StreamNumbers} {file out₀ : List ℕ} {rules : Rules} {s : State
       fine : packet_refusal s.past (drop from file) ≡ 0
       fine = packets_accepted s.past from (drop from file) (omega (arith, length-drop from file, some)) k.ends
 
-      sixteen : packet_bytes ≤ length (drop from file)
-      sixteen = (packet_here (drop from file) (neither _ _ fine).0).sixteen
+      pub sixteen : from + packet_bytes ≤ length file
+      sixteen =
+          let here = packet_here (drop from file) (neither _ _ fine).0 in
+          omega (arith, here.sixteen, length-drop from file)
+
+      -- as many as a turn's piece has
+      pub there : packet_bytes ≤ length (take (length file - from) (drop from file))
+      there = rw (rest_all file from) (omega (arith, sixteen, length-drop from file))
 
     -- what is left is too short for a record: nothing is
     pub loop_ends : length (drop from file) < packet_bytes → MeasureGives x file out₀ s out
     loop_ends short =
-        let h : length file ≤ from = elim (cases_lt from (length file)) [ inl some ↦ absurd (omega (arith, short, sixteen some)) | inr all ↦ all ] in
+        let h : length file ≤ from = elim (cases_lt from (length file)) [
+          | inl some ↦ absurd (omega (arith, short, sixteen some, length-drop from file))
+          | inr all ↦ all
+        ] in
         let none = packets_end s.past from (drop from file) (omega (arith, length-drop from file)) in
         let ran = R.loop_ends as_bytes (ap (λ (r : Packets). r.accepted) none) k.loop in
         subst (λ (q : Rules). RunGives row_bytes q (fresh_of x) (packets_of file) summary_bytes out₀ s out) k.rules_are ran

@@ -1,6 +1,6 @@
 -- The C functions: the sentences of document 01, each above what renders it, on what the reader (crate record) and the measurement
 -- (crate timing) say of a file. This page is what a reader must believe of them.
-use Rattle.std.specs.Prelude.{◌∷◌, ◌++◌, ◌*◌, Err}
+use Rattle.std.specs.Prelude.{◌∷◌, ◌++◌, ◌*◌, Some, None, Ok, Err}
 use Rattle.laws.specs.Kit.{List, [], map, ℕ, leb, eqb, ℤ, pos, length, drop}
 use Rattle.std.proofs.Common.{of_z}
 use Rattle.std.specs.Int.{w64}
@@ -12,7 +12,7 @@ use Rattle.timing.specs.declared.StreamNumbers.{StreamNumbers}
 use Rattle.timing.specs.declared.Stated.{Stated}
 use Rattle.timing.specs.declared.State.{State}
 use Rattle.timing.specs.Step.{stream_with, stated_of, stated_refusal, frame_of, rules_of, fresh_of, state_after, rows_after, numbers}
-use Rattle.timing.specs.Answers.{Awaited, awaited_in, none_left}
+use Rattle.timing.specs.Answers.{Awaited}
 use Rattle.timing.specs.Answers.{summary_width, summary_of, stated_next, awaited_number}
 use Rattle.frame.specs.declared.Row.{Row}
 use Rattle.record.specs.Paper.{Heading, resolved, File, file, refused, file_of, file_in}

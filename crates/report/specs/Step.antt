@@ -1,5 +1,5 @@
 -- A file measured part by part: what each part of the code asks and gives, in the words of Paper.
-use Rattle.std.specs.Prelude.{◌≡◌, ◌∷◌, ◌+◌, ◌*◌, ◌≤◌, Err, Ok}
+use Rattle.std.specs.Prelude.{◌≡◌, ◌∷◌, ◌+◌, ◌*◌, ◌≤◌, Err, Ok, Result}
 use Rattle.laws.specs.Kit.{List, ℕ, leb, ℤ, length, drop}
 use Rattle.std.specs.Prelude.{Float}
 use Rattle.laws.specs.Choose.{pick, or_else}
@@ -18,8 +18,7 @@ use Rattle.record.specs.declared.FileNumbers.{FileNumbers}
 use Rattle.record.specs.Paper.{head_bytes, Heading, done, packets_in, File, file, refused, file_in}
 use Rattle.record.specs.Layout.{bytes_in}
 use Rattle.record.specs.Write.{written_of, written_number, left_by}
-use Rattle.report.specs.declared.Asked.{Asked}
-use Rattle.report.specs.declared.Asked.TheVariants.{Fine, Refused}
+use Rattle.refusal.specs.Told.{Numbered}
 use Rattle.report.specs.Paper.{rows_of, row_bytes, number_bytes, summary_bytes, stream_of, bytes_for, answer_of, filled_by, limits_number}
 use Rattle.report.specs.Paper.{limits_left}
 use Rattle.report.specs.Paper.{next_read_number, next_read_left}
@@ -35,22 +34,29 @@ needed closed = needed_behind summary_width closed
 abbrev pub stream_in : ℕ → FileNumbers → StreamNumbers
 stream_in edition x = stream_with x.profile edition x.parameters
 
+-- what is lent for a file: its stream numbers, or the number and the offset of the refusal
+abbrev pub Asked : Type 0
+Asked = Result StreamNumbers Numbered
+
+abbrev pub not_asked : ℕ → ℕ → Asked
+not_asked number offset = Err (record { number = number; place = offset })
+
 -- a file and the room for its report
 abbrev pub as_asked : ℕ → ℕ → ℕ → File → Asked
-as_asked edition size room (file h ps) = pick (leb (length (bytes_for edition h ps)) room) (Fine (stream_of edition h)) (Refused 15 size)
-as_asked edition size room (refused number offset) = Refused number offset
+as_asked edition size room (file h ps) = pick (leb (length (bytes_for edition h ps)) room) (Ok (stream_of edition h)) (not_asked 15 size)
+as_asked edition size room (refused number offset) = not_asked number offset
 
 unfoldable pub asked_of : ℕ → List ℕ → ℕ → Asked
 asked_of edition s room = as_asked edition (length s) room (file_in edition s)
 
 -- document 01's number, 0 where nothing is refused, and its offset
 abbrev pub asked_number : Asked → ℕ
-asked_number (Fine x) = 0
-asked_number (Refused number offset) = number
+asked_number (Ok r) = 0
+asked_number (Err r) = r.number
 
 abbrev pub asked_offset : Asked → ℕ
-asked_offset (Fine x) = 0
-asked_offset (Refused number offset) = offset
+asked_offset (Ok r) = 0
+asked_offset (Err r) = r.place
 
 -- ---- the packets of a file that is fine: they come after its head
 

@@ -14,6 +14,7 @@ ghost use Rattle.timing.specs.Step.{first_stated};
 ghost use Rattle.limits.specs.Paper.{given};
 ghost use Rattle.record.specs.Paper.{heading};
 ghost use Rattle.record.specs.Write.{written_of, written_place};
+ghost use Rattle.refusal.specs.Told.{told};
 ghost use Rattle.report.specs.Paper.{in_bytes, encoded, row_bytes, summary_bytes, answer_of, room_of};
 ghost use Rattle.report.specs.Step.{stream_in, needed_behind, asked_of, MeasureAsks, MeasureGives, CallGives, WriteGives, LimitsGives, DrawGives};
 ghost use Rattle.report.specs.Step.{ThreeGive, NextReadGives};
@@ -21,8 +22,9 @@ ghost use Rattle.report.specs.Step.{ThreeGive, NextReadGives};
 use endian::write64;
 use frame::Row;
 use limits::{FIRST_EDITION, Parameters};
-use record::{Checked, FileNumbers, Written};
-use timing::{Awaited, Drawn, Judged, Rules, SUMMARY, State, Stated, StreamNumbers};
+use record::FileNumbers;
+use refusal::{Refusal, Refused};
+use timing::{Rules, SUMMARY, State, Stated, StreamNumbers};
 
 // The bytes of a number that is reported, of a row, and of the nine numbers in front.
 pub const NUMBER: usize = 8;
@@ -30,13 +32,6 @@ pub const NUMBER: usize = 8;
 const ROW_BYTES: usize = NUMBER * frame::ROW;
 
 pub const SUMMARY_BYTES: usize = NUMBER * SUMMARY;
-
-// What is lent for a file: fine with its stream numbers, or the number and the offset of the refusal.
-#[derive(Clone, Copy, Debug, PartialEq, Eq)]
-enum Asked {
-    Fine(StreamNumbers),
-    Refused { number: u8, offset: u64 },
-}
 
 // Whether so many lent bytes hold so many numbers in front and the rows of so many frames. Divided, since the product might not fit.
 pub fn fits(front: usize, closed: u64, room: usize) -> bool
@@ -60,27 +55,19 @@ fn stream_in(edition: u32, numbers: FileNumbers) -> StreamNumbers
     }
 }
 
-// One pass that checks the file, with the edition beside it, and counts its frames; then the room. It writes nothing.
-fn ask(file: &[u8], edition: u32, room: usize) -> Asked
-    ensures { result ≡ asked_of edition file.now room }
+// One pass that checks the file, with the edition beside it, and counts its frames; then the room: what the file sets up with, or the
+// refusal and its offset. It writes nothing.
+fn ask(file: &[u8], edition: u32, room: usize) -> Result<StreamNumbers, Refused>
+    ensures { told result ≡ asked_of edition file.now room }
 {
-    let checked = record::check(edition, file);
-    match checked {
-        Checked::Fine {
-            numbers,
-            packets: _,
-            closed,
-        } => {
-            if fits(SUMMARY, closed, room) {
-                return Asked::Fine(stream_in(edition, numbers));
-            }
-            Asked::Refused {
-                number: 15,
-                offset: file.len() as u64,
-            }
-        }
-        Checked::Refused { number, offset } => Asked::Refused { number, offset },
+    let checked = record::check(edition, file)?;
+    if fits(SUMMARY, checked.closed, room) {
+        return Ok(stream_in(edition, checked.numbers));
     }
+    Err(Refused {
+        refusal: Refusal::Room,
+        place: file.len() as u64,
+    })
 }
 
 // A row's numbers, each with its sign in two's complement, from byte `at` on.
@@ -110,11 +97,11 @@ pub fn put_summary(s: State, out: &mut [u8])
     ensures { out.new ≡ sets out.old 0 (in_bytes (summary_of s)) }
 {
     match s.verdict() {
-        Judged::Given(v) => {
+        Ok(v) => {
             let summary = v.summary(s.past.packets, s.frames.closed, s.bucket.peak);
             put_nine(summary, out);
         }
-        Judged::Refused(_) => {}
+        Err(_) => {}
     }
 }
 
@@ -167,12 +154,12 @@ pub extern "C" fn vtiming_measure(file: &[u8], edition: u32, out: &mut [u8]) -> 
 {
     let asked = ask(file, edition, out.len());
     match asked {
-        Asked::Fine(numbers) => {
+        Ok(numbers) => {
             let s = measure(numbers, file, out);
             put_summary(s, out);
             0
         }
-        Asked::Refused { number, offset: _ } => u32::from(number),
+        Err(r) => u32::from(r.refusal),
     }
 }
 
@@ -183,8 +170,8 @@ pub extern "C" fn vtiming_measure_offset(file: &[u8], edition: u32, room: usize)
 {
     let asked = ask(file, edition, room);
     match asked {
-        Asked::Fine(_) => 0,
-        Asked::Refused { number: _, offset } => offset,
+        Ok(_) => 0,
+        Err(r) => r.place,
     }
 }
 
@@ -193,17 +180,9 @@ pub extern "C" fn vtiming_measure_offset(file: &[u8], edition: u32, room: usize)
 pub extern "C" fn vtiming_measure_room(file: &[u8]) -> u64
     ensures { result ≡ room_of file.now }
 {
-    let checked = record::check(FIRST_EDITION, file);
-    match checked {
-        Checked::Fine {
-            numbers: _,
-            packets: _,
-            closed,
-        } => NUMBER as u64 * (SUMMARY as u64 + closed * frame::ROW as u64),
-        Checked::Refused {
-            number: _,
-            offset: _,
-        } => 0,
+    match record::check(FIRST_EDITION, file) {
+        Ok(checked) => NUMBER as u64 * (SUMMARY as u64 + checked.closed * frame::ROW as u64),
+        Err(_) => 0,
     }
 }
 
@@ -238,10 +217,9 @@ pub extern "C" fn vtiming_write(
         maxudp,
         tro,
     };
-    let written = record::write(version, profile, numbers, arrivals, stamps, markers, out);
-    match written {
-        Written::Done { bytes: _ } => 0,
-        Written::Refused { number, place: _ } => u32::from(number),
+    match record::write(version, profile, numbers, arrivals, stamps, markers, out) {
+        Ok(_) => 0,
+        Err(r) => u32::from(r.refusal),
     }
 }
 
@@ -274,10 +252,9 @@ pub extern "C" fn vtiming_write_place(
         maxudp,
         tro,
     };
-    let written = record::would_write(version, profile, numbers, arrivals, stamps, markers, room);
-    match written {
-        Written::Done { bytes: _ } => 0,
-        Written::Refused { number: _, place } => place,
+    match record::would_write(version, profile, numbers, arrivals, stamps, markers, room) {
+        Ok(_) => 0,
+        Err(r) => r.place,
     }
 }
 
@@ -326,12 +303,11 @@ pub extern "C" fn vtiming_limits(
     ensures { LimitsGives (first_stated profile (given rate schedule class height n maxudp tro)) out.old result out.new }
 {
     let asked = stated(rate, schedule, class, height, n, maxudp, tro, profile);
-    let number = asked.refusal();
-    if number != 0 {
-        return u32::from(number);
+    if let Err(refusal) = asked.check() {
+        return u32::from(refusal);
     }
     if out.len() < 4 {
-        return 15;
+        return u32::from(Refusal::Room);
     }
     let numbers = asked.numbers();
     let rules = numbers.rules();
@@ -347,7 +323,7 @@ fn put_three(a: u64, b: u64, c: u64, out: &mut [u64]) -> u32
     ensures { ThreeGive a b c out.old result out.new }
 {
     if out.len() < 3 {
-        return 15;
+        return u32::from(Refusal::Room);
     }
     out[0] = a;
     out[1] = b;
@@ -375,14 +351,10 @@ pub extern "C" fn vtiming_next_read(
         out.old result out.new }
 {
     let asked = stated(rate, schedule, class, height, n, maxudp, tro, profile);
-    let awaited = asked.next_read(first, arrival);
-    match awaited {
-        Awaited::In {
-            numerator,
-            denominator,
-        } => put_three(1, numerator, denominator, out),
-        Awaited::NoneLeft => put_three(0, 0, 0, out),
-        Awaited::Refused(number) => u32::from(number),
+    match asked.next_read(first, arrival) {
+        Ok(Some(wait)) => put_three(1, wait.num, wait.den, out),
+        Ok(None) => put_three(0, 0, 0, out),
+        Err(refusal) => u32::from(refusal),
     }
 }
 
@@ -391,17 +363,16 @@ pub extern "C" fn vtiming_next_read(
 pub extern "C" fn vtiming_graph(fpt: i64, margin: i64, latency: i64, out: &mut [f64]) -> u32
     ensures { DrawGives fpt margin latency out.old result out.new }
 {
-    let drawn = timing::draw(fpt, margin, latency);
-    match drawn {
-        Drawn::Figures(g) => {
+    match timing::draw(fpt, margin, latency) {
+        Ok(g) => {
             if out.len() < 3 {
-                return 15;
+                return u32::from(Refusal::Room);
             }
             out[0] = g.fpt;
             out[1] = g.margin;
             out[2] = g.latency;
             0
         }
-        Drawn::Refused(number) => u32::from(number),
+        Err(refusal) => u32::from(refusal),
     }
 }

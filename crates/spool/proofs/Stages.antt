@@ -1,6 +1,6 @@
 -- What a step of the program for captures keeps: the bytes used lie within what is shown; the text and what is still to be printed are the
 -- output; and more is wanted only where more may come, with room for it in a window of 178 bytes. By the stage.
-use Rattle.std.specs.Prelude.{◌≡◌, ◌+◌, ◌≤◌}
+use Rattle.std.specs.Prelude.{◌≡◌, ◌+◌, ◌≤◌, Ok, Err, Some, None}
 use Rattle.laws.specs.Kit.{refl, sym, ◌∙◌, Bool, true, List, [], ℕ, arith, length}
 use Rattle.laws.proofs.Choose.{false_true}
 use Rattle.headers.specs.Step.{matter}
@@ -8,8 +8,7 @@ use Rattle.text.specs.Lines.{line_room, refusal_line}
 use Rattle.capture.specs.Paper.{header_bytes, record_bytes}
 use Rattle.reel.specs.declared.Asked.{Asked}
 use Rattle.reel.specs.declared.Reel.{Reel}
-use Rattle.reel.specs.declared.Threaded.{Threaded}
-use Rattle.reel.specs.declared.Threaded.TheVariants.{More as Wanting, Refused as Unthreaded, Ready as Threads}
+use Rattle.reel.specs.Step.{Threaded}
 use Rattle.reel.specs.Paper.{output_of}
 use Rattle.reel.specs.Step.{begin_of, take_of, rest_by, Stands}
 use Rattle.reel.proofs.Beginning.{Tells, begin_tells, Answered, begin_answered}
@@ -40,11 +39,11 @@ KeptBy s l last room k = Kept still Good line_room size s l last room k
 module _ (l : List ℕ) (last : Bool) (room : ℕ) where
   leads : (asked : Asked) (o : Threaded) → Follows last (λ v. Tells asked l v o) → (last ≡ true → Answered o)
       → (header_bytes ≤ length l → Answered o) → KeptBy (Leader asked) l last room (lead_move asked o)
-  leads asked Wanting t a b = keeps_waiting still Good line_room size (Leader asked) l last room tt a (λ x n. b (omega arith))
-  leads asked (Unthreaded number) t a b = keeps_refusing still Good line_room size (Leader asked) l last room (refusal_line number 0) tt t
-  leads asked (Threads reel) t a b =
+  leads asked (Ok None) t a b = keeps_waiting still Good line_room size (Leader asked) l last room tt a (λ x n. b (omega arith))
+  leads asked (Err r) t a b = keeps_refusing still Good line_room size (Leader asked) l last room (refusal_line r 0) tt t
+  leads asked (Ok (Some r)) t a b =
       let first = t [] (λ z. refl) in
-      keeps_going still Good line_room size (Leader asked) l last room (Rolling reel) header_bytes first.1 first.0 (λ v q. (t v q).2)
+      keeps_going still Good line_room size (Leader asked) l last room (Rolling r) header_bytes first.1 first.0 (λ v q. (t v q).2)
 
   lead_keeps : (asked : Asked) → KeptBy (Leader asked) l last room (lead_move asked (begin_of asked l last))
   lead_keeps asked =

@@ -10,10 +10,11 @@ ghost use Rattle.spool.specs.Step.{lead_move, rolled_move, move_by};
 ghost use Rattle.reel.specs.Step.{begin_of, take_of};
 
 use capture::HEADER;
-use reel::{Asked, Reel, Threaded};
+use reel::{Asked, Reel};
 use window::{Next, Span, Told};
 
-// The header is still wanted, or the reel behind it.
+// The header is still wanted, or the reel behind it. An enum of its own, and no Option: each is a stage of the reading by its name, and
+// `Leader` is not the lack of an answer.
 #[derive(Clone, Copy, Debug, PartialEq, Eq)]
 pub enum Stage {
     Leader(Asked),
@@ -34,7 +35,7 @@ fn lead(asked: Asked, span: Span, window: &[u8], out: &mut [u8]) -> Stepped
         result.stage result.told out.new }
 {
     match reel::begin(asked, &window[span.from..span.held], span.last) {
-        Threaded::More => Stepped {
+        Ok(None) => Stepped {
             stage: Stage::Leader(asked),
             told: Told {
                 span,
@@ -42,15 +43,15 @@ fn lead(asked: Asked, span: Span, window: &[u8], out: &mut [u8]) -> Stepped
                 next: Next::Read,
             },
         },
-        Threaded::Refused { number } => Stepped {
+        Err(refusal) => Stepped {
             stage: Stage::Leader(asked),
             told: Told {
                 span,
-                written: text::put_refusal(number, 0, out, 0),
+                written: text::put_refusal(refusal.number(), 0, out, 0),
                 next: Next::End,
             },
         },
-        Threaded::Ready(reel) => Stepped {
+        Ok(Some(reel)) => Stepped {
             stage: Stage::Rolling(reel),
             told: Told {
                 span: span.past(HEADER),

@@ -1,5 +1,5 @@
 -- How long it is until the next read, and its refusals in their order: by the two numbers that are asked first.
-use Rattle.std.specs.Prelude.{◌≡◌, ◌↔◌, ◌+◌, ◌-◌, ◌*◌, ◌≤◌, ◌<◌, None, Some, Ok, Err, Result, Option}
+use Rattle.std.specs.Prelude.{◌≡◌, ◌↔◌, ◌+◌, ◌-◌, ◌*◌, ◌≤◌, ◌<◌, None, Some, Ok, Err}
 use Rattle.laws.specs.Kit.{refl, sym, ap, subst, ◌∙◌, Bool, true, false, ℕ, arith, eqb, ltb, eq-eqb, ne_eqb}
 use Rattle.laws.specs.Kit.{ltb-true, ltb-false, lt-ltb, le-ltb, eqb-true, eqb-false, dec_le, mul-le-mul, not-suc-le-zero}
 use Rattle.laws.specs.Choose.{pick}

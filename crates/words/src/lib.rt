@@ -57,8 +57,8 @@ pub fn number_of(word: &[u8]) -> Option<u64>
     number_in(word)
 }
 
-// What they ask; none where they are no call (R18). What stands instead of a number that does not fit is refused by the same refusal. A TRO of all ones would be the default.
-// No port can be told instead of one that does not fit: it would be another stream.
+// What they ask; none where they are no call (R18). What stands instead of a number that does not fit is refused by the same refusal: a TRO of
+// all ones would be the default, so it is one less. No port can be told instead of one that does not fit: it would be another stream.
 pub fn given_by(numbers: Numbers) -> Option<Asked>
     ensures { result ≡ given_of numbers }
 {

@@ -10,43 +10,43 @@ use Rattle.film.proofs.film_packets.Goals as goal
 pub returns-in_default : goal.returns-in_default
 returns-in_default c =
     film_ends c.rules-made.ensures c.fresh-s.ensures
-    (loop_ends as_bytes (sought_none _ _ _ (sym c.seek.ensures ∙ c.in_default.is)) c.loop-packet.invariant)
+    (loop_ends as_bytes (sought_none _ _ _ (sym c.seek.ensures ∙ c.in_default.is)) c.loop-found.invariant)
 
 pub arrive-s-requires : goal.arrive-s-requires
 arrive-s-requires c =
-    let first = sought_cons _ _ _ (sym c.seek.ensures ∙ c.in-Packet.is) in
-    loop_arrives as_bytes first.0 c.loop-packet.invariant
+    let first = sought_cons _ _ _ (sym c.seek.ensures ∙ c.in-Some.is) in
+    loop_arrives as_bytes first.0 c.loop-found.invariant
 
 pub put_closed-at-requires : goal.put_closed-at-requires
 put_closed-at-requires c =
-    let first = sought_cons _ _ _ (sym c.seek.ensures ∙ c.in-Packet.is) in
-    rw c.arrive-s.ensures (loop_lays as_bytes first.0 c.loop-packet.invariant c.if-packet-eq1.true)
+    let first = sought_cons _ _ _ (sym c.seek.ensures ∙ c.in-Some.is) in
+    rw c.arrive-s.ensures (loop_lays as_bytes first.0 c.loop-found.invariant c.if-packet-eq1.true)
 
 pub mark-s-requires : goal.mark-s-requires
 mark-s-requires c =
-    let first = sought_cons _ _ _ (sym c.seek.ensures ∙ c.in-Packet.is) in
-    rw c.arrive-s.ensures (loop_closed as_bytes first.0 c.loop-packet.invariant)
+    let first = sought_cons _ _ _ (sym c.seek.ensures ∙ c.in-Some.is) in
+    rw c.arrive-s.ensures (loop_closed as_bytes first.0 c.loop-found.invariant)
 
-pub loop-packet-smaller-then-packet-eq1 : goal.loop-packet-smaller-then-packet-eq1
-loop-packet-smaller-then-packet-eq1 c =
-    let first = sought_cons _ _ _ (sym c.seek.ensures ∙ c.in-Packet.is) in
+pub loop-found-smaller-then-packet-eq1 : goal.loop-found-smaller-then-packet-eq1
+loop-found-smaller-then-packet-eq1 c =
+    let first = sought_cons _ _ _ (sym c.seek.ensures ∙ c.in-Some.is) in
     omega (arith, first.1, first.2)
 
-pub loop-packet-preserved-then-packet-eq1 : goal.loop-packet-preserved-then-packet-eq1
-loop-packet-preserved-then-packet-eq1 c =
-    let l = c.loop-packet in
-    let first = sought_cons _ _ _ (sym c.seek.ensures ∙ c.in-Packet.is) in
+pub loop-found-preserved-then-packet-eq1 : goal.loop-found-preserved-then-packet-eq1
+loop-found-preserved-then-packet-eq1 c =
+    let l = c.loop-found in
+    let first = sought_cons _ _ _ (sym c.seek.ensures ∙ c.in-Some.is) in
     loop_next as_bytes first.0 l.invariant
     (turn_marked as_bytes _ l.s _ l.at l.out c.arrive-s.ensures c.if-packet-eq1.true c.mark-s.ensures
     c.put_closed-at.ensures)
 
-pub loop-packet-smaller : goal.loop-packet-smaller
-loop-packet-smaller c =
-    let first = sought_cons _ _ _ (sym c.seek.ensures ∙ c.in-Packet.is) in
+pub loop-found-smaller : goal.loop-found-smaller
+loop-found-smaller c =
+    let first = sought_cons _ _ _ (sym c.seek.ensures ∙ c.in-Some.is) in
     omega (arith, first.1, first.2)
 
-pub loop-packet-preserved : goal.loop-packet-preserved
-loop-packet-preserved c =
-    let l = c.loop-packet in
-    let first = sought_cons _ _ _ (sym c.seek.ensures ∙ c.in-Packet.is) in
+pub loop-found-preserved : goal.loop-found-preserved
+loop-found-preserved c =
+    let l = c.loop-found in
+    let first = sought_cons _ _ _ (sym c.seek.ensures ∙ c.in-Some.is) in
     loop_next as_bytes first.0 l.invariant (turn_plain as_bytes _ l.s _ l.at l.out c.arrive-s.ensures c.if-packet-eq1.false)

@@ -9,10 +9,10 @@ use Rattle.film.specs.Step.{eleven_bytes}
 use Rattle.report.proofs.Bytes.{as_bytes}
 use Rattle.film.proofs.film_packets.Given as goal
 
-abbrev pub invariant-loop-packet : goal.invariant-loop-packet
-invariant-loop-packet l =
+abbrev pub invariant-loop-found : goal.invariant-loop-found
+invariant-loop-found l =
     Loop as_bytes l.rules l.initial.s (handed_in l.setting (drop header_bytes l.capture)) eleven_bytes l.initial.out l.s
     (handed_in l.setting (drop l.from l.capture)) l.at l.out
 
-abbrev pub decreases-loop-packet : goal.decreases-loop-packet
-decreases-loop-packet l = length l.capture - l.from
+abbrev pub decreases-loop-found : goal.decreases-loop-found
+decreases-loop-found l = length l.capture - l.from

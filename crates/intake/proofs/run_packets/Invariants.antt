@@ -8,10 +8,10 @@ use Rattle.timing.proofs.Running.{Loop}
 use Rattle.timing.proofs.Sink.{as_numbers}
 use Rattle.intake.proofs.run_packets.Given as goal
 
-abbrev pub invariant-loop-packet : goal.invariant-loop-packet
-invariant-loop-packet l =
+abbrev pub invariant-loop-found : goal.invariant-loop-found
+invariant-loop-found l =
     Loop as_numbers l.rules l.initial.s (handed_in l.setting (drop header_bytes l.bytes)) 0 l.initial.rows l.s
     (handed_in l.setting (drop l.from l.bytes)) l.at l.rows
 
-abbrev pub decreases-loop-packet : goal.decreases-loop-packet
-decreases-loop-packet l = length l.bytes - l.from
+abbrev pub decreases-loop-found : goal.decreases-loop-found
+decreases-loop-found l = length l.bytes - l.from

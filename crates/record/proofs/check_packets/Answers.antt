@@ -33,7 +33,7 @@ module _ (c : Then-count-ne0) where
 
 pub returns-then-admits : goal.returns-then-admits
 returns-then-admits c =
-    let through = sym c.run_packets-ran.ensures ∙ c.in-Through.is in
+    let through = sym c.run_packets-ran.ensures ∙ c.in-Some.is in
     let fine = sym c.admits.ensures ∙ c.if-admits.true in
     let there = (goal.at.returns-then-admits c).Then-count-ne0 in
     ap (checked_fine c.args.numbers c.records_left-count.result) c.closed.ensures

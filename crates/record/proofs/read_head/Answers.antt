@@ -4,7 +4,7 @@ use Rattle.record.proofs.Ways.{head_none, head_waits_for_more, head_unknown, hea
 use Rattle.record.proofs.read_head.Goals as goal
 
 pub returns-then-last : goal.returns-then-last
-returns-then-last c = c.head_refused.ensures ∙ sym (head_none _ _ (omega arith) (cc))
+returns-then-last c = rw c.refused_at.ensures (sym (head_none _ _ (omega arith) (cc)))
 
 pub returns-then-window-eq0 : goal.returns-then-window-eq0
 returns-then-window-eq0 c = sym (head_waits_for_more _ _ (omega arith) (cc))
@@ -12,7 +12,7 @@ returns-then-window-eq0 c = sym (head_waits_for_more _ _ (omega arith) (cc))
 pub returns-then-not-version_known : goal.returns-then-not-version_known
 returns-then-not-version_known c =
     let unknown = sym c.version_known.ensures ∙ not-true _ c.if-not-version_known.true-raw in
-    c.head_refused-then-not-version_known.ensures ∙ sym (head_unknown _ _ (omega arith) unknown)
+    rw c.refused_at-then-not-version_known.ensures (sym (head_unknown _ _ (omega arith) unknown))
 
 pub returns : goal.returns
 returns c =

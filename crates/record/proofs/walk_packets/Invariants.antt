@@ -7,11 +7,11 @@ use Rattle.record.specs.Paper.{packets_in}
 use Rattle.record.specs.Walk.{finish}
 use Rattle.record.proofs.walk_packets.Given as goal
 
-abbrev pub invariant-loop-packet : goal.invariant-loop-packet
-invariant-loop-packet l =
+abbrev pub invariant-loop-item : goal.invariant-loop-item
+invariant-loop-item l =
     (finish l.numbers l.tally (packets_in l.tally.past l.cursor.at (drop l.cursor.at l.s))
     ≡ finish l.numbers no_packets (packets_in nothing l.initial.cursor.at (drop l.initial.cursor.at l.s)))
     × (l.tally.closed ≤ l.tally.past.packets)
 
-abbrev pub decreases-loop-packet : goal.decreases-loop-packet
-decreases-loop-packet l = length l.s - l.cursor.at
+abbrev pub decreases-loop-item : goal.decreases-loop-item
+decreases-loop-item l = length l.s - l.cursor.at

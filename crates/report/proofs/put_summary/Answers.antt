@@ -6,15 +6,15 @@ use Rattle.report.specs.Paper.{in_bytes}
 use Rattle.timing.proofs.Answering.{verdict_is, verdict_there}
 use Rattle.report.proofs.put_summary.Goals as goal
 
-pub returns-in-Given : goal.returns-in-Given
-returns-in-Given c =
-    let given = sym c.verdict.ensures ∙ c.in-Given.is in
+pub returns-in-Ok : goal.returns-in-Ok
+returns-in-Ok c =
+    let given = sym c.in-Ok.ensures in
     let s = c.args.s in
     let own = verdict_is s _ c.requires.1 given in
     c.put_nine.ensures
     ∙ ap (λ (l : List ℕ). sets c.args.out.now 0 (in_bytes l))
     (c.summary-summary.ensures ∙ ap (λ (v : Verdict). summary_with s.past.packets s.frames.closed s.bucket.peak v) own)
 
-pub returns-in-Refused : goal.returns-in-Refused
-returns-in-Refused c =
-    absurd (verdict_there c.args.s _ c.requires.1 (sym c.verdict.ensures ∙ c.in-Refused.is))
+pub returns-in-Err : goal.returns-in-Err
+returns-in-Err c =
+    absurd (verdict_there c.args.s _ c.requires.1 (sym c.in-Err.ensures))

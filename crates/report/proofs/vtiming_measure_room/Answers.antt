@@ -1,23 +1,23 @@
 -- The check's count of frames is how long the report is; at most 1,000,000,000 of them, so that nothing overflows (Asking).
-use Rattle.laws.specs.Kit.{sym, ◌∙◌, arith}
+use Rattle.laws.specs.Kit.{sym, arith}
 use Rattle.report.proofs.Asking.{room_fine, few_closed, room_refused}
 use Rattle.report.proofs.vtiming_measure_room.Goals as goal
 
 pub overflow_mul-result : goal.overflow_mul-result
 overflow_mul-result c =
-    omega (arith, few_closed _ _ _ _ (sym c.check-checked.ensures ∙ c.in-Fine.is))
+    omega (arith, few_closed _ _ _ _ (sym c.in-Ok.ensures))
 
 pub overflow_add-result : goal.overflow_add-result
 overflow_add-result c =
-    omega (arith, few_closed _ _ _ _ (sym c.check-checked.ensures ∙ c.in-Fine.is))
+    omega (arith, few_closed _ _ _ _ (sym c.in-Ok.ensures))
 
-pub overflow_mul-result-in-Fine : goal.overflow_mul-result-in-Fine
-overflow_mul-result-in-Fine c =
-    omega (arith, few_closed _ _ _ _ (sym c.check-checked.ensures ∙ c.in-Fine.is))
+pub overflow_mul-result-in-Ok : goal.overflow_mul-result-in-Ok
+overflow_mul-result-in-Ok c =
+    omega (arith, few_closed _ _ _ _ (sym c.in-Ok.ensures))
 
-pub returns-in-Fine : goal.returns-in-Fine
-returns-in-Fine c =
-    room_fine _ _ _ _ (sym c.check-checked.ensures ∙ c.in-Fine.is)
+pub returns-in-Ok : goal.returns-in-Ok
+returns-in-Ok c =
+    room_fine _ _ _ _ (sym c.in-Ok.ensures)
 
-pub returns-in-Refused : goal.returns-in-Refused
-returns-in-Refused c = room_refused _ _ _ (sym c.check-checked.ensures ∙ c.in-Refused.is)
+pub returns-in-Err : goal.returns-in-Err
+returns-in-Err c = room_refused _ _ _ (sym c.in-Err.ensures)

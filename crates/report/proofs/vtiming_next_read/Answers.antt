@@ -1,22 +1,20 @@
 -- The refusals, or the three numbers and the room for them: one law each (Calls).
-use Rattle.laws.specs.Kit.{sym, ap}
-use Rattle.timing.specs.Answers.{awaited_number}
-use Rattle.report.specs.Paper.{awaited_numbers}
+use Rattle.std.specs.Prelude.{Ok}
+use Rattle.laws.specs.Kit.{refl, sym, ap, ◌∙◌}
+use Rattle.refusal.specs.Told.{by_number}
 use Rattle.report.proofs.Calls.{next_refused, next_told}
 use Rattle.report.proofs.vtiming_next_read.Goals as goal
 
-pub returns-in-In : goal.returns-in-In
-returns-in-In c =
-    let which = c.in-In.is in
-    rw (sym c.stated-asked.ensures)
-    (next_told _ _ _ _ c.next_read-awaited.ensures (ap awaited_number which) (ap awaited_numbers which) c.put_three.ensures)
+pub returns-in-Ok-Some : goal.returns-in-Ok-Some
+returns-in-Ok-Some c =
+    let which = sym c.next_read.ensures ∙ ap by_number (c.in-Ok-Some.is ∙ ap Ok c.in-Ok-Some.field-0-is) in
+    rw (sym c.stated-asked.ensures) (next_told _ _ _ _ (sym which) refl refl c.put_three.ensures)
 
-pub returns-in-NoneLeft : goal.returns-in-NoneLeft
-returns-in-NoneLeft c =
-    let which = c.in-NoneLeft.is in
-    rw (sym c.stated-asked.ensures)
-    (next_told _ _ _ _ c.next_read-awaited.ensures (ap awaited_number which) (ap awaited_numbers which) c.put_three-in-NoneLeft.ensures)
+pub returns-in-Ok-None : goal.returns-in-Ok-None
+returns-in-Ok-None c =
+    let which = sym c.next_read.ensures ∙ ap by_number (c.in-Ok-None.is ∙ ap Ok c.in-Ok-None.field-0-is) in
+    rw (sym c.stated-asked.ensures) (next_told _ _ _ _ (sym which) refl refl c.put_three-in-Ok-None.ensures)
 
-pub returns-in-Refused : goal.returns-in-Refused
-returns-in-Refused c =
-    rw (c.from.ensures, sym c.stated-asked.ensures) (next_refused _ _ _ _ c.next_read-awaited.ensures c.in-Refused.is)
+pub returns-in-Err : goal.returns-in-Err
+returns-in-Err c =
+    rw (c.from.ensures, sym c.stated-asked.ensures) (next_refused _ _ _ _ c.next_read.ensures (ap by_number c.in-Err.is))

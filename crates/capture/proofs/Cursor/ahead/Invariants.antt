@@ -5,10 +5,10 @@ use Rattle.capture.specs.Step.{ahead_of}
 use Rattle.capture.proofs.Looking.{ahead_from}
 use Rattle.capture.proofs.Cursor.ahead.Given as goal
 
-abbrev pub invariant-loop-more : goal.invariant-loop-more
-invariant-loop-more l =
+abbrev pub invariant-loop-next : goal.invariant-loop-next
+invariant-loop-next l =
     (ahead_from l.setting l.last l.cursor l.window l.used l.skipped ≡ ahead_of l.setting l.initial.cursor l.window l.last)
     × (l.skipped ≤ l.used) × (l.used ≤ length l.window)
 
-abbrev pub decreases-loop-more : goal.decreases-loop-more
-decreases-loop-more l = length l.window - l.used
+abbrev pub decreases-loop-next : goal.decreases-loop-next
+decreases-loop-next l = length l.window - l.used

@@ -1,9 +1,8 @@
 -- A record that is counted: the check goes on behind it (Checking).
-use Rattle.laws.specs.Kit.{sym, ◌∙◌}
+use Rattle.std.proofs.Common.{rules}
 use Rattle.capture.proofs.Checking.{loop_next}
 use Rattle.capture.proofs.Seen.check_records.Goals as goal
 
-pub loop-told-preserved : goal.loop-told-preserved
-loop-told-preserved c =
-    rw c.with-seen.ensures
-    (loop_next c.loop-told.invariant c.front-front.ensures c.in-Record.is (sym c.refusal.ensures ∙ c.if-refusal-ne0.false))
+pub loop-front-preserved : goal.loop-front-preserved
+loop-front-preserved c =
+    loop_next c.loop-front.invariant (search rules) c.in-Record.is c.in_ok-admit.ensures c.with-seen.ensures

@@ -4,8 +4,8 @@ use Rattle.laws.specs.Kit.{length}
 use Rattle.capture.proofs.Checking.{Loop}
 use Rattle.capture.proofs.Seen.check_records.Given as goal
 
-abbrev pub invariant-loop-told : goal.invariant-loop-told
-invariant-loop-told l = Loop l.setting l.s l.initial.seen l.seen l.at
+abbrev pub invariant-loop-front : goal.invariant-loop-front
+invariant-loop-front l = Loop l.setting l.s l.initial.seen l.seen l.at
 
-abbrev pub decreases-loop-told : goal.decreases-loop-told
-decreases-loop-told l = length l.s - l.at
+abbrev pub decreases-loop-front : goal.decreases-loop-front
+decreases-loop-front l = length l.s - l.at

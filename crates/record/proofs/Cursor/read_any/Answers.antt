@@ -10,7 +10,7 @@ pub returns-in-Nothing : goal.returns-in-Nothing
 returns-in-Nothing c = next_framed _ _ _ c.frame-framed.ensures c.in-Nothing.is
 
 pub returns-in-Cut : goal.returns-in-Cut
-returns-in-Cut c = next_framed _ _ _ c.frame-framed.ensures c.in-Cut.is
+returns-in-Cut c = rw c.refused.ensures (next_framed _ _ _ c.frame-framed.ensures c.in-Cut.is)
 
 pub returns-in-Whole : goal.returns-in-Whole
 returns-in-Whole c = c.whole_record.ensures ∙ next_framed _ _ _ c.frame-framed.ensures c.in-Whole.is

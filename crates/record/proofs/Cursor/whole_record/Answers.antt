@@ -6,7 +6,7 @@ use Rattle.record.proofs.Cursor.whole_record.Goals as goal
 
 pub returns-then-body-kind_length : goal.returns-then-body-kind_length
 returns-then-body-kind_length c =
-    rw c.from-size.ensures (sym (whole_22 _ _ _ _ (λ e. c.if-body-kind_length.true (e ∙ sym c.kind_length.ensures))))
+    rw (c.refused.ensures, c.from-size.ensures) (sym (whole_22 _ _ _ _ (λ e. c.if-body-kind_length.true (e ∙ sym c.kind_length.ensures))))
 
 pub packet_of-requires : goal.packet_of-requires
 packet_of-requires c =
@@ -22,4 +22,4 @@ returns c =
 pub returns-then-again : goal.returns-then-again
 returns-then-again c =
     let fits = c.if-body-kind_length.false ∙ c.kind_length.ensures in
-    rw c.from-size.ensures (sym (whole_23 _ _ _ _ fits (sym c.is_parameters-again.ensures ∙ c.if-again.true)))
+    rw (c.refused-then-again.ensures, c.from-size.ensures) (sym (whole_23 _ _ _ _ fits (sym c.is_parameters-again.ensures ∙ c.if-again.true)))

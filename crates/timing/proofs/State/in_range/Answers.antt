@@ -10,10 +10,14 @@ use Rattle.timing.proofs.State.in_range.Goals as goal
 
 pub returns-then-is_err : goal.returns-then-is_err
 unfolding after
-returns-then-is_err c = rw (by_parts c.args.self, ne_eqb _ 0 (λ z. number_of_err c.check.result (sym c.is_err.ensures.value ∙ c.if-is_err.true) (c.check.ensures ∙ z)))
+returns-then-is_err c =
+    let some = λ z. number_of_err c.check.result (sym c.is_err.ensures.value ∙ c.if-is_err.true) (c.check.ensures ∙ z) in
+    rw (by_parts c.args.self, ne_eqb _ 0 some)
 
 pub in_range-requires-3 : goal.in_range-requires-3
-in_range-requires-3 c = subst (λ (q : Rules). Planned q.plan) (sym c.rules-rules.ensures) (planned _ (sym c.check.ensures ∙ number_of_ok c.check.result (sym c.is_err.ensures.value ∙ c.if-is_err.false)))
+in_range-requires-3 c =
+    let none = number_of_ok c.check.result (sym c.is_err.ensures.value ∙ c.if-is_err.false) in
+    subst (λ (q : Rules). Planned q.plan) (sym c.rules-rules.ensures) (planned _ (sym c.check.ensures ∙ none))
 
 pub returns : goal.returns
 unfolding after

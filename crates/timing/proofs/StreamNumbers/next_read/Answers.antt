@@ -1,8 +1,6 @@
 -- Set-up's refusal, then 12 or 13, then the frame's own answer: one law each (Awaiting).
-use Rattle.std.specs.Prelude.{Err}
 use Rattle.std.proofs.lemmas.Result.{err_from_is_err_and}
-use Rattle.laws.specs.Kit.{sym, ap, ◌∙◌, subst}
-use Rattle.refusal.specs.Refusal.{number}
+use Rattle.laws.specs.Kit.{sym, subst}
 use Rattle.refusal.proofs.Telling.{number_some}
 use Rattle.frame.specs.Range.{Planned}
 use Rattle.timing.specs.declared.Rules.{Rules}
