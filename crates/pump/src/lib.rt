@@ -11,7 +11,7 @@ ghost use Rattle.printer.specs.Step.{begin_of, take_of};
 
 use printer::Walk;
 use record::HEAD_BYTES;
-use window::{Span, Told};
+use window::{Next, Span, Told};
 
 // The version byte and the parameters are still wanted, or the walk behind them.
 // An own enum: each is a stage of the reading by its name, and `Head` is not the lack of an answer.
@@ -39,8 +39,7 @@ fn open(span: Span, window: &[u8], out: &mut [u8]) -> Stepped
             told: Told {
                 span,
                 written: 0,
-                wants: true,
-                over: false,
+                next: Next::Read,
             },
         },
         Err(r) => Stepped {
@@ -48,8 +47,7 @@ fn open(span: Span, window: &[u8], out: &mut [u8]) -> Stepped
             told: Told {
                 span,
                 written: text::put_refusal(r.refusal.number(), r.place, out, 0),
-                wants: false,
-                over: true,
+                next: Next::End,
             },
         },
         Ok(Some(walk)) => Stepped {
@@ -57,8 +55,7 @@ fn open(span: Span, window: &[u8], out: &mut [u8]) -> Stepped
             told: Told {
                 span: span.past(HEAD_BYTES),
                 written: 0,
-                wants: false,
-                over: false,
+                next: Next::Step,
             },
         },
     }
@@ -76,8 +73,7 @@ fn walk_on(walk: Walk, span: Span, window: &[u8], out: &mut [u8]) -> Stepped
         told: Told {
             span: span.past(taken.used),
             written: taken.written,
-            wants: taken.used == 0,
-            over: taken.ended,
+            next: Next::after(taken.used, taken.ended),
         },
     }
 }

@@ -11,7 +11,7 @@ ghost use Rattle.reel.specs.Step.{begin_of, take_of};
 
 use capture::HEADER;
 use reel::{Asked, Reel};
-use window::{Span, Told};
+use window::{Next, Span, Told};
 
 // The header is still wanted, or the reel behind it. An enum of its own, and no Option: each is a stage of the reading by its name, and
 // `Leader` is not the lack of an answer.
@@ -40,8 +40,7 @@ fn lead(asked: Asked, span: Span, window: &[u8], out: &mut [u8]) -> Stepped
             told: Told {
                 span,
                 written: 0,
-                wants: true,
-                over: false,
+                next: Next::Read,
             },
         },
         Err(refusal) => Stepped {
@@ -49,8 +48,7 @@ fn lead(asked: Asked, span: Span, window: &[u8], out: &mut [u8]) -> Stepped
             told: Told {
                 span,
                 written: text::put_refusal(refusal.number(), 0, out, 0),
-                wants: false,
-                over: true,
+                next: Next::End,
             },
         },
         Ok(Some(reel)) => Stepped {
@@ -58,8 +56,7 @@ fn lead(asked: Asked, span: Span, window: &[u8], out: &mut [u8]) -> Stepped
             told: Told {
                 span: span.past(HEADER),
                 written: 0,
-                wants: false,
-                over: false,
+                next: Next::Step,
             },
         },
     }
@@ -77,8 +74,7 @@ fn roll_on(reel: Reel, span: Span, window: &[u8], out: &mut [u8]) -> Stepped
         told: Told {
             span: span.past(taken.used),
             written: taken.written,
-            wants: taken.used == 0,
-            over: taken.ended,
+            next: Next::after(taken.used, taken.ended),
         },
     }
 }
