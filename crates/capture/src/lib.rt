@@ -277,7 +277,7 @@ fn found(told: Told, next: usize) -> Option<HandedOn>
 
 impl Setting {
     // The next packet of a whole file that is handed on, from the record at `from` on, or none: skipped records are passed over, and a
-    // record that is refused ends it.
+    // record that is refused ends it. A loop by hand: each record says where the next one stands.
     #[tactic(auto, using(crate::proofs::Seeking::seek_laws))]
     pub fn seek(self, s: &[u8], from: usize) -> Option<HandedOn>
         ensures { result ≡ sought_of self from s.now }
@@ -386,7 +386,8 @@ fn behind(next: Next, used: usize, skipped: u64) -> Ahead
 }
 
 impl Cursor {
-    // The same over all skipped records of the window: so a call that waits for packets passes them over at once. Refused by 31 or 32.
+    // The same over all skipped records of the window: so a call that waits for packets passes them over at once. Refused by 31 or 32. A loop
+    // by hand, as in `seek`.
     #[tactic(auto, using(crate::proofs::Looking::ahead_laws))]
     pub fn ahead(self, setting: Setting, window: &[u8], last: bool) -> Result<Ahead, RefusedAhead>
         ensures { ahead_told result ≡ ahead_of setting self window.now last }
@@ -450,7 +451,7 @@ impl Seen {
         }
     }
 
-    // The records behind the header, up to the end or the first that is refused, by 31, 32 or 12 to 14.
+    // The records behind the header, up to the end or the first that is refused, by 31, 32 or 12 to 14. A loop by hand, as in `seek`.
     #[tactic(auto, using(crate::proofs::Checking::loop_laws))]
     fn check_records(self, setting: Setting, s: &[u8]) -> Result<Seen, Refused>
         requires { Room header_bytes s.now 0 × (self.records ≡ 0) × SeenRoom self }

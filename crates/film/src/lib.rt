@@ -70,7 +70,8 @@ fn weigh(
     })
 }
 
-// The packets of a capture that was weighed and is fine, one by one, as `measure` takes those of a file.
+// The packets of a capture that was weighed and is fine, one by one, as `measure` takes those of a file. A loop by hand: each packet says
+// where the search for the next one begins.
 fn film_packets(numbers: StreamNumbers, setting: Setting, capture: &[u8], out: &mut [u8]) -> State
     requires { RunAsks row_bytes (rules_of numbers) (fresh_of numbers) (handed_in setting (drop header_bytes capture.now)) eleven_bytes
         (length out.old) }

@@ -21,7 +21,8 @@ pub struct AcceptedCall {
     pub skipped: u64,
 }
 
-// The packets of a capture that was checked, one by one; a row is laid where a frame closes. The heavy step has this one call site.
+// The packets of a capture that was checked, one by one; a row is laid where a frame closes. The heavy step has this one call site. A loop
+// by hand: each packet says where the search for the next one begins.
 fn run_packets(
     state: State,
     rules: Rules,

@@ -473,7 +473,8 @@ fn check_packets(numbers: FileNumbers, from: Cursor, s: &[u8]) -> Result<Checked
     walk_packets(numbers, from, s)
 }
 
-// The same record by record, whatever stands there: what is refused, and at which offset.
+// The same record by record, whatever stands there: what is refused, and at which offset. A loop by hand: each record says where the next
+// one stands.
 fn walk_packets(numbers: FileNumbers, from: Cursor, s: &[u8]) -> Result<CheckedFile, Refused>
     ensures { told result ≡ finish numbers no_packets (packets_in nothing from.at (drop from.at s.now)) }
 {

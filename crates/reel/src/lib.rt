@@ -198,7 +198,8 @@ impl Reel {
     }
 
     // The packets of a piece, while there is room for a line. The heavy step has this one call site, and the reel is put together only
-    // where the loop ends: else the whole state would be copied for each packet.
+    // where the loop ends: else the whole state would be copied for each packet. A loop by hand: each packet says where the next one stands, and
+    // the room for lines ends it too.
     fn run(self, rules: Rules, window: &[u8], last: bool, out: &mut [u8]) -> TakeAnswer
         requires { Going rules self.state }
         ensures { TakeGives (roll_of rules self window.now last (length out.old)) 0 0
