@@ -172,6 +172,9 @@ rest_none s at h = rest_all s (length s) ∙ drop-length s ∙ sym (drop_of_leng
 pub packet_alone : (l : List ℕ) → packet_at (take packet_bytes l) ≡ packet_at l
 packet_alone l =
     rw (
-      drop-take 3 13 l, take-take 8 13 (drop 3 l) (omega arith), drop-take 11 5 l, take-take 4 5 (drop 11 l) (omega arith),
+      drop-take 3 13 l,
+      take-take 8 13 (drop 3 l) (omega arith),
+      drop-take 11 5 l,
+      take-take 4 5 (drop 11 l) (omega arith),
       get_or-take 16 l 15 0 (omega arith),
     )

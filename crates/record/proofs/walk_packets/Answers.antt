@@ -35,7 +35,7 @@ returns-in-Err c =
     let number = ap number_in c.in-Err.is in
     rw c.refused_at.ensures
     (sym (refuses _ _ (omega arith) (here (goal.at.returns-in-Err c).In-Packet) _ at.tally _ (sym c.admit.ensures ∙ number)
-      (omega (arith, number_some c.in-Err.refusal)))
+    (omega (arith, number_some c.in-Err.refusal)))
     ∙ at.invariant.0)
 
 pub with-tally-requires : goal.with-tally-requires
