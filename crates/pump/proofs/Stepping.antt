@@ -6,7 +6,7 @@ use Rattle.printer.specs.declared.TakeAnswer.{TakeAnswer}
 use Rattle.printer.specs.Step.{TakeOutcome, TakeGives, begin_of, take_of}
 use Rattle.window.specs.declared.Span.{Span}
 use Rattle.window.specs.declared.Told.{Told}
-use Rattle.window.specs.Step.{StepGives, onward, next_by}
+use Rattle.window.specs.Step.{StepGives, onward}
 use Rattle.window.proofs.Answering.{answers_taken}
 use Rattle.pump.specs.declared.Stage.{Stage}
 use Rattle.pump.specs.declared.Stage.TheVariants.{Head, Walking}
@@ -14,7 +14,7 @@ use Rattle.pump.specs.Step.{open_move, took_move, move_by}
 
 pub walked_on : (h : Span) (k : TakeOutcome) (before : List ℕ) (r : TakeAnswer) (after : List ℕ) (span : Span) → TakeGives k 0 0 before r after
     → span ≡ onward h r.used
-    → StepGives h (took_move k) (Walking r.walk) (record { span = span; written = r.written; next = next_by (eqb r.used 0) r.ended }) after
+    → StepGives h (took_move k) (Walking r.walk) (record { span = span; written = r.written; wants = eqb r.used 0; over = r.ended }) after
 walked_on h k before r after span t e =
     answers_taken h (Walking r.walk) (Walking k.walk) (ap Walking t.walk_is) k.text before after r.used r.written k.used
     r.ended k.ended t.used_is t.written_is t.ended_is t.bytes t.fits span e

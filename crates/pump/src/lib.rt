@@ -11,7 +11,7 @@ ghost use Rattle.printer.specs.Step.{begin_of, take_of};
 
 use printer::Walk;
 use record::HEAD_BYTES;
-use window::{Next, Span, Told};
+use window::{Span, Told};
 
 // The version byte and the parameters are still wanted, or the walk behind them.
 // An own enum: each is a stage of the reading by its name, and `Head` is not the lack of an answer.
@@ -39,7 +39,8 @@ fn open(span: Span, window: &[u8], out: &mut [u8]) -> Stepped
             told: Told {
                 span,
                 written: 0,
-                next: Next::Read,
+                wants: true,
+                over: false,
             },
         },
         Err(r) => Stepped {
@@ -47,7 +48,8 @@ fn open(span: Span, window: &[u8], out: &mut [u8]) -> Stepped
             told: Told {
                 span,
                 written: text::put_refusal(r.refusal.number(), r.place, out, 0),
-                next: Next::End,
+                wants: false,
+                over: true,
             },
         },
         Ok(Some(walk)) => Stepped {
@@ -55,7 +57,8 @@ fn open(span: Span, window: &[u8], out: &mut [u8]) -> Stepped
             told: Told {
                 span: span.past(HEAD_BYTES),
                 written: 0,
-                next: Next::Step,
+                wants: false,
+                over: false,
             },
         },
     }
@@ -73,7 +76,8 @@ fn walk_on(walk: Walk, span: Span, window: &[u8], out: &mut [u8]) -> Stepped
         told: Told {
             span: span.past(taken.used),
             written: taken.written,
-            next: Next::after(taken.used, taken.ended),
+            wants: taken.used == 0,
+            over: taken.ended,
         },
     }
 }

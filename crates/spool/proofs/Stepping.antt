@@ -7,7 +7,7 @@ use Rattle.reel.specs.declared.TakeAnswer.{TakeAnswer}
 use Rattle.reel.specs.Step.{TakeOutcome, TakeGives, begin_of, take_of}
 use Rattle.window.specs.declared.Span.{Span}
 use Rattle.window.specs.declared.Told.{Told}
-use Rattle.window.specs.Step.{StepGives, onward, next_by}
+use Rattle.window.specs.Step.{StepGives, onward}
 use Rattle.window.proofs.Answering.{answers_taken}
 use Rattle.spool.specs.declared.Stage.{Stage}
 use Rattle.spool.specs.declared.Stage.TheVariants.{Leader, Rolling}
@@ -15,7 +15,7 @@ use Rattle.spool.specs.Step.{lead_move, rolled_move, move_by}
 
 pub rolled_on : (h : Span) (k : TakeOutcome) (before : List ℕ) (r : TakeAnswer) (after : List ℕ) (span : Span) → TakeGives k 0 0 before r after
     → span ≡ onward h r.used
-    → StepGives h (rolled_move k) (Rolling r.reel) (record { span = span; written = r.written; next = next_by (eqb r.used 0) r.ended }) after
+    → StepGives h (rolled_move k) (Rolling r.reel) (record { span = span; written = r.written; wants = eqb r.used 0; over = r.ended }) after
 rolled_on h k before r after span t e =
     answers_taken h (Rolling r.reel) (Rolling k.reel) (ap Rolling t.reel_is) k.text before after r.used r.written k.used
     r.ended k.ended t.used_is t.written_is t.ended_is t.bytes t.fits span e

@@ -11,7 +11,7 @@ ghost use Rattle.reel.specs.Step.{begin_of, take_of};
 
 use capture::HEADER;
 use reel::{Asked, Reel};
-use window::{Next, Span, Told};
+use window::{Span, Told};
 
 // The header is still wanted, or the reel behind it. An enum of its own, and no Option: each is a stage of the reading by its name, and
 // `Leader` is not the lack of an answer.
@@ -40,7 +40,8 @@ fn lead(asked: Asked, span: Span, window: &[u8], out: &mut [u8]) -> Stepped
             told: Told {
                 span,
                 written: 0,
-                next: Next::Read,
+                wants: true,
+                over: false,
             },
         },
         Err(refusal) => Stepped {
@@ -48,7 +49,8 @@ fn lead(asked: Asked, span: Span, window: &[u8], out: &mut [u8]) -> Stepped
             told: Told {
                 span,
                 written: text::put_refusal(refusal.number(), 0, out, 0),
-                next: Next::End,
+                wants: false,
+                over: true,
             },
         },
         Ok(Some(reel)) => Stepped {
@@ -56,7 +58,8 @@ fn lead(asked: Asked, span: Span, window: &[u8], out: &mut [u8]) -> Stepped
             told: Told {
                 span: span.past(HEADER),
                 written: 0,
-                next: Next::Step,
+                wants: false,
+                over: false,
             },
         },
     }
@@ -74,7 +77,8 @@ fn roll_on(reel: Reel, span: Span, window: &[u8], out: &mut [u8]) -> Stepped
         told: Told {
             span: span.past(taken.used),
             written: taken.written,
-            next: Next::after(taken.used, taken.ended),
+            wants: taken.used == 0,
+            over: taken.ended,
         },
     }
 }

@@ -18,7 +18,8 @@ module _ {S : Type 0} (h : Span) (k : Did S) where
     λ j. record {
       span = one_answer x.span_is y.span_is j;
       written = one_answer (size s a p x) (size t b q y) j;
-      next = one_answer x.next_is y.next_is j;
+      wants = one_answer x.wants_is y.wants_is j;
+      over = one_answer x.over_is y.over_is j;
     },
     one_answer x.text_is y.text_is,
   )

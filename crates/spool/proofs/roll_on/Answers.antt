@@ -14,4 +14,4 @@ past-requires c = let a = c.args in
 
 pub returns : goal.returns
 returns c = let a = c.args in
-    rw c.after.ensures (rolled_on a.span _ _ c.take-taken.result _ c.past.result c.take-taken.ensures c.past.ensures)
+    rolled_on a.span _ _ c.take-taken.result _ c.past.result c.take-taken.ensures c.past.ensures
