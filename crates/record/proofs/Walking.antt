@@ -11,11 +11,11 @@ use Rattle.packet.specs.Step.{number_of, next_of, tallied}
 use Rattle.record.specs.declared.FileNumbers.{FileNumbers}
 use Rattle.record.specs.declared.Cursor.{Cursor}
 use Rattle.record.specs.declared.Next.{Next}
-use Rattle.record.specs.Step.{NumberedRecord, next_packet}
+use Rattle.record.specs.Step.{NumberedRecord, NextRead, next_packet}
 use Rattle.record.specs.declared.Next.TheVariants.{Packet, End, More}
 use Rattle.record.specs.Paper.{packet_bytes, packet_at, Ending, done, stopped, Packets, more, packets_in}
 use Rattle.record.specs.Step.{next_read}
-use Rattle.record.specs.Walk.{fine_with, finish_by, finish, checked_refused}
+use Rattle.record.specs.Walk.{Checked, fine_with, finish_by, finish, checked_refused}
 use Rattle.record.proofs.Saying.{Says, next_says}
 use Rattle.record.proofs.Reading.{packet_here, packets_end, packets_stop, packets_go}
 
@@ -38,6 +38,20 @@ module _ (numbers : FileNumbers) (y : Tally) (at : ℕ) (l : List ℕ) where
   stops_refused r e =
       let s = subst (Says at l) (sym e) (next_says at l) in
       rw (packets_stop y.past at l r.number s.0 (before _ _ (omega arith) ∙ s.1) s.2, s.3)
+
+-- what an answer comes to that ends the walk
+abbrev pub closing : NextRead → FileNumbers → Tally → Checked
+closing (Ok n) numbers y = fine_with numbers y
+closing (Err r) numbers y = checked_refused r.number r.offset
+
+-- both in one: an answer that is no packet
+pub stops : (numbers : FileNumbers) (y : Tally) (at : ℕ) (l : List ℕ) (r : NextRead)
+    → ((p : packet.Packet) (c : Cursor) → r ≡ Ok (Packet p c) → ⊥) → next_read at l ≡ r → finish numbers y (packets_in y.past at l) ≡ closing r numbers y
+stops numbers y at l (Ok n) none e = stops_fine numbers y at l n (sym e) (λ p c k. none p c (ap Ok k))
+stops numbers y at l (Err r) none e = stops_refused numbers y at l r (sym e)
+
+pub closing_fine : (numbers : FileNumbers) (y : Tally) (n : Next) → fine_with numbers y ≡ closing (Ok n) numbers y
+closing_fine numbers y n = refl
 
 finish_more : (numbers : FileNumbers) (y : Tally) (p : packet.Packet) (r : Packets) → finish numbers y (more p r) ≡ finish numbers (tallied y p) r
 unfolding fold
