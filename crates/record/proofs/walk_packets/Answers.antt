@@ -51,6 +51,8 @@ pub loop-item-preserved : goal.loop-item-preserved
 loop-item-preserved c =
     let at = c.loop-item in
     let h = here (goal.at.loop-item-preserved c).In-Packet in (
-      rw c.with-tally.ensures (sym (goes _ _ (omega (arith, c.well_formed)) h _ at.tally (fine (goal.at.loop-item-preserved c).In_default-admit)) ∙ at.invariant.0),
+      rw c.with-tally.ensures
+          (sym (goes _ _ (omega (arith, c.well_formed)) h _ at.tally (fine (goal.at.loop-item-preserved c).In_default-admit))
+          ∙ at.invariant.0),
       rw c.with-tally.ensures (tally_keeps at.tally _ at.invariant.1),
     )
