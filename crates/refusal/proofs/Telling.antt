@@ -12,7 +12,7 @@ use Rattle.refusal.specs.declared.Refusal.TheVariants.{Rate, Schedule, Class, He
 use Rattle.refusal.specs.declared.Refusal.TheVariants.{Marker, Earlier, Late, Packets, Room, Figure, Version, Cut, Kind, Misplaced}
 use Rattle.refusal.specs.declared.Refusal.TheVariants.{FileRoom, Header, CutCapture, SubSecond, Offset}
 use Rattle.refusal.specs.Refusal.{number, named, table}
-use Rattle.refusal.specs.Told.{Numbered, number_in, numbered, told}
+use Rattle.refusal.specs.Told.{Numbered, number_in, by_number, numbered, told}
 
 named_back : (r : Refusal) → named (number r) ≡ Some r
 named_back Rate = refl
@@ -61,13 +61,40 @@ numbered_unique a b e =
     let whole : ◌≡◌ {A = Refused} (record { refusal = a.refusal; place = a.place }) b = rw (n, p) refl in
     whole
 
+-- an answer with its refusal told by what a telling makes of it
+abbrev pub told_by : {A E N : Type 0} → (E → N) → Result A E → Result A N
+told_by f (Ok a) = Ok a
+told_by f (Err e) = Err (f e)
+
+-- where the telling keeps refusals apart, two answers that are told alike are one
+pub told_apart : {A E N : Type 0} (f : E → N) → ((a b : E) → f a ≡ f b → a ≡ b) → (a b : Result A E) → told_by f a ≡ told_by f b → a ≡ b
+told_apart f g (Ok a) (Ok b) e = cc
+told_apart f g (Ok a) (Err b) e = absurd (cc)
+told_apart f g (Err a) (Ok b) e = absurd (cc)
+told_apart f g (Err a) (Err b) e =
+    let same : f a ≡ f b = cc in
+    rw (g a b same)
+
+-- so of a refusal with its place, of one without, and of an answer that holds nothing where it is fine
 pub told_unique : {A : Type 0} → (a b : Result A Refused) → told a ≡ told b → a ≡ b
-told_unique (Ok a) (Ok b) e = cc
-told_unique (Ok a) (Err b) e = absurd (cc)
-told_unique (Err a) (Ok b) e = absurd (cc)
-told_unique (Err a) (Err b) e =
-    let same : numbered a ≡ numbered b = cc in
-    rw (numbered_unique a b same)
+told_unique a b e = told_apart numbered numbered_unique a b (as_told a ∙ e ∙ sym (as_told b))
+  where
+    as_told : {A : Type 0} → (a : Result A Refused) → told_by numbered a ≡ told a
+    as_told (Ok a) = refl
+    as_told (Err r) = refl
+
+pub by_number_unique : {A : Type 0} → (a b : Result A Refusal) → by_number a ≡ by_number b → a ≡ b
+by_number_unique a b e = told_apart number number_unique a b (as_told a ∙ e ∙ sym (as_told b))
+  where
+    as_told : {A : Type 0} → (a : Result A Refusal) → told_by number a ≡ by_number a
+    as_told (Ok a) = refl
+    as_told (Err r) = refl
+
+pub number_in_unique : (a b : Result Unit Refusal) → number_in a ≡ number_in b → a ≡ b
+number_in_unique (Ok a) (Ok b) e = refl
+number_in_unique (Ok a) (Err b) e = absurd (number_some b (sym e))
+number_in_unique (Err a) (Ok b) e = absurd (number_some a e)
+number_in_unique (Err a) (Err b) e = rw (number_unique a b e)
 
 -- an answer is an error exactly where it has a number
 pub number_of_err : {A : Type 0} → (a : Result A Refusal) → is_err a ≡ true → number_in a ≡ 0 → ⊥
