@@ -95,7 +95,7 @@ check_goes y Late r e = absurd (omega arith)
 
 -- where no record stands: at the end, or where the file is cut short
 module _ (p : Setting) (y : Seen) (l : List ℕ) where
-  check_stops : (f : Front) → ((told : Told) (size : ℕ) → f ≡ front.Record told size → ⊥) → front_of p l true ≡ Ok f
+  pub check_stops : (f : Front) → ((told : Told) (size : ℕ) → f ≡ front.Record told size → ⊥) → front_of p l true ≡ Ok f
       → Ok y ≡ check_records y (records_in p l)
   unfolding check_all
   check_stops f k e = go f k (subst (Says p l true) e (front_says p l true))

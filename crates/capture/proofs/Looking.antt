@@ -96,7 +96,7 @@ unfolding ahead_of
 ahead_keeps p c w v last end = ahead_lies p v last end (suc (length w)) c w 0 0 (omega arith)
 
 -- within 64 bits
-used_fits : (w : List ℕ) (used : ℕ) (r : Next) → used + length w < 18446744073709551616 → Within w (Ok r) → UsedFits r used
+pub used_fits : (w : List ℕ) (used : ℕ) (r : Next) → used + length w < 18446744073709551616 → Within w (Ok r) → UsedFits r used
 used_fits w used (next.Packet q n) h s = omega (arith, s.1)
 used_fits w used (next.Skipped n) h s = tt
 used_fits w used (next.More c n) h s = omega arith
@@ -146,7 +146,7 @@ module _ (p : Setting) (last : Bool) where
     ahead_refuses e = rw (ahead_is e) refl
 
     module _ {r : Next} (e : Ok r ≡ next_of p c (take (length w - used) (drop used w)) last) where
-      turn_within : Within (drop used w) (Ok r)
+      pub turn_within : Within (drop used w) (Ok r)
       turn_within = subst (Within (drop used w)) (ahead_is e) (next_within p c (drop used w) last)
 
       pub turn_fits : used ≤ length w → length w < 18446744073709551616 → UsedFits r used

@@ -156,17 +156,6 @@ fn known(s: &[u8]) -> Option<Format>
     None
 }
 
-// The format of a whole capture, or none where its header is not known.
-#[tactic(auto, unfolding(crate::specs::Paper::header_of))]
-pub fn format_of(s: &[u8]) -> Option<Format>
-    ensures { result ≡ format_in (header_of s.now) }
-{
-    if s.len() < HEADER {
-        return None;
-    }
-    known(s)
-}
-
 // The header of a file, of which `window` shows the first bytes; `last`: no more will come. The capture's format, or none where more bytes
 // are wanted; or 30 (R8).
 #[tactic(auto, unfolding(crate::specs::Step::opened_of))]
@@ -180,6 +169,14 @@ pub fn open(window: &[u8], last: bool) -> Result<Option<Format>, Refusal>
         Some(format) => Ok(Some(format)),
         None => Err(Refusal::Header),
     }
+}
+
+// The format of a whole capture, or none where its header is not known.
+#[tactic(auto, using(crate::proofs::Opening::format_opened))]
+pub fn format_of(s: &[u8]) -> Option<Format>
+    ensures { result ≡ format_in (header_of s.now) }
+{
+    open(s, true).unwrap_or(None)
 }
 
 impl Format {
