@@ -42,7 +42,7 @@ unfolding field_bytes
 length_packet p = simp (length-append, length_bytes)
 
 module _ {ts ss ms : List ℕ} (same : OneLength ts ss ms) (i : ℕ) (d : List ℕ) (at : ℕ) where
-  records_go : i < length ts
+  pub records_go : i < length ts
       → sets (sets d at (packet_record (lent ts ss ms i))) (at + packet_bytes) (records_of (packets_from (i + 1) ts ss ms))
       ≡ sets d at (records_of (packets_from i ts ss ms))
   unfolding records_of

@@ -41,6 +41,10 @@ module _ (file bytes behind : List ℕ) (from : ℕ) {left : List ℕ} (is : lef
   joined : drop from file ≡ bytes ++ behind
   joined = sym is ∙ cut
 
+  -- the piece that a turn lends has a record's bytes
+  pub piece_there : packet_bytes ≤ length bytes
+  piece_there = omega (arith, long)
+
   pub cut_some : from < length file
   cut_some = omega (arith, long, length-drop from file, ap length joined, length-append bytes behind)
 
@@ -95,7 +99,7 @@ module _ {x : StreamNumbers} {file out₀ : List ℕ} {rules : Rules} {s : State
           let here = packet_here (drop from file) (neither _ _ fine).0 in
           omega (arith, here.sixteen, length-drop from file)
 
-      -- as many as a turn's piece has
+      -- and so what a turn's piece is cut off has a record's bytes
       pub there : packet_bytes ≤ length (take (length file - from) (drop from file))
       there = rw (rest_all file from) (omega (arith, sixteen, length-drop from file))
 
@@ -103,7 +107,7 @@ module _ {x : StreamNumbers} {file out₀ : List ℕ} {rules : Rules} {s : State
     pub loop_ends : length (drop from file) < packet_bytes → MeasureGives x file out₀ s out
     loop_ends short =
         let h : length file ≤ from = elim (cases_lt from (length file)) [
-          | inl some ↦ absurd (omega (arith, short, sixteen some, length-drop from file))
+          | inl some ↦ absurd (omega (arith, short, there some, ap length (rest_all file from)))
           | inr all ↦ all
         ] in
         let none = packets_end s.past from (drop from file) (omega (arith, length-drop from file)) in

@@ -9,7 +9,7 @@ use Rattle.packet.specs.Step.{number_of}
 use Rattle.packet.proofs.Refusals.{accepted}
 use Rattle.packet.proofs.Turn.{tally_keeps}
 use Rattle.record.specs.Step.{next_read, next_packet}
-use Rattle.record.proofs.Walking.{stops_fine, stops_refused, goes, refuses, next_at, next_within}
+use Rattle.record.proofs.Walking.{stops, closing_fine, goes, refuses, next_at, next_within}
 use Rattle.record.proofs.walk_packets.Goals as goal
 use Rattle.record.proofs.walk_packets.Goals.{In-Packet, In_default-admit}
 
@@ -24,10 +24,15 @@ fine c = sym c.admit.ensures ∙ ap number_in c.in_default-admit.is
 pub returns-in_err-item : goal.returns-in_err-item
 returns-in_err-item c =
     let p = err_from_is_err_and c.from_residual.result c.from_residual.ensures.1 in
-    rw (p.1, p.2) (sym (stops_refused _ _ _ _ _ c.in_err-item.ensures) ∙ c.loop-item.invariant.0)
+    let at = c.loop-item in
+    let refused = c.in_err-item.ensures in
+    rw (p.1, p.2) (sym (stops _ at.tally _ _ _ (λ q next k. absurd (cc)) (sym refused)) ∙ at.invariant.0)
 
 pub returns-in_default : goal.returns-in_default
-returns-in_default c = sym (stops_fine _ _ _ _ _ c.in_ok-item.ensures c.in_default.not-Packet) ∙ c.loop-item.invariant.0
+returns-in_default c =
+    let at = c.loop-item in
+    closing_fine _ at.tally c.in_ok-item.item
+    ∙ sym (stops _ at.tally _ _ _ (λ q next k. c.in_default.not-Packet q next (cc)) (sym c.in_ok-item.ensures)) ∙ at.invariant.0
 
 pub returns-in-Err : goal.returns-in-Err
 returns-in-Err c =
