@@ -60,14 +60,18 @@ fn stream_in(edition: u32, numbers: FileNumbers) -> StreamNumbers
 fn ask(file: &[u8], edition: u32, room: usize) -> Result<StreamNumbers, Refused>
     ensures { told result ≡ asked_of edition file.now room }
 {
-    let checked = record::check(edition, file)?;
-    if fits(SUMMARY, checked.closed, room) {
-        return Ok(stream_in(edition, checked.numbers));
+    match record::check(edition, file) {
+        Ok(checked) => {
+            if fits(SUMMARY, checked.closed, room) {
+                return Ok(stream_in(edition, checked.numbers));
+            }
+            Err(Refused {
+                refusal: Refusal::Room,
+                place: file.len() as u64,
+            })
+        }
+        Err(r) => Err(r),
     }
-    Err(Refused {
-        refusal: Refusal::Room,
-        place: file.len() as u64,
-    })
 }
 
 // A row's numbers, each with its sign in two's complement, from byte `at` on.

@@ -1,18 +1,17 @@
--- Whole numbers that a double holds, by size; and one that came back from its bits is itself.
-use Rattle.std.specs.Prelude.{◌^◌, ◌≡◌, ◌≤◌}
+-- Whole numbers that a double holds, by the two ends; and one that came back from its bits is itself.
+use Rattle.std.specs.Prelude.{◌^◌, ◌≡◌, ◌≤◌, ◌&&◌}
 use Rattle.laws.specs.Kit.{refl, sym, ap, ◌∙◌, subst, Bool, true, arith, le-leb, lt-ltb, T, ℤ}
-use Rattle.laws.specs.Kit.{pos, negsuc, nat_abs}
-use Rattle.laws.specs.Kit.{leb}
+use Rattle.laws.specs.Kit.{pos, negsuc, nat_abs, le_z}
 use lib.Ieee.{binary64, in_float, of_int, of_bits}
 use mir.Syntax.{w64}
 use mir.Val.{SFits, to_z, of_z}
 use mir.Facts.{to_z-of_z}
 
--- by the size
-pub by_size : (z : ℤ) → leb (nat_abs z) 9007199254740992 ≡ in_float binary64 z
+-- by the two ends
+pub by_ends : (z : ℤ) → le_z (negsuc 9007199254740991) z && le_z z (pos 9007199254740992) ≡ in_float binary64 z
 unfolding in_float
-by_size (pos n) = refl
-by_size (negsuc n) = grind arith
+by_ends (pos n) = refl
+by_ends (negsuc n) = grind arith
 
 pub small_exact : (z : ℤ) → nat_abs z ≤ 9007199254740992 → in_float binary64 z ≡ true
 unfolding in_float
