@@ -99,7 +99,7 @@ module _ {x : StreamNumbers} {file out₀ : List ℕ} {rules : Rules} {s : State
           let here = packet_here (drop from file) (neither _ _ fine).0 in
           omega (arith, here.sixteen, length-drop from file)
 
-      -- and so what a turn's piece is cut off has a record's bytes
+      -- and so what a turn's piece is cut from has a record's bytes
       pub there : packet_bytes ≤ length (take (length file - from) (drop from file))
       there = rw (rest_all file from) (omega (arith, sixteen, length-drop from file))
 
