@@ -228,8 +228,7 @@ fn packet_fits(s: &[u8]) -> bool
     requires { Room packet_bytes s.now 0 }
     ensures { result ≡ stands_in s.now }
 {
-    // One test of four bytes. A test of the length alone compares two bytes with a number of two bytes, at which processors of x86 wait: a walk
-    // over a file took 1.7 times as long.
+    // One test of four bytes: a jump less for each packet in a walk over a file.
     read32(s, 0) / 256 == PACKET_FRONT
 }
 
