@@ -433,6 +433,8 @@ fn records_left(from: Cursor, s: &[u8]) -> usize
 }
 
 // A run over so many packets' records from an offset on; none where another record stands, or 11 or 12 refuses a packet.
+// Kept out of line: how fast its short loop runs depends on where the jumps lie, and in line all of `check` in front would move them.
+#[inline(never)]
 fn run_packets(from: Cursor, count: usize, s: &[u8]) -> Option<Run>
     requires { from.at + packet_bytes * count ≤ length s.now }
     ensures { result ≡ ran_in (start_of nothing false) count (drop from.at s.now) }
